@@ -1,0 +1,6 @@
+pub mod Every
+pub mod Filled
+pub mod Signed
+pub mod Diff
+pub mod Order
+pub mod Paint

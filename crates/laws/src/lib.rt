@@ -1,0 +1,1 @@
+// Laws of the rules, and of the lists and numbers that they speak of: what every crate above leans on. It has no functions.

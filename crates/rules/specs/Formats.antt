@@ -1,0 +1,31 @@
+-- The eight formats: the bytes of a block, and what they show.
+-- Assumes nothing.
+use mathlib.Core.Bool.{true, false}
+use Prim.Native.Nat.{ℕ}
+use Rattle.rules.specs.Pixel.{Shows}
+use Rattle.rules.specs.Modes.{etc1Pixel, rgbPixel, rgba1Pixel}
+use Rattle.rules.specs.Channels.{rgba8Pixel, redPixel, redGreenPixel}
+use Rattle.rules.specs.declared.Format.{Format}
+use Rattle.rules.specs.declared.Format.the-variants.{Etc1, Etc2Rgb, Etc2Rgba1, Etc2Rgba8, EacR, EacRSigned, EacRg, EacRgSigned}
+
+-- "a block has 8 bytes, or 16 for RGBA8 and both EAC RG forms"
+unfoldable pub sizeOf : Format → ℕ
+sizeOf Etc1 = 8
+sizeOf Etc2Rgb = 8
+sizeOf Etc2Rgba1 = 8
+sizeOf Etc2Rgba8 = 16
+sizeOf EacR = 8
+sizeOf EacRSigned = 8
+sizeOf EacRg = 16
+sizeOf EacRgSigned = 16
+
+-- "Every accepted pixel is what the Khronos text says of its own block and place" (demand 2): what it says
+unfoldable pub showsOf : Format → Shows
+showsOf Etc1 = etc1Pixel
+showsOf Etc2Rgb = rgbPixel
+showsOf Etc2Rgba1 = rgba1Pixel
+showsOf Etc2Rgba8 = rgba8Pixel
+showsOf EacR = redPixel false
+showsOf EacRSigned = redPixel true
+showsOf EacRg = redGreenPixel false
+showsOf EacRgSigned = redGreenPixel true

@@ -1,0 +1,16 @@
+-- The rules, in document 01's order. Read them from the top; nothing here is proved, and nothing else has to be believed.
+-- Document 01's own sentences stand in quotes above the definitions that they become.
+pub mod Notation
+-- what the viewer reads
+pub mod Pixel
+pub mod Places
+-- when the reader says no
+pub mod Answers
+-- the colour block
+pub mod Colour
+pub mod Modes
+-- alpha and single channels
+pub mod Channels
+-- the eight formats, and what every reader owes its caller
+pub mod Formats
+pub mod Readers

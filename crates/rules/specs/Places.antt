@@ -1,0 +1,62 @@
+-- Where pixels and blocks stand, and what it is to paint some elements of an image and no others.
+-- Assumes nothing.
+use mathlib.Core.Bool.{Bool, cond, _&&_}
+use mathlib.Core.List.{List}
+use Prim.Native.Nat.{ℕ, _+_, _*_, _/_, _%_}
+use lib.Dec.{ltb, eqb}
+use lib.ListN.{length, getD, take, drop}
+use Rattle.rules.specs.Notation.{build}
+use Rattle.rules.specs.Pixel.{Shows}
+use Rattle.rules.specs.declared.Picture.{Picture}
+
+abbrev pub sized : ℕ → ℕ → Picture
+sized w h = record { width = w; height = h }
+
+-- "The image is row by row: pixel (x, y) is element y * width + x."
+abbrev pub element : Picture → ℕ → ℕ → ℕ
+element p x y = y * p .width + x
+
+-- so element k is in this column and this row
+abbrev pub column : Picture → ℕ → ℕ
+column p k = k % p .width
+
+abbrev pub row : Picture → ℕ → ℕ
+row p k = k / p .width
+
+-- "elements from width * height on keep their value": the others are the picture's own
+abbrev pub inside : Picture → ℕ → Bool
+inside p k = ltb k (p .width * p .height)
+
+-- "There are ceil(width/4) * ceil(height/4) blocks."
+abbrev pub across : ℕ → ℕ
+across n = (n + 3) / 4
+
+abbrev pub blocks : Picture → ℕ
+blocks p = across (p .width) * across (p .height)
+
+-- "Blocks are 4 by 4, left to right, then down": the block of pixel (x, y), and of element k
+abbrev pub blockOf : Picture → ℕ → ℕ → ℕ
+blockOf p x y = y / 4 * across (p .width) + x / 4
+
+abbrev pub blockAt : Picture → ℕ → ℕ
+blockAt p k = blockOf p (column p k) (row p k)
+
+-- the bytes of block n, where a block has s bytes
+abbrev pub bytesOf : ℕ → List ℕ → ℕ → List ℕ
+bytesOf s d n = take s (drop (n * s) d)
+
+-- "Right and lower tiles are clipped": the tile of block n has those elements of the picture that lie in block n
+abbrev pub inTile : Picture → ℕ → ℕ → Bool
+inTile p n k = inside p k && eqb (blockAt p k) n
+
+-- the sixteen pixels of one block, row by row
+abbrev pub tile : Shows → List ℕ → List ℕ
+tile shows d = build 16 (λ k. shows d (k % 4) (k / 4))
+
+-- the pixel at element k: what its own block shows at its own place, for blocks of s bytes
+abbrev pub pixelAt : Shows → ℕ → Picture → List ℕ → ℕ → ℕ
+pixelAt shows s p d k = shows (bytesOf s d (blockAt p k)) (column p k % 4) (row p k % 4)
+
+-- the list old, with v k at each place k that P marks, and as it was at every other
+unfoldable pub painted : (ℕ → Bool) → (ℕ → ℕ) → List ℕ → List ℕ
+painted P v old = build (length old) (λ k. cond (P k) (v k) (getD old k 0))
