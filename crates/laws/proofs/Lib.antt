@@ -4,3 +4,8 @@ pub mod Signed
 pub mod Diff
 pub mod Order
 pub mod Paint
+pub mod Range
+pub mod Word
+pub mod First
+pub mod Unique
+pub mod Own

@@ -1,0 +1,114 @@
+-- Every pixel is a word below 2^32, whatever the bytes.
+-- Assumes nothing.
+use mathlib.Core.Bool.{Bool, true, false, cond}
+use mathlib.Core.List.{List, [], _∷_}
+use Prim.Native.Nat.{ℕ, zero, suc, _+_, _*_, _/_, _%_, _≤_, _<_}
+use native.Mathlib.Omega.{arith}
+use lib.Dec.{lit<, eqb}
+use lib.IntN.{ℤ, pos, _+ℤ_, _-ℤ_, _*ℤ_}
+use lib.ListN.{getD, drop}
+use Rattle.rules.specs.Notation.{byte, bits, minus, clamp, quarter}
+use Rattle.rules.specs.Pixel.{word}
+use Rattle.rules.specs.Colour.{individual, differential, shaded, halfColours, differs, index, half, kindBySums, kindOf, stepsOf, code}
+use Rattle.rules.specs.Modes.{tBases, tDistance, tColours, hBases, hDistance, hColours, planarChannel, planarPixel, planarBases, planarOf, isPlanar, indexed, coloursOf, clearSteps, etc1Bases, etc1Pixel, rgbPixel, rgba1Pixel}
+use Rattle.rules.specs.Channels.{alphaByte, alphaStep, rgba8Pixel, centre, multiplier, eacValue, eacByte, redPixel, redGreenPixel}
+use Rattle.rules.specs.Formats.{showsOf}
+use Rattle.rules.specs.declared.Kind.{Kind}
+use Rattle.rules.specs.declared.Kind.the-variants.{Individual, Differential, T, H, Planar}
+use Rattle.rules.specs.declared.Format.{Format}
+use Rattle.rules.specs.declared.Format.the-variants.{Etc1, Etc2Rgb, Etc2Rgba1, Etc2Rgba8, EacR, EacRSigned, EacRg, EacRgSigned}
+use Rattle.laws.proofs.Signed.{clamp-le}
+
+abbrev pub Word : ℕ → Type 0
+Word n = n < 4294967296
+
+-- four bytes make a word
+of-bytes : (a r g b : ℕ) → a ≤ 255 → r ≤ 255 → g ≤ 255 → b ≤ 255 → Word (word a r g b)
+of-bytes a r g b i j k l = omega arith
+
+-- a base colour with a step
+shade : (c : List ℕ) (s : ℤ) → Word (shaded c s)
+shade c s = of-bytes 255 _ _ _ (omega arith) (clamp-le 255 (pos (getD c 0 0) +ℤ s)) (clamp-le 255 (pos (getD c 1 0) +ℤ s)) (clamp-le 255 (pos (getD c 2 0) +ℤ s))
+
+-- one of four such colours, or 0
+one-of : (a b c d : List ℕ) (s t u v : ℤ) (i : ℕ) → Word (getD (shaded a s ∷ shaded b t ∷ shaded c u ∷ shaded d v ∷ []) i 0)
+one-of a b c d s t u v zero = shade a s
+one-of a b c d s t u v (suc zero) = shade b t
+one-of a b c d s t u v (suc (suc zero)) = shade c u
+one-of a b c d s t u v (suc (suc (suc zero))) = shade d v
+one-of a b c d s t u v (suc (suc (suc (suc n)))) = lit< tt
+
+of-half : (c steps : List ℕ) (i : ℕ) → Word (getD (halfColours c steps) i 0)
+of-half c steps i = one-of c c c c (pos (getD steps 0 0)) (pos (getD steps 1 0)) (minus (getD steps 0 0)) (minus (getD steps 1 0)) i
+
+of-t : (c : List (List ℕ)) (m i : ℕ) → Word (getD (tColours c m) i 0)
+of-t c m i = one-of (getD c 0 []) (getD c 1 []) (getD c 1 []) (getD c 1 []) (pos 0) (pos m) (pos 0) (minus m) i
+
+of-h : (c : List (List ℕ)) (m i : ℕ) → Word (getD (hColours c m) i 0)
+of-h c m i = one-of (getD c 0 []) (getD c 0 []) (getD c 1 []) (getD c 1 []) (pos m) (minus m) (pos m) (minus m) i
+
+choice : (t : Bool) (a b : ℕ) → Word a → Word b → Word (cond t a b)
+choice true a b h i = h
+choice false a b h i = i
+
+channel : (o h v x y : ℕ) → planarChannel o h v x y ≤ 255
+unfolding planarChannel
+channel o h v x y =
+    clamp-le 255 (quarter (pos x *ℤ (pos h -ℤ pos o) +ℤ pos y *ℤ (pos v -ℤ pos o) +ℤ pos (4 * o) +ℤ pos 2))
+
+planar : (c : List (List ℕ)) (x y : ℕ) → Word (planarPixel c x y)
+planar c x y =
+    of-bytes 255 (planarOf c 0 x y) (planarOf c 1 x y) (planarOf c 2 x y) (omega arith) (channel _ _ _ x y) (channel _ _ _ x y) (channel _ _ _ x y)
+
+by-index : (steps : ℕ → List ℕ) (k : Kind) (d : List ℕ) (x y : ℕ) → Word (indexed steps k d x y)
+unfolding indexed
+by-index steps Individual d x y = of-half (getD (individual d) (half d x y) []) (steps (code d (half d x y))) (index d x y)
+by-index steps Differential d x y = of-half (getD (differential d) (half d x y) []) (steps (code d (half d x y))) (index d x y)
+by-index steps T d x y = of-t (tBases d) (tDistance d) (index d x y)
+by-index steps H d x y = of-h (hBases d) (hDistance d) (index d x y)
+by-index steps Planar d x y = lit< tt
+
+etc1 : (d : List ℕ) (x y : ℕ) → Word (etc1Pixel d x y)
+unfolding etc1Pixel
+etc1 d x y = of-half (getD (etc1Bases d) (half d x y) []) (stepsOf (code d (half d x y))) (index d x y)
+
+rgb : (d : List ℕ) (x y : ℕ) → Word (rgbPixel d x y)
+unfolding rgbPixel
+rgb d x y = choice (isPlanar (kindOf d)) _ _ (planar (planarBases d) x y) (by-index stepsOf (kindOf d) d x y)
+
+rgba1 : (d : List ℕ) (x y : ℕ) → Word (rgba1Pixel d x y)
+unfolding rgba1Pixel
+rgba1 d x y =
+    choice (isPlanar (kindBySums d)) _ _ (planar (planarBases d) x y)
+    (choice (differs d) _ _ (by-index stepsOf (kindBySums d) d x y)
+    (choice (eqb (index d x y) 2) 0 _ (lit< tt) (by-index clearSteps (kindBySums d) d x y)))
+
+rgba8 : (d : List ℕ) (x y : ℕ) → Word (rgba8Pixel d x y)
+unfolding rgba8Pixel alphaByte
+rgba8 d x y = omega (arith, clamp-le 255 (pos (byte d 0) +ℤ pos (bits 7 4 (byte d 1)) *ℤ alphaStep d x y))
+
+-- the byte of an eleven-bit value
+pub eac-byte : (s : Bool) (d : List ℕ) (x y : ℕ) → eacByte s d x y ≤ 255
+unfolding eacByte eacValue
+eac-byte s d x y = omega (arith, clamp-le 2047 (centre s (byte d 0) +ℤ pos (multiplier (bits 7 4 (byte d 1))) *ℤ alphaStep d x y))
+
+red : (s : Bool) (d : List ℕ) (x y : ℕ) → Word (redPixel s d x y)
+unfolding redPixel
+red s d x y = of-bytes 255 (eacByte s d x y) 0 0 (omega arith) (eac-byte s d x y) (omega arith) (omega arith)
+
+red-green : (s : Bool) (d : List ℕ) (x y : ℕ) → Word (redGreenPixel s d x y)
+unfolding redGreenPixel
+red-green s d x y =
+    of-bytes 255 (eacByte s d x y) (eacByte s (drop 8 d) x y) 0 (omega arith) (eac-byte s d x y) (eac-byte s (drop 8 d) x y) (omega arith)
+
+-- every pixel of every format
+pub word-below : (f : Format) (d : List ℕ) (x y : ℕ) → Word (showsOf f d x y)
+unfolding showsOf
+word-below Etc1 d x y = etc1 d x y
+word-below Etc2Rgb d x y = rgb d x y
+word-below Etc2Rgba1 d x y = rgba1 d x y
+word-below Etc2Rgba8 d x y = rgba8 d x y
+word-below EacR d x y = red false d x y
+word-below EacRSigned d x y = red true d x y
+word-below EacRg d x y = red-green false d x y
+word-below EacRgSigned d x y = red-green true d x y
