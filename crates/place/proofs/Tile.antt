@@ -12,7 +12,7 @@ use Rattle.rules.specs.Places.{element, column, row, painted}
 use Rattle.rules.specs.declared.Picture.{Picture}
 use Rattle.laws.specs.Painted.{Painted}
 use Rattle.laws.proofs.Paint.{none, said, one, also, is-painted}
-use Rattle.place.specs.Tile.{At, InTile, Room, spot}
+use Rattle.place.specs.Tile.{At, InTile, Room, numberIn}
 use Rattle.place.proofs.Grid.{column-at, row-at, inside-at, only, column-in, row-in, reached}
 
 -- the place of a pixel in its tile, of pixel number i of the tile in column bx and row by; and back
@@ -43,23 +43,23 @@ module _ (pic : Picture) where
 
   -- the pixels of a tile that are painted in the first i turns
   abbrev pub First : ℕ → ℕ → ℕ → ℕ → Type 0
-  First bx by i k = InTile pic bx by k × (spot pic k < i)
+  First bx by i k = InTile pic bx by k × (numberIn pic k < i)
 
   -- what holds before turn i: so many pixels of the tile t have been painted, over old
   abbrev pub Turned : ℕ → ℕ → List ℕ → List ℕ → List ℕ → ℕ → Type 0
-  Turned bx by t old new i = (i ≤ 16) × Painted (First bx by i) (λ k. getD t (spot pic k) 0) old new
+  Turned bx by t old new i = (i ≤ 16) × Painted (First bx by i) (λ k. getD t (numberIn pic k) 0) old new
 
   pub start : (bx by : ℕ) (t l : List ℕ) → Turned bx by t l l 0
   start bx by t l = (omega arith, none _ _ l (λ k z. omega (arith, z .1)))
 
   module _ (bx by i : ℕ) (n : i < 16) where
     -- the pixel of turn i, and no other, has number i
-    turns : (k : ℕ) → At pic (bx * 4 + i % 4) (by * 4 + i / 4) k → InTile pic bx by k × (spot pic k ≡ i)
+    turns : (k : ℕ) → At pic (bx * 4 + i % 4) (by * 4 + i / 4) k → InTile pic bx by k × (numberIn pic k ≡ i)
     turns k z =
         let s = numbered (column pic k) (row pic k) bx by i n (z .across) (z .down) in
         (record { within = z .within; across = s .1; down = s .2 }, s .0)
 
-    back : (k : ℕ) → InTile pic bx by k → spot pic k ≡ i → At pic (bx * 4 + i % 4) (by * 4 + i / 4) k
+    back : (k : ℕ) → InTile pic bx by k → numberIn pic k ≡ i → At pic (bx * 4 + i % 4) (by * 4 + i / 4) k
     back k z e =
         let q = placed (column pic k) (row pic k) bx by i (z .across) (z .down) e in
         record { within = z .within; across = q .0; down = q .1 }
@@ -68,19 +68,19 @@ module _ (pic : Picture) where
     pub turn : (t old mid new : List ℕ) → Turned bx by t old mid i → Painted (At pic (bx * 4 + i % 4) (by * 4 + i / 4)) (λ k. getD t i 0) mid new → Turned bx by t old new (i + 1)
     turn t old mid new a b = (
       omega arith,
-      also (First bx by i) (At pic (bx * 4 + i % 4) (by * 4 + i / 4)) (First bx by (i + 1)) (λ k. getD t (spot pic k) 0) old mid new (a .1)
-          (said _ _ (λ k. getD t i 0) (λ k. getD t (spot pic k) 0) mid new b (λ k z. z) (λ k z. z)
+      also (First bx by i) (At pic (bx * 4 + i % 4) (by * 4 + i / 4)) (First bx by (i + 1)) (λ k. getD t (numberIn pic k) 0) old mid new (a .1)
+          (said _ _ (λ k. getD t i 0) (λ k. getD t (numberIn pic k) 0) mid new b (λ k z. z) (λ k z. z)
           (λ k z. ap (λ (m : ℕ). getD t m 0) (sym (turns k z .1))))
           (λ k z. (z .0, omega (arith, z .1)))
           (λ k z. (turns k z .0, omega (arith, turns k z .1)))
           (λ k z.
           ⊎-elim (λ e. inr (back k (z .0) e))
           (λ m. inl ((z .0, m), λ o. omega (arith, turns k o .1)))
-          (eq-or-lt-of-le {n = spot pic k} {m = i} (omega (arith, z .1)))),
+          (eq-or-lt-of-le {n = numberIn pic k} {m = i} (omega (arith, z .1)))),
     )
 
   -- after the last turn, the tile
-  pub whole : (bx by i : ℕ) (t old new : List ℕ) → 16 ≤ i → Turned bx by t old new i → Painted (InTile pic bx by) (λ k. getD t (spot pic k) 0) old new
+  pub whole : (bx by i : ℕ) (t old new : List ℕ) → 16 ≤ i → Turned bx by t old new i → Painted (InTile pic bx by) (λ k. getD t (numberIn pic k) 0) old new
   whole bx by i t old new h a = said _ _ _ _ old new (a .1) (λ k z. (z, omega arith)) (λ k z. z .0) (λ k z. refl)
 
 -- the first i elements of an image, painted over old

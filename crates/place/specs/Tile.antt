@@ -18,9 +18,9 @@ pub record InTile (pic : Picture) (bx by k : ℕ) : Type 0 where
   pub across : column pic k / 4 ≡ bx
   pub down : row pic k / 4 ≡ by
 
--- the place of element k in its own tile
-abbrev pub spot : Picture → ℕ → ℕ
-spot pic k = row pic k % 4 * 4 + column pic k % 4
+-- the number of element k in its own tile, row by row
+abbrev pub numberIn : Picture → ℕ → ℕ
+numberIn pic k = row pic k % 4 * 4 + column pic k % 4
 
 -- an image of n elements has every element of the picture
 pub record Room (pic : Picture) (n : ℕ) : Type 0 where

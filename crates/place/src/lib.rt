@@ -8,7 +8,7 @@ ghost use lib.ListN.{length, getD};
 ghost use Rattle.rules.specs.Notation.{build};
 ghost use Rattle.rules.specs.Places.{painted};
 ghost use Rattle.laws.specs.Painted.{Painted};
-ghost use Rattle.place.specs.Tile.{At, InTile, Room, spot};
+ghost use Rattle.place.specs.Tile.{At, InTile, Room, numberIn};
 
 // Paints the pixel (x, y), which the picture has.
 fn store(v: u32, x: usize, y: usize, pic: Picture, image: &mut [u32])
@@ -36,7 +36,7 @@ fn put(v: u32, x: usize, y: usize, pic: Picture, image: &mut [u32])
 fn place_whole(tile: [u32; 16], bx: usize, by: usize, pic: Picture, image: &mut [u32])
     requires { ⌜ (bx < 65536) × (by < 65536) × Room pic (length (now image)) ⌝ }
     requires { ⌜ (bx * 4 + 4 ≤ pic .width) × (by * 4 + 4 ≤ pic .height) ⌝ }
-    ensures { λ _. ⌜ Painted (InTile pic bx by) (λ (k : ℕ). getD tile (spot pic k) 0) (now (image .entry)) (now (image .exit)) ⌝ }
+    ensures { λ _. ⌜ Painted (InTile pic bx by) (λ (k : ℕ). getD tile (numberIn pic k) 0) (now (image .entry)) (now (image .exit)) ⌝ }
 {
     let mut i: usize = 0;
     while i < 16 {
@@ -49,7 +49,7 @@ fn place_whole(tile: [u32; 16], bx: usize, by: usize, pic: Picture, image: &mut 
 // Paints the tile in column bx and row by of tiles, pixel by pixel where the picture has it.
 fn place_clipped(tile: [u32; 16], bx: usize, by: usize, pic: Picture, image: &mut [u32])
     requires { ⌜ (bx < 65536) × (by < 65536) × Room pic (length (now image)) ⌝ }
-    ensures { λ _. ⌜ Painted (InTile pic bx by) (λ (k : ℕ). getD tile (spot pic k) 0) (now (image .entry)) (now (image .exit)) ⌝ }
+    ensures { λ _. ⌜ Painted (InTile pic bx by) (λ (k : ℕ). getD tile (numberIn pic k) 0) (now (image .entry)) (now (image .exit)) ⌝ }
 {
     let mut i: usize = 0;
     while i < 16 {
@@ -62,7 +62,7 @@ fn place_clipped(tile: [u32; 16], bx: usize, by: usize, pic: Picture, image: &mu
 // Paints the tile in column bx and row by of tiles: every pixel of it that the picture has, and no other element.
 pub fn place(tile: [u32; 16], bx: usize, by: usize, pic: Picture, image: &mut [u32])
     requires { ⌜ (bx < 65536) × (by < 65536) × Room pic (length (now image)) ⌝ }
-    ensures { λ _. ⌜ Painted (InTile pic bx by) (λ (k : ℕ). getD tile (spot pic k) 0) (now (image .entry)) (now (image .exit)) ⌝ }
+    ensures { λ _. ⌜ Painted (InTile pic bx by) (λ (k : ℕ). getD tile (numberIn pic k) 0) (now (image .entry)) (now (image .exit)) ⌝ }
 {
     if bx * 4 + 4 <= pic.width {
         if by * 4 + 4 <= pic.height {

@@ -1,0 +1,26 @@
+-- What is known of a format, once a match has told which it is; and block n, as a part of the data.
+-- Assumes nothing.
+use mathlib.Core.Path.{_≡_, sym, ap, subst}
+use mathlib.Core.List.{List}
+use Prim.Native.Nat.{ℕ, _+_, _-_, _*_, _≤_, _<_}
+use native.Mathlib.Omega.{arith}
+use lib.ListN.{length, take, drop}
+use Rattle.rules.specs.Places.{tile, bytesOf}
+use Rattle.rules.specs.Formats.{sizeOf, showsOf}
+use Rattle.rules.specs.declared.Format.{Format}
+
+-- its size, where that is between 1 and 16
+pub sized : {f g : Format} → f ≡ g → sizeOf g ≤ 16 → 0 < sizeOf g → (sizeOf g ≡ sizeOf f) × (sizeOf g ≤ 16) × (0 < sizeOf g)
+sized e h p = (sym (ap sizeOf e), h, p)
+
+-- enough bytes for it
+pub enough : {f g : Format} {n : ℕ} → f ≡ g → sizeOf f ≤ n → sizeOf g ≤ n
+enough {n = n} e h = subst (λ (g : Format). sizeOf g ≤ n) e h
+
+-- what its bytes show
+pub shown : {f g : Format} (d : List ℕ) → f ≡ g → tile (showsOf g) d ≡ tile (showsOf f) d
+shown d e = sym (ap (λ (g : Format). tile (showsOf g) d) e)
+
+-- block n, as it is lent
+pub part : (s n : ℕ) (d : List ℕ) → take (n * s + s - n * s) (drop (n * s) d) ≡ bytesOf s d n
+part s n d = let e : n * s + s - n * s ≡ s = omega arith in rw e
