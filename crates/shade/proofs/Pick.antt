@@ -43,3 +43,7 @@ picks d colours set e =
     getD-build (taken d set) 0 16 k h
     ∙ ap (λ (s : List ℕ). taken d s k) e
     ∙ one colours (half d x y) (index d x y) (small-half (flipped d) x y (omega arith) (omega arith)) (omega arith))
+
+-- the colours of two halves, one after the other, are the eight
+pub halves : (colours : ℕ → List ℕ) (a b : List ℕ) → a ≡ colours 0 → b ≡ colours 1 → getD a 0 0 ∷ getD a 1 0 ∷ getD a 2 0 ∷ getD a 3 0 ∷ getD b 0 0 ∷ getD b 1 0 ∷ getD b 2 0 ∷ getD b 3 0 ∷ [] ≡ eight colours
+halves colours a b p q = rw (p, q)
