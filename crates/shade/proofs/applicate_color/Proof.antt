@@ -1,0 +1,46 @@
+use mir.Syntax.{w16}
+use mir.ValLaws.{toZ-ofZ}
+use native.Mathlib.Omega.{arith}
+use borrow.Author.Needs.{needs}
+use Rattle.shade.proofs.applicate_color.Statement.{statement}
+use Rattle.shade.proofs.applicate_color.Tie as tie
+
+array-read-stepped : tie.Need-array-read-stepped
+array-read-stepped c = search needs
+
+stepped-requires : tie.Need-stepped-requires
+stepped-requires c κs = search needs
+
+array-read-stepped-2 : tie.Need-array-read-stepped-2
+array-read-stepped-2 c = search needs
+
+stepped-requires-2 : tie.Need-stepped-requires-2
+stepped-requires-2 c κs = search needs
+
+array-read-stepped-3 : tie.Need-array-read-stepped-3
+array-read-stepped-3 c = search needs
+
+stepped-requires-3 : tie.Need-stepped-requires-3
+stepped-requires-3 c κs = search needs
+
+color-requires : tie.Need-color-requires
+color-requires c κs = search needs
+
+returns : tie.Need-returns
+returns c =
+    let s = c .before .before .before .before in
+    let e = toZ-ofZ w16 (s .args .step) (s .fits .step) in
+    omega (arith, rw e at (c .before .before .before .stepped .ensures .0), rw e at (c .before .before .stepped2 .ensures .0), rw e at (c .before .stepped3 .ensures .0))
+
+pub applicate-color-spec : {M : Type 1} → statement M
+applicate-color-spec =
+    tie.close
+    (tie.spec
+    array-read-stepped
+    stepped-requires
+    array-read-stepped-2
+    stepped-requires-2
+    array-read-stepped-3
+    stepped-requires-3
+    color-requires
+    returns)

@@ -1,0 +1,96 @@
+// Colour plus step, four colours for each half of a block, and the pick of one of them for each pixel: what ETC1 and every
+// kind of ETC2 block but planar share. Colours are made first and picked then, since sixteen sums and clamps take twice as long.
+ghost use mathlib.Core.Path.{_≡_};
+ghost use mathlib.Core.List.{[], _∷_};
+ghost use Prim.Native.Nat.{ℕ, _+_, _*_, _/_, _%_, _≤_, _<_};
+ghost use lib.IntN.{pos, _+ℤ_};
+ghost use lib.ListN.{length, getD};
+ghost use lib.Signed.{mag};
+ghost use Rattle.rules.specs.Notation.{build, clamp, byte};
+ghost use Rattle.rules.specs.Colour.{shaded, halfColours, flipped};
+ghost use Rattle.consts.specs.Tables.{fourSteps};
+ghost use Rattle.shade.specs.Pick.{highWord, lowWord, halfAt, eight, taken};
+
+// A channel with a step, clamped to a byte.
+fn stepped(channel: u8, step: i16) -> u32
+    requires { ⌜ mag step < 1024 ⌝ }
+    ensures { λ r. ⌜ (r ≡ clamp 255 (pos channel +ℤ step)) × (r < 256) ⌝ }
+{
+    color::clamp(channel as i16 + step)
+}
+
+// A base colour with a step: an opaque pixel.
+pub fn applicate_color(c: [u8; 3], step: i16) -> u32
+    requires { ⌜ mag step < 1024 ⌝ }
+    ensures { λ r. ⌜ r ≡ shaded c step ⌝ }
+{
+    color::color(
+        stepped(c[0], step),
+        stepped(c[1], step),
+        stepped(c[2], step),
+        255,
+    )
+}
+
+// The four colours of a half, by index.
+pub fn half_colours(c: [u8; 3], steps: [i16; 4]) -> [u32; 4]
+    requires { ⌜ ((k : ℕ) → mag (getD steps k (pos 0)) < 1024) ⌝ }
+    ensures { λ r. ⌜ r ≡ build 4 (λ k. shaded c (getD steps k (pos 0))) ⌝ }
+{
+    let mut colours = [0u32; 4];
+    let mut i: usize = 0;
+    while i < 4 {
+        colours[i] = applicate_color(c, steps[i]);
+        i += 1;
+    }
+    colours
+}
+
+// The colours of the first half, and then those of the second.
+pub fn joined(a: [u32; 4], b: [u32; 4]) -> [u32; 8]
+    ensures { λ r. ⌜ r ≡ getD a 0 0 ∷ getD a 1 0 ∷ getD a 2 0 ∷ getD a 3 0 ∷ getD b 0 0 ∷ getD b 1 0 ∷ getD b 2 0 ∷ getD b 3 0 ∷ [] ⌝ }
+{
+    [a[0], a[1], a[2], a[3], b[0], b[1], b[2], b[3]]
+}
+
+fn wide(b: u8) -> u32
+    ensures { λ r. ⌜ (r ≡ b) × (r < 256) ⌝ }
+{
+    b as u32
+}
+
+// The index bits of a block: the high ones above the low ones.
+fn index_bits(d: &[u8]) -> u32
+    requires { ⌜ 8 ≤ length (now d) ⌝ }
+    ensures { λ r. ⌜ (r ≡ highWord (now (d .entry)) * 65536 + lowWord (now (d .entry))) × (lowWord (now (d .entry)) < 65536) ⌝ }
+{
+    wide(d[4]) * 16777216 + wide(d[5]) * 65536 + wide(d[6]) * 256 + wide(d[7])
+}
+
+// The half of pixel i = 4x + y.
+fn half_of(flip: bool, i: usize) -> usize
+    requires { ⌜ i < 16 ⌝ }
+    ensures { λ r. ⌜ (r ≡ halfAt flip (i / 4) (i % 4)) × (r < 2) ⌝ }
+{
+    if flip { i / 2 % 2 } else { i / 8 }
+}
+
+// The colour of each pixel, row by row, by its half, its high bit and its low bit.
+pub fn picked(d: &[u8], colours: [u32; 8]) -> [u32; 16]
+    requires { ⌜ 8 ≤ length (now d) ⌝ }
+    ensures { λ r. ⌜ r ≡ build 16 (taken (now (d .entry)) colours) ⌝ }
+{
+    let order = consts::write_order();
+    let flip = d[3] % 2 == 1;
+    let mut low = index_bits(d);
+    let mut high = low / 65536;
+    let mut out = [0u32; 16];
+    let mut i: usize = 0;
+    while i < 16 {
+        out[order[i]] = colours[half_of(flip, i) * 4 + (high % 2 * 2 + low % 2) as usize];
+        low = low / 2;
+        high = high / 2;
+        i += 1;
+    }
+    out
+}
