@@ -1,13 +1,13 @@
 -- The blocks of a picture one after another, for any format: `shows` is what a block's bytes show, and s is their number.
 -- Assumes nothing.
-use mathlib.Core.Path.{_≡_, _∙_, refl, sym, ap}
+use mathlib.Core.Path.{_≡_, _∙_, sym, ap}
 use mathlib.Core.List.{List}
 use mathlib.Core.Logic.{_⊎_, inl, inr, ⊎-elim}
 use Prim.Native.Nat.{ℕ, suc, _+_, _*_, _/_, _%_, _<_, _≤_}
 use native.Mathlib.Omega.{arith}
 use native.Mathlib.Nat.{eq-or-lt-of-le, div-add-mod', mod-lt, mul-comm, mul-le-mul, mul-le-mul-right, lt-of-mul-lt-mul-right, suc-mul}
 use lib.Dec.{T}
-use lib.ListN.{length, getD}
+use lib.ListN.{getD}
 use Rattle.rules.specs.Pixel.{Shows}
 use Rattle.rules.specs.Places.{column, row, inside, across, blocks, blockAt, bytesOf, tile, pixelAt, painted}
 use Rattle.rules.specs.declared.Picture.{Picture}
@@ -73,10 +73,11 @@ module _ (pic : Picture) where
   -- the block of a pixel is one of the picture's
   pub block-in : (k : ℕ) → T (inside pic k) → blockAt pic k < blocks pic
   block-in k i =
-      omega
-      (arith,
-      before (across (pic .width)) (column pic k / 4) (row pic k / 4) (across (pic .height)) (covered (column pic k) (pic .width) (column-in pic k i)) (covered (row pic k) (pic .height) (row-in pic k i)),
-      mul-comm (across (pic .width)) (across (pic .height)))
+      omega (
+        arith,
+        before (across (pic .width)) (column pic k / 4) (row pic k / 4) (across (pic .height)) (covered (column pic k) (pic .width) (column-in pic k i)) (covered (row pic k) (pic .height) (row-in pic k i)),
+        mul-comm (across (pic .width)) (across (pic .height)),
+      )
 
   module _ (shows : Shows) (s : ℕ) (d : List ℕ) where
     -- what the tile of its block has for a pixel

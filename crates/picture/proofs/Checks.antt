@@ -65,31 +65,27 @@ module _ (s : ℕ) (pic : Picture) (bytes elements : ℕ) where
   pub too-high : pic .width ≤ limit → limit < pic .height → 1 ∷ [] ≡ verdict s pic bytes elements
   too-high w h = rw (le-ltb limit (pic .width) w, lt-ltb limit (pic .height) h)
 
-  pub short-data : pic .width ≤ limit → pic .height ≤ limit → bytes < blocks pic * s → 2 ∷ [] ≡ verdict s pic bytes elements
-  short-data w h b = rw (le-ltb limit (pic .width) w, le-ltb limit (pic .height) h, lt-ltb bytes (blocks pic * s) b)
+  pub short-data : pic .width ≤ limit → pic .height ≤ limit → ltb bytes (blocks pic * s) ≡ true → 2 ∷ [] ≡ verdict s pic bytes elements
+  short-data w h b = rw (le-ltb limit (pic .width) w, le-ltb limit (pic .height) h, b)
 
-  pub short-image : pic .width ≤ limit → pic .height ≤ limit → blocks pic * s ≤ bytes → elements < pic .width * pic .height → 3 ∷ [] ≡ verdict s pic bytes elements
-  short-image w h b e =
-      rw
-      (le-ltb limit (pic .width) w,
-      le-ltb limit (pic .height) h,
-      le-ltb bytes (blocks pic * s) b,
-      lt-ltb elements (pic .width * pic .height) e)
+  pub short-image : pic .width ≤ limit → pic .height ≤ limit → ltb bytes (blocks pic * s) ≡ false → ltb elements (pic .width * pic .height) ≡ true → 3 ∷ [] ≡ verdict s pic bytes elements
+  short-image w h b e = rw (le-ltb limit (pic .width) w, le-ltb limit (pic .height) h, b, e)
 
   -- and where all pass; and back
   pub pass : Passed s pic bytes elements → (then : List ℕ) → then ≡ checked s pic bytes elements then
   pass p then =
-      rw
-      (le-ltb limit (pic .width) (p .narrow),
-      le-ltb limit (pic .height) (p .low),
-      le-ltb bytes (blocks pic * s) (p .enough),
-      le-ltb elements (pic .width * pic .height) (p .roomy))
+      rw (
+        le-ltb limit (pic .width) (p .narrow),
+        le-ltb limit (pic .height) (p .low),
+        le-ltb bytes (blocks pic * s) (p .enough),
+        le-ltb elements (pic .width * pic .height) (p .roomy),
+      )
 
   pub passed : 0 ∷ [] ≡ verdict s pic bytes elements → Passed s pic bytes elements
   unfolding order
   passed e =
       let t =
-          clear (ltb limit (pic .width)) (ltb limit (pic .height)) (ltb bytes (blocks pic * s)) (ltb elements (pic .width * pic .height)) e in
+      clear (ltb limit (pic .width)) (ltb limit (pic .height)) (ltb bytes (blocks pic * s)) (ltb elements (pic .width * pic .height)) e in
       record {
         narrow = ltb-false limit (pic .width) (t .0);
         low = ltb-false limit (pic .height) (t .1);
@@ -103,7 +99,7 @@ module _ (s : ℕ) (pic : Picture) (bytes elements : ℕ) where
     unfolding order
     stops a e r =
         let f =
-            halted (ltb limit (pic .width)) (ltb limit (pic .height)) (ltb bytes (blocks pic * s)) (ltb elements (pic .width * pic .height)) then (sym (ap accepts e) ∙ r) in
+        halted (ltb limit (pic .width)) (ltb limit (pic .height)) (ltb bytes (blocks pic * s)) (ltb elements (pic .width * pic .height)) then (sym (ap accepts e) ∙ r) in
         unchanged (checked s pic bytes elements then) after old a (e ∙ f) r
 
     -- one that passes them and has nothing more to refuse

@@ -2,24 +2,23 @@
 -- block, and what is painted where there is none. All of it is over the test of a block's number, so that it serves any guard.
 -- Assumes nothing.
 use mathlib.Core.Path.{_≡_, _∙_, refl, sym, ap}
-use mathlib.Core.Bool.{Bool, true, false, cond}
+use mathlib.Core.Bool.{Bool, true, false}
 use mathlib.Core.List.{List, [], _∷_}
 use Prim.Native.Nat.{ℕ, _+_, _-_, _*_, _%_, _<_, _≤_}
 use native.Mathlib.Omega.{arith}
 use borrow.Author.Tests.{lt-ltb, le-ltb}
 use borrow.Author.Count.{below-none, below-more}
-use lib.Dec.{T, ltb}
 use lib.ListN.{take, drop}
 use types.Run.{OneOf, miss}
 use denote.Enum.Declared
 use Rattle.rules.specs.Pixel.{Shows}
 use Rattle.rules.specs.Places.{inside, blocks, blockAt, bytesOf, column, row, pixelAt, painted}
-use Rattle.rules.specs.Answers.{said, checked, firstOf, guarded, Outcome}
+use Rattle.rules.specs.Answers.{checked, firstOf, guarded, Outcome}
 use Rattle.rules.specs.Colour.{kindOf, outOfRange}
 use Rattle.rules.specs.declared.Picture.{Picture}
 use Rattle.rules.specs.declared.Answer.the-variants.{OutOfRange}
 use Rattle.rules.specs.declared.Kind.{Kind}
-use Rattle.rules.specs.declared.Kind.the-variants.{Individual, Differential, T as TKind, H, Planar}
+use Rattle.rules.specs.declared.Kind.the-variants.{Individual, Differential, T, H, Planar}
 use Rattle.rules.proofs.Kind.{the-type}
 use Rattle.laws.specs.Kinds.{strange}
 use Rattle.laws.proofs.First.{first, only}
@@ -65,10 +64,11 @@ module _ (test : ℕ → Bool) (n : ℕ) where
   pub accepts : n ≤ firstOf test n → guarded test n ≡ 0 ∷ []
   accepts h = rw (le-ltb (firstOf test n) n h)
 
--- and then two rules that agree on every block that passes the test paint the same picture
-pub agree : (test : ℕ → Bool) (shows other : Shows) (s : ℕ) (pic : Picture) (d old : List ℕ) → ((n x y : ℕ) → test n ≡ false → shows (bytesOf s d n) x y ≡ other (bytesOf s d n) x y) → blocks pic ≤ firstOf test (blocks pic) → painted (inside pic) (pixelAt shows s pic d) old ≡ painted (inside pic) (pixelAt other s pic d) old
-agree test shows other s pic d old e h =
-    painted-same (inside pic) (pixelAt shows s pic d) (pixelAt other s pic d) old
+-- and a picture painted by one rule is then painted by another that agrees on every block that passes the test
+pub agree : (test : ℕ → Bool) (shows other : Shows) (s : ℕ) (pic : Picture) (d old new : List ℕ) → ((n x y : ℕ) → test n ≡ false → shows (bytesOf s d n) x y ≡ other (bytesOf s d n) x y) → blocks pic ≤ firstOf test (blocks pic) → new ≡ painted (inside pic) (pixelAt shows s pic d) old → new ≡ painted (inside pic) (pixelAt other s pic d) old
+agree test shows other s pic d old new e h p =
+    p
+    ∙ painted-same (inside pic) (pixelAt shows s pic d) (pixelAt other s pic d) old
     (λ k i.
     e (blockAt pic k) (column pic k % 4) (row pic k % 4)
     (first test (blocks pic) .none (blockAt pic k) (omega (arith, block-in pic k i))))
@@ -77,14 +77,14 @@ agree test shows other s pic d old e h =
 tame : (k : Kind) → OneOf (0 ∷ 1 ∷ []) (Declared.tagOf the-type k) → strange k ≡ false
 tame Individual t = refl
 tame Differential t = refl
-tame TKind t = absurd (miss (0 ∷ 1 ∷ []) 2 tt t)
+tame T t = absurd (miss (0 ∷ 1 ∷ []) 2 tt t)
 tame H t = absurd (miss (0 ∷ 1 ∷ []) 3 tt t)
 tame Planar t = absurd (miss (0 ∷ 1 ∷ []) 4 tt t)
 
 wild : (k : Kind) → OneOf (2 ∷ 3 ∷ 4 ∷ []) (Declared.tagOf the-type k) → strange k ≡ true
 wild Individual t = absurd (miss (2 ∷ 3 ∷ 4 ∷ []) 0 tt t)
 wild Differential t = absurd (miss (2 ∷ 3 ∷ 4 ∷ []) 1 tt t)
-wild TKind t = refl
+wild T t = refl
 wild H t = refl
 wild Planar t = refl
 

@@ -41,10 +41,12 @@ pub fn verify(size: usize, pic: Picture, bytes: usize, elements: usize) -> Answe
     if 16384 < pic.height {
         return Answer::TooLarge;
     }
-    if bytes < blocks_of(pic) * size {
+    let short_data = bytes < blocks_of(pic) * size;
+    let short_image = elements < pic.width * pic.height;
+    if short_data {
         return Answer::ShortData;
     }
-    if elements < pic.width * pic.height {
+    if short_image {
         return Answer::ShortImage;
     }
     Answer::Done
@@ -125,7 +127,7 @@ pub fn first_out_of_range(data: &[u8], n: usize) -> usize
     while b < n {
         let at = b * 8;
         let end = at + 8;
-        let kind = etc2::kind_of(&data[at..end]);
+        let kind = kinds::kind_of(&data[at..end]);
         let (Kind::Individual | Kind::Differential) = kind else {
             return b;
         };

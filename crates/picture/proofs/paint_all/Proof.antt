@@ -1,15 +1,9 @@
 -- `picture::paint_all` meets its contract: the blocks from 0 to the last are the picture.
 -- Assumes nothing.
-use mathlib.Core.Path.{_≡_, ap}
-use Prim.Native.Nat.{ℕ, _*_, _≤_}
 use native.Mathlib.Omega.{arith}
-use lib.ListN.{length}
 use denote.Ref.{now}
-use Rattle.rules.specs.Places.{pixelAt}
 use Rattle.rules.specs.Formats.{sizeOf, showsOf}
 use Rattle.place.proofs.Grid.{roomy}
-use Rattle.laws.specs.Painted.{Painted}
-use Rattle.picture.specs.Run.{InRun}
 use Rattle.picture.proofs.Blocks.{all}
 use borrow.Author.Needs.{needs}
 use Rattle.picture.proofs.paint_all.Statement.{statement}

@@ -3,13 +3,12 @@
 -- Assumes nothing.
 use mathlib.Core.Path.{_≡_, _∙_, sym, ap}
 use mathlib.Core.Bool.{Bool}
-use mathlib.Core.List.{List}
-use Prim.Native.Nat.{ℕ, _≤_, _*_}
+use Prim.Native.Nat.{ℕ, _≤_}
 use native.Mathlib.Omega.{arith}
 use lib.ListN.{length}
 use denote.Ref.{now}
 use Rattle.rules.specs.Places.{sized, blocks, bytesOf}
-use Rattle.rules.specs.Answers.{said, firstOf, guarded, verdict}
+use Rattle.rules.specs.Answers.{said, firstOf, guarded}
 use Rattle.rules.specs.Colour.{outOfRange}
 use Rattle.rules.specs.Modes.{etc1Pixel, rgbPixel}
 use Rattle.rules.specs.Formats.{sizeOf, showsOf}
@@ -89,8 +88,7 @@ returns-3 c =
     let l = now (s .args .image) in
     let n : blocks (pic s) ≤ firstOf (test s) (blocks (pic s)) = omega (arith, e .if1 .left, f .before .blocks-of .ensures .0, scanned f) in
     ends 8 (pic s) (length d) (length l) (guarded (test s) (blocks (pic s))) (pictureOf Etc2Rgb (pic s) d l) l _ (clear t) (accepts (test s) (blocks (pic s)) n)
-    (c .before .before .paint-all .ensures
-    ∙ agree (test s) etc1Pixel rgbPixel 8 (pic s) d l (λ b x y h. range.agree (bytesOf 8 d b) x y h) n)
+    (agree (test s) etc1Pixel rgbPixel 8 (pic s) d l _ (λ b x y h. range.agree (bytesOf 8 d b) x y h) n (c .before .before .paint-all .ensures))
 
 pub read-strict-spec : {M : Type 1} → statement M
 read-strict-spec =
