@@ -3,6 +3,7 @@ pub mod Filled
 pub mod Signed
 pub mod Diff
 pub mod Order
+pub mod Rows
 pub mod Paint
 pub mod Range
 pub mod Word
