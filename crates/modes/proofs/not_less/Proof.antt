@@ -44,8 +44,8 @@ array-read-result-6 c = search needs
 
 returns-3 : tie.Need-returns-3
 returns-3 c =
-    let a = c .before .before .args .a in
-    let b = c .before .before .args .b in
+    let a = c .before .before .args .t1 in
+    let b = c .before .before .args .t2 in
     rw (eq-eqb (getD a 0 0) (getD b 0 0) (c .before .if1 .left), eq-eqb (getD a 1 0) (getD b 1 0) (c .if2 .left))
 
 pub not-less-spec : {M : Type 1} → statement M
