@@ -1,14 +1,14 @@
-// T, H and planar of src/etc/etc2.rs, written once for RGB and RGBA1: three base colours of three bytes each, and what they paint.
+// T and H of src/etc/etc2.rs, written once for RGB and RGBA1: base colours of three bytes each, and the four colours they paint.
 ghost use mathlib.Core.Path.{_≡_};
 ghost use mathlib.Core.Bool.{cond};
 ghost use mathlib.Core.List.{[], _∷_};
-ghost use Prim.Native.Nat.{ℕ, _+_, _*_, _/_, _%_, _≤_, _<_};
+ghost use Prim.Native.Nat.{_+_, _*_, _≤_, _<_};
 ghost use lib.IntN.{pos};
 ghost use lib.ListN.{length, getD};
 ghost use Rattle.rules.specs.Notation.{bit, minus};
-ghost use Rattle.rules.specs.Modes.{six, seven, tBases, tDistance, tColours, hBases, hDistance, hColours, notLess, planarBases, planarChannel, planarOf, planarPixel};
+ghost use Rattle.rules.specs.Modes.{tBases, tDistance, tColours, hBases, hDistance, hColours, notLess};
 ghost use Rattle.shade.specs.Pick.{eight};
-ghost use Rattle.modes.specs.Fields.{tFields, hFields, planarFields, distanceAt};
+ghost use Rattle.modes.specs.Fields.{tFields, hFields, distanceAt};
 
 // T's base colours, from bytes 0 to 3.
 fn t_fields(a: u8, b: u8, c: u8, d: u8) -> [[u8; 3]; 3]
@@ -41,67 +41,6 @@ fn h_fields(a: u8, b: u8, c: u8, d: u8) -> [[u8; 3]; 3]
             d / 8 % 16 * 17,
         ],
         [0, 0, 0],
-    ]
-}
-
-// Six bits as eight.
-fn wide6(v: u8) -> u8
-    requires { ⌜ v < 64 ⌝ }
-    ensures { λ r. ⌜ r ≡ six v ⌝ }
-{
-    4 * v + v / 16
-}
-
-// Seven bits as eight.
-fn wide7(v: u8) -> u8
-    requires { ⌜ v < 128 ⌝ }
-    ensures { λ r. ⌜ r ≡ seven v ⌝ }
-{
-    2 * v + v / 64
-}
-
-// The first of planar's base colours, O, from bytes 0 to 3.
-fn planar_origin(a: u8, b: u8, c: u8, d: u8) -> [u8; 3]
-    ensures { λ r. ⌜ r ≡ planarFields 0 a b c d ⌝ }
-{
-    [
-        wide6(a / 2 % 64),
-        wide7(64 * (a % 2) + b / 2 % 64),
-        wide6(32 * (b % 2) + 8 * (c / 8 % 4) + 2 * (c % 4) + d / 128 % 2),
-    ]
-}
-
-// The second, H, from bytes 3 to 5.
-fn planar_right(d: u8, e: u8, f: u8) -> [u8; 3]
-    ensures { λ r. ⌜ r ≡ planarFields 1 d e f 0 ⌝ }
-{
-    [
-        wide6(2 * (d / 4 % 32) + d % 2),
-        wide7(e / 2 % 128),
-        wide6(32 * (e % 2) + f / 8 % 32),
-    ]
-}
-
-// The third, V, from bytes 5 to 7.
-fn planar_below(f: u8, g: u8, h: u8) -> [u8; 3]
-    ensures { λ r. ⌜ r ≡ planarFields 2 f g h 0 ⌝ }
-{
-    [
-        wide6(8 * (f % 8) + g / 32 % 8),
-        wide7(4 * (g % 32) + h / 64 % 4),
-        wide6(h % 64),
-    ]
-}
-
-// Planar's base colours.
-fn planar_bases(d: &[u8]) -> [[u8; 3]; 3]
-    requires { ⌜ 8 ≤ length (now d) ⌝ }
-    ensures { λ r. ⌜ r ≡ planarBases (now (d .entry)) ⌝ }
-{
-    [
-        planar_origin(d[0], d[1], d[2], d[3]),
-        planar_right(d[3], d[4], d[5]),
-        planar_below(d[5], d[6], d[7]),
     ]
 }
 

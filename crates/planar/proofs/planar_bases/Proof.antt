@@ -3,8 +3,8 @@
 use Rattle.rules.specs.Modes.{planarBases}
 use Rattle.laws.proofs.Rows.{three}
 use borrow.Author.Needs.{needs}
-use Rattle.modes.proofs.planar_bases.Statement.{statement}
-use Rattle.modes.proofs.planar_bases.Tie as tie
+use Rattle.planar.proofs.planar_bases.Statement.{statement}
+use Rattle.planar.proofs.planar_bases.Tie as tie
 
 shared-slice-read-planar-origin : tie.Need-shared-slice-read-planar-origin
 shared-slice-read-planar-origin c = search needs
