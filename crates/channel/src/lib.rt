@@ -1,0 +1,73 @@
+// What eight bytes of a channel hold, and the alpha half: `decode_etc2_a8_block` of src/etc/etc2.rs.
+ghost use mathlib.Core.Path.{_≡_};
+ghost use Prim.Native.Nat.{_+_, _*_, _/_, _%_, _≤_, _<_};
+ghost use lib.IntN.{pos, _+ℤ_, _*ℤ_};
+ghost use lib.ListN.{length, getD};
+ghost use lib.Signed.{mag};
+ghost use Rattle.rules.specs.Notation.{build, byte, clamp as clampTo};
+ghost use Rattle.rules.specs.Channels.{indexWord, alphaStep, alphaByte, withAlpha};
+
+fn wide(b: u8) -> u64
+    ensures { λ r. ⌜ (r ≡ b) × (r < 256) ⌝ }
+{
+    b as u64
+}
+
+// All eight bytes, read big-endian: below the base, the multiplier and the row stand the indices, three bits to a pixel.
+fn index_word(d: &[u8]) -> u64
+    requires { ⌜ 8 ≤ length (now d) ⌝ }
+    ensures { λ r. ⌜ (r ≡ (byte (now (d .entry)) 0 * 256 + byte (now (d .entry)) 1) * 281474976710656 + indexWord (now (d .entry))) × (indexWord (now (d .entry)) < 281474976710656) ⌝ }
+{
+    wide(d[0]) * 72057594037927936
+        + wide(d[1]) * 281474976710656
+        + wide(d[2]) * 1099511627776
+        + wide(d[3]) * 4294967296
+        + wide(d[4]) * 16777216
+        + wide(d[5]) * 65536
+        + wide(d[6]) * 256
+        + wide(d[7])
+}
+
+// The step of each pixel, row by row. The last pixel's index is lowest in the word, so the pixels go backwards.
+pub fn steps_of(d: &[u8]) -> [i16; 16]
+    requires { ⌜ 8 ≤ length (now d) ⌝ }
+    ensures { λ r. ⌜ r ≡ build 16 (λ k. alphaStep (now (d .entry)) (k % 4) (k / 4)) ⌝ }
+{
+    let table = consts::alpha_steps();
+    let order = consts::write_order();
+    let row = (d[1] % 16) as usize;
+    let mut l = index_word(d);
+    let mut out = [0i16; 16];
+    let mut i: usize = 0;
+    while i < 16 {
+        out[order[15 - i]] = table[row][(l % 8) as usize] as i16;
+        l = l / 8;
+        i += 1;
+    }
+    out
+}
+
+// One alpha: the base moved by m times a step, clamped.
+fn alpha(base: u8, m: u8, s: i16) -> u32
+    requires { ⌜ (m < 16) × (mag s < 16) ⌝ }
+    ensures { λ r. ⌜ (r ≡ clampTo 255 (pos base +ℤ pos m *ℤ s)) × (r < 256) ⌝ }
+{
+    color::clamp(base as i16 + m as i16 * s)
+}
+
+// The pixels with their top bytes replaced by the alpha half; the colours stay.
+pub fn a8_onto(d: &[u8], px: [u32; 16]) -> [u32; 16]
+    requires { ⌜ 8 ≤ length (now d) ⌝ }
+    ensures { λ r. ⌜ r ≡ build 16 (λ k. withAlpha (getD px k 0) (alphaByte (now (d .entry)) (k % 4) (k / 4))) ⌝ }
+{
+    let base = d[0];
+    let m = d[1] / 16;
+    let steps = steps_of(d);
+    let mut out = px;
+    let mut i: usize = 0;
+    while i < 16 {
+        out[i] = alpha(base, m, steps[i]) * 16777216 + px[i] % 16777216;
+        i += 1;
+    }
+    out
+}
