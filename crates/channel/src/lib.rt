@@ -4,7 +4,7 @@ ghost use Prim.Native.Nat.{_+_, _*_, _/_, _%_, _≤_, _<_};
 ghost use lib.IntN.{pos, _+ℤ_, _*ℤ_};
 ghost use lib.ListN.{length, getD};
 ghost use lib.Signed.{mag};
-ghost use Rattle.rules.specs.Notation.{build, byte, clamp as clampTo};
+ghost use Rattle.rules.specs.Notation.{build, byte, bits, clamp as clampTo};
 ghost use Rattle.rules.specs.Channels.{indexWord, alphaStep, alphaByte, withAlpha};
 
 fn wide(b: u8) -> u64
@@ -28,6 +28,20 @@ fn index_word(d: &[u8]) -> u64
         + wide(d[7])
 }
 
+// The high nibble of byte 1 is the multiplier.
+pub fn multiplier_of(b: u8) -> u8
+    ensures { λ r. ⌜ (r ≡ bits 7 4 b) × (r < 16) ⌝ }
+{
+    b / 16
+}
+
+// The low nibble of byte 1 is the row of the table of steps.
+fn row_of(b: u8) -> usize
+    ensures { λ r. ⌜ (r ≡ bits 3 0 b) × (r < 16) ⌝ }
+{
+    (b % 16) as usize
+}
+
 // The step of each pixel, row by row. The last pixel's index is lowest in the word, so the pixels go backwards.
 pub fn steps_of(d: &[u8]) -> [i16; 16]
     requires { ⌜ 8 ≤ length (now d) ⌝ }
@@ -35,7 +49,7 @@ pub fn steps_of(d: &[u8]) -> [i16; 16]
 {
     let table = consts::alpha_steps();
     let order = consts::write_order();
-    let row = (d[1] % 16) as usize;
+    let row = row_of(d[1]);
     let mut l = index_word(d);
     let mut out = [0i16; 16];
     let mut i: usize = 0;
@@ -61,7 +75,7 @@ pub fn a8_onto(d: &[u8], px: [u32; 16]) -> [u32; 16]
     ensures { λ r. ⌜ r ≡ build 16 (λ k. withAlpha (getD px k 0) (alphaByte (now (d .entry)) (k % 4) (k / 4))) ⌝ }
 {
     let base = d[0];
-    let m = d[1] / 16;
+    let m = multiplier_of(d[1]);
     let steps = steps_of(d);
     let mut out = px;
     let mut i: usize = 0;

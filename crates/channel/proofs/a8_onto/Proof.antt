@@ -1,83 +1,99 @@
+-- Turn i stores pixel i; the steps are those of the block, as the machine holds them.
+-- Assumes nothing.
+use mathlib.Core.Path.{_≡_, _∙_, refl, ap}
+use Prim.Native.Nat.{ℕ, _-_, _/_, _%_}
+use native.Mathlib.Omega.{arith}
+use borrow.Author.Needs.{needs}
+use lib.IntN.{ℤ, pos, _+ℤ_, _*ℤ_}
+use lib.ListN.{getD}
+use Rattle.rules.specs.Notation.{byte, clamp}
+use Rattle.rules.specs.Channels.{alphaByte, withAlpha}
+use Rattle.laws.proofs.Filling.{Filling, inOrder, begun, stored-next, filled-all}
+use Rattle.channel.proofs.Steps.{stepAt, step-held, small-step}
 use Rattle.channel.proofs.a8_onto.Statement.{statement}
 use Rattle.channel.proofs.a8_onto.Tie as tie
-use Rattle.channel.proofs.a8_onto.Reads as reads
-use Rattle.channel.proofs.a8_onto.Lts as lts
-use Rattle.channel.proofs.alpha.Reads as alpha-reads
-use Rattle.channel.proofs.steps_of.Reads as steps-of-reads
 
 abbrev Inv-loop : tie.InvT-loop
-Inv-loop d px base m steps out₀ i₀ out i = ?
+Inv-loop d px base m steps out₀ i₀ out i =
+    Filling inOrder (λ k. withAlpha (getD px k 0) (alphaByte d (k % 4) (k / 4))) 0 16 i out
 
 abbrev μ-loop : tie.MeasureT-loop
-μ-loop d px base m steps out₀ i₀ out i = ?
+μ-loop d px base m steps out₀ i₀ out i = 16 - i
 
--- src/lib.rt:63:16
 shared-slice-read-base : tie.Need-shared-slice-read-base Inv-loop μ-loop
-shared-slice-read-base c = ?
+shared-slice-read-base c = omega arith
 
--- src/lib.rt:64:13
-shared-slice-read-m : tie.Need-shared-slice-read-m Inv-loop μ-loop
-shared-slice-read-m c = ?
+shared-slice-read-multiplier-of : tie.Need-shared-slice-read-multiplier-of Inv-loop μ-loop
+shared-slice-read-multiplier-of c = omega arith
 
--- src/lib.rt:65:17
+multiplier-of-requires : tie.Need-multiplier-of-requires Inv-loop μ-loop
+multiplier-of-requires c κs = search needs
+
 steps-of-requires : tie.Need-steps-of-requires Inv-loop μ-loop
-steps-of-requires c κs = ?
+steps-of-requires c κs = search needs
 
--- src/lib.rt:68:5
 loop-holds : tie.Need-loop-holds Inv-loop μ-loop
-loop-holds c = ?
+loop-holds c = begun inOrder _ 0 16 _ (search needs)
 
--- src/lib.rt:69:33
 mul-alpha : tie.Need-mul-alpha Inv-loop μ-loop
-mul-alpha c = ?
+mul-alpha c = omega arith
 
--- src/lib.rt:69:33
 array-copy-out-alpha : tie.Need-array-copy-out-alpha Inv-loop μ-loop
-array-copy-out-alpha c = ?
+array-copy-out-alpha c = omega arith
 
--- src/lib.rt:69:18
 alpha-requires : tie.Need-alpha-requires Inv-loop μ-loop
-alpha-requires c κs = ?
+alpha-requires c κs =
+    let l = c .before .before .loop in
+    let b = c .before .before .before in
+    let d = b .before .before .before .before .before .args .d .now in
+    (omega arith, rw (step-held d (b .steps-of .result) (l .i) (b .steps-of .ensures) (omega arith)) (small-step d _ _))
 
--- src/lib.rt:69:18
 mul-out : tie.Need-mul-out Inv-loop μ-loop
-mul-out c = ?
+mul-out c = omega arith
 
--- src/lib.rt:69:56
 mul-out-2 : tie.Need-mul-out-2 Inv-loop μ-loop
-mul-out-2 c = ?
+mul-out-2 c = omega arith
 
--- src/lib.rt:69:56
 array-read-out : tie.Need-array-read-out Inv-loop μ-loop
-array-read-out c = ?
+array-read-out c = omega arith
 
--- src/lib.rt:69:18
 add-out : tie.Need-add-out Inv-loop μ-loop
-add-out c = ?
+add-out c = omega arith
 
--- src/lib.rt:69:9
 mul-out-3 : tie.Need-mul-out-3 Inv-loop μ-loop
-mul-out-3 c = ?
+mul-out-3 c = omega arith
 
--- src/lib.rt:69:9
 array-write-out : tie.Need-array-write-out Inv-loop μ-loop
-array-write-out c = ?
+array-write-out c = omega arith
 
--- src/lib.rt:70:9
 add-i : tie.Need-add-i Inv-loop μ-loop
-add-i c = ?
+add-i c = omega arith
 
--- src/lib.rt:68:5
 loop-less : tie.Need-loop-less Inv-loop μ-loop
-loop-less c = ?
+loop-less c = omega arith
 
--- src/lib.rt:68:5
+-- the alpha of the turn
+value : (c : tie.After-alpha Inv-loop μ-loop) → c .alpha .result ≡ alphaByte (c .before .before .before .before .before .before .before .before .before .args .d .now) (c .before .before .before .loop .i % 4) (c .before .before .before .loop .i / 4)
+unfolding alphaByte
+value c =
+    let i = c .before .before .before .loop .i in
+    let b = c .before .before .before .before in
+    let m = b .before .multiplier-of in
+    let d = b .before .before .before .before .before .args .d .now in
+    c .alpha .ensures .0
+    ∙ ap (λ (s : ℤ). clamp 255 (pos (byte d 0) +ℤ pos (m .result) *ℤ s)) (step-held d (b .steps-of .result) i (b .steps-of .ensures) (omega arith))
+    ∙ ap (λ (n : ℕ). clamp 255 (pos (byte d 0) +ℤ pos n *ℤ stepAt d i)) (m .ensures .0)
+
 loop-again : tie.Need-loop-again Inv-loop μ-loop
-loop-again c = ?
+loop-again c =
+    let l = c .before .before .before .loop in
+    let px = c .before .before .before .before .before .before .before .before .before .args .t2 in
+    stored-next _ 0 16 (l .out) (l .i) (l .inv) _ (omega arith) (ap (withAlpha (getD px (l .i) 0)) (value c))
 
--- src/lib.rt:59:1
 returns : tie.Need-returns Inv-loop μ-loop
-returns c = ?
+returns c =
+    let l = c .before .loop in
+    filled-all _ 0 16 (l .out) (l .i) (l .inv) (omega arith)
 
 pub a8-onto-spec : {M : Type 1} → statement M
 a8-onto-spec =
@@ -86,7 +102,8 @@ a8-onto-spec =
     Inv-loop
     μ-loop
     shared-slice-read-base
-    shared-slice-read-m
+    shared-slice-read-multiplier-of
+    multiplier-of-requires
     steps-of-requires
     loop-holds
     mul-alpha

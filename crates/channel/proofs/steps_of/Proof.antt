@@ -10,6 +10,7 @@ use lib.ListN.{getD}
 use lib.Signed.{mag}
 use mir.Syntax.{w8, w16}
 use Rattle.rules.specs.Notation.{byte}
+use Rattle.rules.specs.Channels.{alphaSteps}
 use Rattle.consts.specs.Tables.{writeOrder}
 use Rattle.laws.proofs.Filled.{getD-build}
 use Rattle.laws.proofs.Filling.{Filling, begun, stored, filled}
@@ -18,11 +19,6 @@ use Rattle.laws.proofs.Signed.{held-small, held-twice}
 use Rattle.channel.proofs.Steps.{stepAt, small-step, reads}
 use Rattle.channel.proofs.steps_of.Statement.{statement}
 use Rattle.channel.proofs.steps_of.Tie as tie
-use Rattle.channel.proofs.steps_of.Reads as reads·
-use Rattle.channel.proofs.steps_of.Lts as lts
-use Rattle.channel.proofs.index_word.Reads as index-word-reads
-use Rattle.consts.proofs.alpha_steps.Reads as alpha-steps-reads
-use Rattle.consts.proofs.write_order.Reads as write-order-reads
 
 -- the turn of place k
 abbrev backwards : ℕ → ℕ
@@ -34,46 +30,41 @@ Inv-loop d table order row l₀ out₀ i₀ l out i = (l ≡ l₀ / 2 ^ (3 * i))
 abbrev μ-loop : tie.MeasureT-loop
 μ-loop d table order row l₀ out₀ i₀ l out i = 16 - i
 
--- src/lib.rt:36:17
 alpha-steps-requires : tie.Need-alpha-steps-requires Inv-loop μ-loop
 alpha-steps-requires c κs = search needs
 
--- src/lib.rt:37:17
 write-order-requires : tie.Need-write-order-requires Inv-loop μ-loop
 write-order-requires c κs = search needs
 
--- src/lib.rt:38:16
-shared-slice-read-row : tie.Need-shared-slice-read-row Inv-loop μ-loop
-shared-slice-read-row c = omega arith
+shared-slice-read-row-of : tie.Need-shared-slice-read-row-of Inv-loop μ-loop
+shared-slice-read-row-of c = omega arith
 
--- src/lib.rt:38:15
-cast-row : tie.Need-cast-row Inv-loop μ-loop
-cast-row c = omega arith
+row-of-requires : tie.Need-row-of-requires Inv-loop μ-loop
+row-of-requires c κs = search needs
 
--- src/lib.rt:39:9
 index-word-requires : tie.Need-index-word-requires Inv-loop μ-loop
 index-word-requires c κs = search needs
 
--- src/lib.rt:42:5
 -- the place that the turn stores at
-at : (c : tie.In-loop Inv-loop μ-loop) → getD (c .before .before .before .before .write-order .result) (15 - c .before .loop .i) 0 ≡ place (15 - c .before .loop .i)
+at : (c : tie.In-loop Inv-loop μ-loop) → getD (c .before .before .before .before .before .write-order .result) (15 - c .before .loop .i) 0 ≡ place (15 - c .before .loop .i)
 unfolding writeOrder
 at c =
     let j = 15 - c .before .loop .i in
-    ap (λ (a : List ℕ). getD a j 0) (c .before .before .before .before .write-order .ensures) ∙ getD-build place 0 16 j (omega arith)
+    ap (λ (a : List ℕ). getD a j 0) (c .before .before .before .before .before .write-order .ensures) ∙ getD-build place 0 16 j (omega arith)
 
 -- the number that the turn reads
 abbrev read : tie.In-loop Inv-loop μ-loop → ℤ
 read c =
-    let d = c .before .before .before .before .before .before .before .args .d .now in
-    getD (getD (c .before .before .before .before .before .alpha-steps .result) (byte d 1 % 16) []) (c .before .loop .l % 8) (pos 0)
+    getD (getD (c .before .before .before .before .before .before .alpha-steps .result) (c .before .before .before .row-of .result) []) (c .before .loop .l % 8) (pos 0)
 
-is-step : (c : tie.In-loop Inv-loop μ-loop) → read c ≡ stepAt (c .before .before .before .before .before .before .before .args .d .now) (place (15 - c .before .loop .i))
+is-step : (c : tie.In-loop Inv-loop μ-loop) → read c ≡ stepAt (c .before .before .before .before .before .before .before .before .args .d .now) (place (15 - c .before .loop .i))
 is-step c =
     let l = c .before .loop in
     let w = c .before .before .index-word in
-    let d = c .before .before .before .before .before .before .before .args .d .now in
-    ap (λ (a : List (List ℤ)). getD (getD a (byte d 1 % 16) []) (l .l % 8) (pos 0)) (c .before .before .before .before .before .alpha-steps .ensures)
+    let row = c .before .before .before .row-of in
+    let d = c .before .before .before .before .before .before .before .before .args .d .now in
+    ap (λ (a : List (List ℤ)). getD (getD a (row .result) []) (l .l % 8) (pos 0)) (c .before .before .before .before .before .before .alpha-steps .ensures)
+    ∙ ap (λ (n : ℕ). getD (getD alphaSteps n []) (l .l % 8) (pos 0)) (row .ensures .0)
     ∙ reads d (byte d 0 * 256 + byte d 1) (l .i) (l .l) (omega arith) (w .ensures .1) (l .inv .0 ∙ ap (λ (n : ℕ). n / 2 ^ (3 * l .i)) (w .ensures .0))
 
 is-small : (c : tie.In-loop Inv-loop μ-loop) → mag (read c) < 16
@@ -82,51 +73,39 @@ is-small c = rw (is-step c) (small-step _ _ _)
 loop-holds : tie.Need-loop-holds Inv-loop μ-loop
 loop-holds c = (omega arith, begun backwards _ (pos 0) 16 _ refl)
 
--- src/lib.rt:43:30
 mul-out : tie.Need-mul-out Inv-loop μ-loop
 mul-out c = omega arith
 
--- src/lib.rt:43:30
 index-1-out : tie.Need-index-1-out Inv-loop μ-loop
 index-1-out c = omega arith
 
--- src/lib.rt:43:30
 index-2-out : tie.Need-index-2-out Inv-loop μ-loop
 index-2-out c = omega arith
 
--- src/lib.rt:43:30
 cast-out : tie.Need-cast-out Inv-loop μ-loop
 cast-out c = rw (held-small w8 (read (c .before)) (omega (arith, is-small (c .before)))) (record { sfits = omega (arith, is-small (c .before)) })
 
--- src/lib.rt:43:19
 sub-out : tie.Need-sub-out Inv-loop μ-loop
 sub-out c = omega arith
 
--- src/lib.rt:43:13
 mul-out-2 : tie.Need-mul-out-2 Inv-loop μ-loop
 mul-out-2 c = omega arith
 
--- src/lib.rt:43:13
 array-read-out : tie.Need-array-read-out Inv-loop μ-loop
 array-read-out c = omega arith
 
--- src/lib.rt:43:9
 mul-out-3 : tie.Need-mul-out-3 Inv-loop μ-loop
 mul-out-3 c = omega (arith, at (c .before))
 
--- src/lib.rt:43:9
 array-set-from-out : tie.Need-array-set-from-out Inv-loop μ-loop
 array-set-from-out c = omega (arith, at (c .before))
 
--- src/lib.rt:45:9
 add-i : tie.Need-add-i Inv-loop μ-loop
 add-i c = omega arith
 
--- src/lib.rt:42:5
 loop-less : tie.Need-loop-less Inv-loop μ-loop
 loop-less c = omega arith
 
--- src/lib.rt:42:5
 loop-again : tie.Need-loop-again Inv-loop μ-loop
 loop-again c =
     let l = c .before .before .loop in
@@ -137,7 +116,6 @@ loop-again c =
           (held-twice w8 w16 (read (c .before)) (omega arith) (omega arith) ∙ is-step (c .before) ∙ ap (stepAt _) (sym o)),
     )
 
--- src/lib.rt:32:1
 returns : tie.Need-returns Inv-loop μ-loop
 returns c = filled backwards _ (pos 0) 16 (c .before .loop .out) (c .before .loop .i) (c .before .loop .inv .1) (λ k h. omega arith)
 
@@ -149,8 +127,8 @@ steps-of-spec =
     μ-loop
     alpha-steps-requires
     write-order-requires
-    shared-slice-read-row
-    cast-row
+    shared-slice-read-row-of
+    row-of-requires
     index-word-requires
     loop-holds
     mul-out
