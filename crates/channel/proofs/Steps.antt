@@ -41,3 +41,6 @@ step-held d steps k e h =
     ap (λ (a : List ℤ). held w16 (getD a k (pos 0))) e
     ∙ ap (held w16) (getD-build (stepAt d) (pos 0) 16 k h)
     ∙ held-small w16 (stepAt d k) (omega (arith, small-step d (k % 4) (k / 4)))
+
+pub step-small : (d : List ℕ) (steps : List ℤ) (k : ℕ) → steps ≡ build 16 (stepAt d) → k < 16 → mag (held w16 (getD steps k (pos 0))) < 16
+step-small d steps k e h = rw (step-held d steps k e h) (small-step d (k % 4) (k / 4))

@@ -9,7 +9,7 @@ use lib.ListN.{getD}
 use Rattle.rules.specs.Notation.{byte, clamp}
 use Rattle.rules.specs.Channels.{alphaByte, withAlpha}
 use Rattle.laws.proofs.Filling.{Filling, inOrder, begun, stored-next, filled-all}
-use Rattle.channel.proofs.Steps.{stepAt, step-held, small-step}
+use Rattle.channel.proofs.Steps.{stepAt, step-held, step-small}
 use Rattle.channel.proofs.a8_onto.Statement.{statement}
 use Rattle.channel.proofs.a8_onto.Tie as tie
 
@@ -43,10 +43,8 @@ array-copy-out-alpha c = omega arith
 
 alpha-requires : tie.Need-alpha-requires Inv-loop μ-loop
 alpha-requires c κs =
-    let l = c .before .before .loop in
     let b = c .before .before .before in
-    let d = b .before .before .before .before .before .args .d .now in
-    (omega arith, rw (step-held d (b .steps-of .result) (l .i) (b .steps-of .ensures) (omega arith)) (small-step d _ _))
+    (omega arith, step-small _ (b .steps-of .result) (c .before .before .loop .i) (b .steps-of .ensures) (omega arith))
 
 mul-out : tie.Need-mul-out Inv-loop μ-loop
 mul-out c = omega arith
