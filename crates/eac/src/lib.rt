@@ -70,7 +70,7 @@ pub fn eac_bytes(d: &[u8], signed: bool) -> [u32; 16]
 
 // Opaque pixels of red and green, with no blue.
 fn red_green(red: [u32; 16], green: [u32; 16]) -> [u32; 16]
-    requires { ⌜ ((k : ℕ) → (getD red k 0 < 256) × (getD green k 0 < 256)) ⌝ }
+    requires { ⌜ ((k : ℕ) → k < 16 → (getD red k 0 < 256) × (getD green k 0 < 256)) ⌝ }
     ensures { λ r. ⌜ r ≡ build 16 (λ k. word 255 (getD red k 0) (getD green k 0) 0) ⌝ }
 {
     let mut out = [0u32; 16];

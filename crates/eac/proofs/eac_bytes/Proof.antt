@@ -14,13 +14,6 @@ use Rattle.laws.proofs.Signed.{held, held-small}
 use Rattle.channel.proofs.Steps.{stepAt, step-held, step-small}
 use Rattle.eac.proofs.eac_bytes.Statement.{statement}
 use Rattle.eac.proofs.eac_bytes.Tie as tie
-use Rattle.eac.proofs.eac_bytes.Reads as reads
-use Rattle.eac.proofs.eac_bytes.Lts as lts
-use Rattle.channel.proofs.multiplier_of.Reads as multiplier-of-reads
-use Rattle.channel.proofs.steps_of.Reads as steps-of-reads
-use Rattle.eac.proofs.centre_of.Reads as centre-of-reads
-use Rattle.eac.proofs.eac_value.Reads as eac-value-reads
-use Rattle.eac.proofs.times_of.Reads as times-of-reads
 
 alike : {a y s z : ℤ} {m n : ℕ} → a ≡ y → m ≡ n → s ≡ z → clamp 2047 (a +ℤ pos m *ℤ s) ≡ clamp 2047 (y +ℤ pos n *ℤ z)
 alike e f g = cc
@@ -31,66 +24,51 @@ Inv-loop d signed base m steps out₀ i₀ out i = Filling inOrder (λ k. eacByt
 abbrev μ-loop : tie.MeasureT-loop
 μ-loop d signed base m steps out₀ i₀ out i = 16 - i
 
--- src/lib.rt:59:26
 shared-slice-read-centre-of : tie.Need-shared-slice-read-centre-of Inv-loop μ-loop
 shared-slice-read-centre-of c = omega arith
 
--- src/lib.rt:59:9
 centre-of-requires : tie.Need-centre-of-requires Inv-loop μ-loop
 centre-of-requires c κs = search needs
 
--- src/lib.rt:60:45
 shared-slice-read-multiplier-of : tie.Need-shared-slice-read-multiplier-of Inv-loop μ-loop
 shared-slice-read-multiplier-of c = omega arith
 
--- src/lib.rt:60:22
 multiplier-of-requires : tie.Need-multiplier-of-requires Inv-loop μ-loop
 multiplier-of-requires c κs = search needs
 
--- src/lib.rt:60:9
 times-of-requires : tie.Need-times-of-requires Inv-loop μ-loop
 times-of-requires c κs = search needs
 
--- src/lib.rt:61:17
 steps-of-requires : tie.Need-steps-of-requires Inv-loop μ-loop
 steps-of-requires c κs = search needs
 
--- src/lib.rt:64:5
 loop-holds : tie.Need-loop-holds Inv-loop μ-loop
 loop-holds c = begun inOrder _ 0 16 _ refl
 
--- src/lib.rt:65:37
 mul-eac-value : tie.Need-mul-eac-value Inv-loop μ-loop
 mul-eac-value c = omega arith
 
--- src/lib.rt:65:37
 array-copy-out-eac-value : tie.Need-array-copy-out-eac-value Inv-loop μ-loop
 array-copy-out-eac-value c = omega arith
 
--- src/lib.rt:65:18
 eac-value-requires : tie.Need-eac-value-requires Inv-loop μ-loop
 eac-value-requires c κs =
     let b = c .before .before .before in
     let z = b .before .before .before .before .centre-of in
     (rw (held-small w16 (z .result) (omega arith)) (z .ensures .1), omega arith, step-small _ (b .steps-of .result) (c .before .before .loop .i) (b .steps-of .ensures) (omega arith))
 
--- src/lib.rt:65:9
 mul-out : tie.Need-mul-out Inv-loop μ-loop
 mul-out c = omega arith
 
--- src/lib.rt:65:9
 array-write-out : tie.Need-array-write-out Inv-loop μ-loop
 array-write-out c = omega arith
 
--- src/lib.rt:66:9
 add-i : tie.Need-add-i Inv-loop μ-loop
 add-i c = omega arith
 
--- src/lib.rt:64:5
 loop-less : tie.Need-loop-less Inv-loop μ-loop
 loop-less c = omega arith
 
--- src/lib.rt:64:5
 -- the byte of the turn
 value : (c : tie.After-eac-value Inv-loop μ-loop) → c .eac-value .result / 8 ≡ eacByte (c .before .before .before .before .before .before .before .before .before .before .before .args .signed) (c .before .before .before .before .before .before .before .before .before .before .before .args .d .now) (c .before .before .before .loop .i % 4) (c .before .before .before .loop .i / 4)
 unfolding eacByte eacValue
@@ -109,7 +87,6 @@ loop-again c =
     let l = c .before .before .before .loop in
     stored-next _ 0 16 (l .out) (l .i) (l .inv) _ (omega arith) (value c)
 
--- src/lib.rt:55:1
 returns : tie.Need-returns Inv-loop μ-loop
 returns c =
     let l = c .before .loop in
