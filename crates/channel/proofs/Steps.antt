@@ -13,7 +13,7 @@ use Rattle.rules.specs.Notation.{byte, bits, build}
 use Rattle.rules.specs.Channels.{alphaSteps, indexWord, alphaIndex, alphaStep}
 use Rattle.laws.proofs.Every.{below}
 use Rattle.laws.proofs.Filled.{getD-build}
-use Rattle.laws.proofs.Order.{low-field, place}
+use Rattle.laws.proofs.Order.{place}
 use Rattle.laws.proofs.Signed.{small, small-at, held, held-small}
 
 -- the step of place k, row by row
@@ -27,13 +27,13 @@ pub small-step : (d : List ℕ) (x y : ℕ) → mag (alphaStep d x y) < 16
 unfolding alphaStep
 small-step d x y = small-row (bits 3 0 (byte d 1)) (alphaIndex d (4 * x + y)) (omega arith)
 
--- what turn i reads of the word, h above the indices, is the step of pixel 15 - i
-pub reads : (d : List ℕ) (h i l : ℕ) → i < 16 → indexWord d < 281474976710656 → l ≡ (h * 281474976710656 + indexWord d) / 2 ^ (3 * i) → getD (getD alphaSteps (bits 3 0 (byte d 1)) []) (l % 8) (pos 0) ≡ stepAt d (place (15 - i))
+-- what turn i reads is the step of pixel 15 - i
+pub reads : (d : List ℕ) (i l : ℕ) → i < 16 → l ≡ indexWord d / 2 ^ (3 * i) → getD (getD alphaSteps (bits 3 0 (byte d 1)) []) (l % 8) (pos 0) ≡ stepAt d (place (15 - i))
 unfolding alphaStep
-reads d h i l p q e =
+reads d i l h e =
     let n : 4 * (place (15 - i) % 4) + place (15 - i) / 4 ≡ 15 - i = omega arith in
     let t : 45 - 3 * (15 - i) ≡ 3 * i = omega arith in
-    rw (n, t, e) (ap (λ (j : ℕ). getD (getD alphaSteps (bits 3 0 (byte d 1)) []) j (pos 0)) (low-field 48 h (indexWord d) (3 * i) 3 q (omega arith)))
+    rw (n, t, e)
 
 -- the steps of a block as the machine holds them
 pub step-held : (d : List ℕ) (steps : List ℤ) (k : ℕ) → steps ≡ build 16 (stepAt d) → k < 16 → held w16 (getD steps k (pos 0)) ≡ stepAt d k

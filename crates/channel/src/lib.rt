@@ -13,19 +13,19 @@ fn wide(b: u8) -> u64
     b as u64
 }
 
-// All eight bytes, read big-endian: below the base, the multiplier and the row stand the indices, three bits to a pixel.
+// Four bytes, read big-endian.
+fn four(a: u8, b: u8, c: u8, d: u8) -> u64
+    ensures { λ r. ⌜ (r ≡ a * 16777216 + b * 65536 + c * 256 + d) × (r < 4294967296) ⌝ }
+{
+    wide(a) * 16777216 + wide(b) * 65536 + wide(c) * 256 + wide(d)
+}
+
+// Bytes 2 to 7, read big-endian: the indices, three bits to a pixel.
 fn index_word(d: &[u8]) -> u64
     requires { ⌜ 8 ≤ length (now d) ⌝ }
-    ensures { λ r. ⌜ (r ≡ (byte (now (d .entry)) 0 * 256 + byte (now (d .entry)) 1) * 281474976710656 + indexWord (now (d .entry))) × (indexWord (now (d .entry)) < 281474976710656) ⌝ }
+    ensures { λ r. ⌜ r ≡ indexWord (now (d .entry)) ⌝ }
 {
-    wide(d[0]) * 72057594037927936
-        + wide(d[1]) * 281474976710656
-        + wide(d[2]) * 1099511627776
-        + wide(d[3]) * 4294967296
-        + wide(d[4]) * 16777216
-        + wide(d[5]) * 65536
-        + wide(d[6]) * 256
-        + wide(d[7])
+    four(0, 0, d[2], d[3]) * 4294967296 + four(d[4], d[5], d[6], d[7])
 }
 
 // The high nibble of byte 1 is the multiplier.

@@ -65,7 +65,7 @@ is-step c =
     let d = c .before .before .before .before .before .before .before .before .args .d .now in
     ap (λ (a : List (List ℤ)). getD (getD a (row .result) []) (l .l % 8) (pos 0)) (c .before .before .before .before .before .before .alpha-steps .ensures)
     ∙ ap (λ (n : ℕ). getD (getD alphaSteps n []) (l .l % 8) (pos 0)) (row .ensures .0)
-    ∙ reads d (byte d 0 * 256 + byte d 1) (l .i) (l .l) (omega arith) (w .ensures .1) (l .inv .0 ∙ ap (λ (n : ℕ). n / 2 ^ (3 * l .i)) (w .ensures .0))
+    ∙ reads d (l .i) (l .l) (omega arith) (l .inv .0 ∙ ap (λ (n : ℕ). n / 2 ^ (3 * l .i)) (w .ensures))
 
 is-small : (c : tie.In-loop Inv-loop μ-loop) → mag (read c) < 16
 is-small c = rw (is-step c) (small-step _ _ _)
