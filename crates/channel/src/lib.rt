@@ -7,6 +7,7 @@ ghost use lib.Signed.{mag};
 ghost use Rattle.rules.specs.Notation.{build, byte, bits, clamp as clampTo};
 ghost use Rattle.rules.specs.Channels.{indexWord, alphaStep, alphaByte, withAlpha};
 
+// A byte in the index word's type.
 fn wide(b: u8) -> u64
     ensures { λ r. ⌜ (r ≡ b) × (r < 256) ⌝ }
 {
@@ -28,21 +29,21 @@ fn index_word(d: &[u8]) -> u64
     four(0, 0, d[2], d[3]) * 4294967296 + four(d[4], d[5], d[6], d[7])
 }
 
-// The high nibble of byte 1 is the multiplier.
+// The multiplier: the high nibble of byte 1. A multiplier of 0 stays 0.
 pub fn multiplier_of(b: u8) -> u8
     ensures { λ r. ⌜ (r ≡ bits 7 4 b) × (r < 16) ⌝ }
 {
     b / 16
 }
 
-// The low nibble of byte 1 is the row of the table of steps.
+// The row of the table of steps: the low nibble of byte 1.
 fn row_of(b: u8) -> usize
     ensures { λ r. ⌜ (r ≡ bits 3 0 b) × (r < 16) ⌝ }
 {
     (b % 16) as usize
 }
 
-// The step of each pixel, row by row. The last pixel's index is lowest in the word, so the pixels go backwards.
+// The step of each pixel, row by row. The last pixel's index stands lowest in the word, so the loop goes backwards.
 pub fn steps_of(d: &[u8]) -> [i16; 16]
     requires { ⌜ 8 ≤ length (now d) ⌝ }
     ensures { λ r. ⌜ r ≡ build 16 (λ k. alphaStep (now (d .entry)) (k % 4) (k / 4)) ⌝ }
@@ -61,7 +62,7 @@ pub fn steps_of(d: &[u8]) -> [i16; 16]
     out
 }
 
-// One alpha: the base moved by m times a step, clamped.
+// The base moved by m times a step, clamped to a byte.
 fn alpha(base: u8, m: u8, s: i16) -> u32
     requires { ⌜ (m < 16) × (mag s < 16) ⌝ }
     ensures { λ r. ⌜ (r ≡ clampTo 255 (pos base +ℤ pos m *ℤ s)) × (r < 256) ⌝ }

@@ -17,7 +17,7 @@ fn signed_byte(b: u8) -> i16
     if 127 < b { b as i16 - 256 } else { b as i16 }
 }
 
-// The value that a step is added to.
+// The value in the middle of a block's, to which steps are added: 8 * b0 + 4, or as two's complement with 1023 for 4.
 fn centre_of(b: u8, signed: bool) -> i16
     ensures { λ r. ⌜ (r ≡ centre signed b) × (mag r < 4096) ⌝ }
 {
@@ -28,7 +28,7 @@ fn centre_of(b: u8, signed: bool) -> i16
     }
 }
 
-// What a step is multiplied by.
+// What a step is multiplied by: 8 times the multiplier, or 1 where that is 0.
 fn times_of(m: u8) -> u8
     requires { ⌜ m < 16 ⌝ }
     ensures { λ r. ⌜ (r ≡ multiplier m) × (r < 121) ⌝ }
@@ -36,7 +36,7 @@ fn times_of(m: u8) -> u8
     if m == 0 { 1 } else { 8 * m }
 }
 
-// The whole eleven bits.
+// The whole value of a pixel, clamped to eleven bits.
 fn eac_value(base: i16, m: u8, s: i16) -> u32
     requires { ⌜ (mag base < 4096) × (m < 121) × (mag s < 16) ⌝ }
     ensures { λ r. ⌜ (r ≡ clamp 2047 (base +ℤ pos m *ℤ s)) × (r < 2048) ⌝ }
@@ -51,7 +51,7 @@ fn eac_value(base: i16, m: u8, s: i16) -> u32
     }
 }
 
-// The byte of each pixel, row by row.
+// The byte of each pixel, row by row: an eighth of its value.
 pub fn eac_bytes(d: &[u8], signed: bool) -> [u32; 16]
     requires { ⌜ 8 ≤ length (now d) ⌝ }
     ensures { λ r. ⌜ r ≡ build 16 (λ k. eacByte signed (now (d .entry)) (k % 4) (k / 4)) ⌝ }
@@ -68,7 +68,7 @@ pub fn eac_bytes(d: &[u8], signed: bool) -> [u32; 16]
     out
 }
 
-// Opaque pixels of red and green, with no blue.
+// Opaque pixels of sixteen bytes of red and sixteen of green, with no blue.
 fn red_green(red: [u32; 16], green: [u32; 16]) -> [u32; 16]
     requires { ⌜ ((k : ℕ) → k < 16 → (getD red k 0 < 256) × (getD green k 0 < 256)) ⌝ }
     ensures { λ r. ⌜ r ≡ build 16 (λ k. word 255 (getD red k 0) (getD green k 0) 0) ⌝ }
@@ -98,7 +98,7 @@ pub fn eacrg_block(d: &[u8], signed: bool) -> [u32; 16]
     red_green(eac_bytes(d, signed), eac_bytes(&d[8..], signed))
 }
 
-// What one step of a channel is worth in the pixel word: blue, green, red, alpha.
+// What 1 in a channel is in the pixel word: channel 0 is blue, 1 green, 2 red and 3 alpha.
 fn unit_of(channel: usize) -> u32
     requires { ⌜ channel < 4 ⌝ }
     ensures { λ r. ⌜ (r ≡ 256 ^ channel) × (r ≤ 16777216) ⌝ }
@@ -111,7 +111,7 @@ fn unit_of(channel: usize) -> u32
     }
 }
 
-// The pixels with one byte each put into a channel, by OR: what stood there stays.
+// The pixels with the byte of each put into one channel by OR, so that no bit that stood there is lost.
 pub fn eac_onto(d: &[u8], signed: bool, channel: usize, px: [u32; 16]) -> [u32; 16]
     requires { ⌜ (8 ≤ length (now d)) × (channel < 4) ⌝ }
     ensures { λ r. ⌜ r ≡ build 16 (λ k. orChannel channel (getD px k 0) (eacByte signed (now (d .entry)) (k % 4) (k / 4))) ⌝ }

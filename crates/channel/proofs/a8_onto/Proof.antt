@@ -1,15 +1,15 @@
 -- Turn i stores pixel i; the steps are those of the block, as the machine holds them.
 -- Assumes nothing.
 use mathlib.Core.Path.{_≡_, _∙_, refl, ap}
-use Prim.Native.Nat.{ℕ, _-_, _/_, _%_}
+use Prim.Native.Nat.{_-_, _/_, _%_}
 use native.Mathlib.Omega.{arith}
 use borrow.Author.Needs.{needs}
-use lib.IntN.{ℤ, pos, _+ℤ_, _*ℤ_}
+use lib.IntN.{pos}
 use lib.ListN.{getD}
-use Rattle.rules.specs.Notation.{byte, clamp}
+use Rattle.rules.specs.Notation.{byte}
 use Rattle.rules.specs.Channels.{alphaByte, withAlpha}
 use Rattle.laws.proofs.Filling.{Filling, inOrder, begun, stored-next, filled-all}
-use Rattle.channel.proofs.Steps.{stepAt, step-held, step-small}
+use Rattle.channel.proofs.Steps.{step-held, step-small, moved-same}
 use Rattle.channel.proofs.a8_onto.Statement.{statement}
 use Rattle.channel.proofs.a8_onto.Tie as tie
 
@@ -76,11 +76,8 @@ unfolding alphaByte
 value c =
     let i = c .before .before .before .loop .i in
     let b = c .before .before .before .before in
-    let m = b .before .multiplier-of in
-    let d = b .before .before .before .before .before .args .d .now in
     c .alpha .ensures .0
-    ∙ ap (λ (s : ℤ). clamp 255 (pos (byte d 0) +ℤ pos (m .result) *ℤ s)) (step-held d (b .steps-of .result) i (b .steps-of .ensures) (omega arith))
-    ∙ ap (λ (n : ℕ). clamp 255 (pos (byte d 0) +ℤ pos n *ℤ stepAt d i)) (m .ensures .0)
+    ∙ moved-same 255 {a = pos (byte (b .before .before .before .before .before .args .d .now) 0)} refl (b .before .multiplier-of .ensures .0) (step-held _ (b .steps-of .result) i (b .steps-of .ensures) (omega arith))
 
 loop-again : tie.Need-loop-again Inv-loop μ-loop
 loop-again c =

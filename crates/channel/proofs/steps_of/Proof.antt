@@ -2,14 +2,13 @@
 -- Assumes nothing.
 use mathlib.Core.Path.{_≡_, _∙_, refl, sym, ap}
 use mathlib.Core.List.{List, []}
-use Prim.Native.Nat.{ℕ, _+_, _-_, _*_, _/_, _%_, _^_, _<_}
+use Prim.Native.Nat.{ℕ, _-_, _*_, _/_, _%_, _^_, _<_}
 use native.Mathlib.Omega.{arith}
 use borrow.Author.Needs.{needs}
 use lib.IntN.{ℤ, pos}
 use lib.ListN.{getD}
 use lib.Signed.{mag}
 use mir.Syntax.{w8, w16}
-use Rattle.rules.specs.Notation.{byte}
 use Rattle.rules.specs.Channels.{alphaSteps}
 use Rattle.consts.specs.Tables.{writeOrder}
 use Rattle.laws.proofs.Filled.{getD-build}

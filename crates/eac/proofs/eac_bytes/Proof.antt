@@ -4,19 +4,13 @@ use mathlib.Core.Path.{_≡_, _∙_, refl, ap}
 use Prim.Native.Nat.{ℕ, _-_, _/_, _%_}
 use native.Mathlib.Omega.{arith}
 use borrow.Author.Needs.{needs}
-use lib.IntN.{ℤ, pos, _+ℤ_, _*ℤ_}
-use lib.ListN.{getD}
 use mir.Syntax.{w16}
-use Rattle.rules.specs.Notation.{byte, clamp}
-use Rattle.rules.specs.Channels.{centre, multiplier, eacValue, eacByte}
+use Rattle.rules.specs.Channels.{multiplier, eacValue, eacByte}
 use Rattle.laws.proofs.Filling.{Filling, inOrder, begun, stored-next, filled-all}
-use Rattle.laws.proofs.Signed.{held, held-small}
-use Rattle.channel.proofs.Steps.{stepAt, step-held, step-small}
+use Rattle.laws.proofs.Signed.{held-small}
+use Rattle.channel.proofs.Steps.{step-held, step-small, moved-same}
 use Rattle.eac.proofs.eac_bytes.Statement.{statement}
 use Rattle.eac.proofs.eac_bytes.Tie as tie
-
-alike : {a y s z : ℤ} {m n : ℕ} → a ≡ y → m ≡ n → s ≡ z → clamp 2047 (a +ℤ pos m *ℤ s) ≡ clamp 2047 (y +ℤ pos n *ℤ z)
-alike e f g = cc
 
 abbrev Inv-loop : tie.InvT-loop
 Inv-loop d signed base m steps out₀ i₀ out i = Filling inOrder (λ k. eacByte signed d (k % 4) (k / 4)) 0 16 i out
@@ -78,7 +72,7 @@ value c =
     let z = b .before .before .before .before .centre-of in
     ap (λ (n : ℕ). n / 8)
     (c .eac-value .ensures .0
-    ∙ alike (held-small w16 (z .result) (omega arith) ∙ z .ensures .0)
+    ∙ moved-same 2047 (held-small w16 (z .result) (omega arith) ∙ z .ensures .0)
     (b .before .times-of .ensures .0 ∙ ap multiplier (b .before .before .multiplier-of .ensures .0))
     (step-held _ (b .steps-of .result) i (b .steps-of .ensures) (omega arith)))
 
