@@ -1,5 +1,6 @@
 pub mod Every
 pub mod Filled
+pub mod Filling
 pub mod Signed
 pub mod Diff
 pub mod Order
