@@ -3,12 +3,11 @@
 use mathlib.Core.Path.{_≡_, _∙_, ap}
 use mathlib.Core.List.{List, []}
 use Prim.Native.Nat.{ℕ, _+_, _*_, _/_, _%_, _<_}
-use lib.IntN.{ℤ, pos}
+use lib.IntN.{ℤ}
 use lib.ListN.{getD}
 use Rattle.rules.specs.Colour.{stepsOf}
-use Rattle.rules.specs.Modes.{distances}
 use Rattle.laws.proofs.Filled.{getD-build}
-use Rattle.consts.specs.Tables.{writeOrder, signedSteps, signedDistances, fourSteps}
+use Rattle.consts.specs.Tables.{writeOrder, signedSteps, fourSteps}
 
 -- the place of pixel i
 pub order-at : (o : List ℕ) → o ≡ writeOrder → (i : ℕ) → i < 16 → getD o i 0 ≡ 4 * (i % 4) + i / 4
@@ -19,8 +18,3 @@ order-at o e i h = ap (λ (l : List ℕ). getD l i 0) e ∙ getD-build (λ i. 4 
 pub steps-at : (t : List (List ℤ)) → t ≡ signedSteps → (code : ℕ) → code < 8 → getD t code [] ≡ fourSteps (stepsOf code)
 unfolding signedSteps
 steps-at t e code h = ap (λ (l : List (List ℤ)). getD l code []) e ∙ getD-build (λ code. fourSteps (stepsOf code)) [] 8 code h
-
--- a distance
-pub distance-at : (t : List ℤ) → t ≡ signedDistances → (n : ℕ) → n < 8 → getD t n (pos 0) ≡ pos (getD distances n 0)
-unfolding signedDistances
-distance-at t e n h = ap (λ (l : List ℤ). getD l n (pos 0)) e ∙ getD-build (λ n. pos (getD distances n 0)) (pos 0) 8 n h

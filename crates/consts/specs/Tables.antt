@@ -6,7 +6,6 @@ use lib.IntN.{ℤ, pos}
 use lib.ListN.{getD}
 use Rattle.rules.specs.Notation.{build, minus}
 use Rattle.rules.specs.Colour.{stepsOf}
-use Rattle.rules.specs.Modes.{distances}
 
 -- the four steps of a code, by index: "low bit picks the column, high bit negates"
 abbrev pub fourSteps : List ℕ → List ℤ
@@ -15,9 +14,6 @@ fourSteps steps =
 
 unfoldable pub signedSteps : List (List ℤ)
 signedSteps = build 8 (λ code. fourSteps (stepsOf code))
-
-unfoldable pub signedDistances : List ℤ
-signedDistances = build 8 (λ n. pos (getD distances n 0))
 
 -- pixel i = 4x + y stands at 4y + x
 unfoldable pub writeOrder : List ℕ

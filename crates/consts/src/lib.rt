@@ -3,7 +3,8 @@
 ghost use mathlib.Core.Path.{_≡_};
 ghost use Prim.Native.Nat.{_<_};
 ghost use Rattle.rules.specs.Channels.{alphaSteps};
-ghost use Rattle.consts.specs.Tables.{signedSteps, signedDistances, writeOrder};
+ghost use Rattle.rules.specs.Modes.{distances as distanceTable};
+ghost use Rattle.consts.specs.Tables.{signedSteps, writeOrder};
 
 const ETC1_MODIFIER_TABLE: [[i16; 4]; 8] = [
     [2, 8, -2, -8],
@@ -16,7 +17,7 @@ const ETC1_MODIFIER_TABLE: [[i16; 4]; 8] = [
     [47, 183, -47, -183],
 ];
 
-const ETC2_DISTANCE_TABLE: [i16; 8] = [3, 6, 11, 16, 23, 32, 41, 64];
+const ETC2_DISTANCE_TABLE: [u8; 8] = [3, 6, 11, 16, 23, 32, 41, 64];
 
 const ETC2_ALPHA_MOD_TABLE: [[i8; 8]; 16] = [
     [-3, -6, -9, -15, 2, 5, 8, 14],
@@ -47,8 +48,8 @@ pub fn modifiers() -> [[i16; 4]; 8]
 }
 
 // The distances of T and H.
-pub fn distances() -> [i16; 8]
-    ensures { λ r. ⌜ r ≡ signedDistances ⌝ }
+pub fn distances() -> [u8; 8]
+    ensures { λ r. ⌜ r ≡ distanceTable ⌝ }
 {
     ETC2_DISTANCE_TABLE
 }

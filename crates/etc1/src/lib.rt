@@ -96,7 +96,7 @@ fn half(c: [u8; 3], code: usize, opaque: bool) -> [u32; 4]
     requires { ⌜ code < 8 ⌝ }
     ensures { λ r. ⌜ r ≡ halfColours c (stepsWhere opaque code) ⌝ }
 {
-    shade::half_colours(c, steps_of(code, opaque))
+    shade::four_colours([c, c, c, c], steps_of(code, opaque))
 }
 
 // The colours of both halves, from their base colours.

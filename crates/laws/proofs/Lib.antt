@@ -1,8 +1,10 @@
 pub mod Every
 pub mod Filled
+pub mod Filling
 pub mod Signed
 pub mod Diff
 pub mod Order
+pub mod Rows
 pub mod Paint
 pub mod Range
 pub mod Word

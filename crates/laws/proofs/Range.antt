@@ -88,3 +88,23 @@ agree d x y h =
     ⊎-elim (λ e. plain d x y e)
     (λ e. mixed d x y (e .0) (kind d (e .1) (e .2) (e .3)) (bases d (e .1) (e .2) (e .3)))
     (tests (differs d) (beyond (sum (byte d 0))) (beyond (sum (byte d 1))) (beyond (sum (byte d 2))) h)
+
+-- a block whose kind is differential has its sums in range, and so the bases that wrap are the bases
+settle : (r g b : Bool) → byBeyond r g b ≡ Differential → (r ≡ false) × (g ≡ false) × (b ≡ false)
+settle true g b e = let z : _≡_ {A = ℕ} 0 1 = cc in absurd (omega arith)
+settle false true b e = let z : _≡_ {A = ℕ} 0 1 = cc in absurd (omega arith)
+settle false false true e = let z : _≡_ {A = ℕ} 0 1 = cc in absurd (omega arith)
+settle false false false e = (refl, refl, refl)
+
+pub fair-by-sums : (d : List ℕ) → kindBySums d ≡ Differential → wrapping d ≡ differential d
+unfolding kindBySums
+fair-by-sums d e =
+    let s = settle (beyond (sum (byte d 0))) (beyond (sum (byte d 1))) (beyond (sum (byte d 2))) e in
+    bases d (s .0) (s .1) (s .2)
+
+differs-then : (t : Bool) (k : Kind) → cond t k Individual ≡ Differential → k ≡ Differential
+differs-then true k e = e
+differs-then false k e = let z : _≡_ {A = ℕ} 0 1 = cc in absurd (omega arith)
+
+pub fair : (d : List ℕ) → kindOf d ≡ Differential → wrapping d ≡ differential d
+fair d e = fair-by-sums d (differs-then (differs d) (kindBySums d) e)

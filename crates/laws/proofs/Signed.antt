@@ -10,7 +10,7 @@ use lib.Dec.{T, ltb, ltb→lt, eqb, eqb→eq}
 use lib.ListN.{getD}
 use mathlib.Core.List.{List, [], _∷_}
 use Rattle.laws.proofs.Every.{both, both-left, both-right}
-use lib.IntN.{ℤ, pos, negsuc, negℤ, natAbs, subℕ, _+ℤ_, _*ℤ_}
+use lib.IntN.{ℤ, pos, negsuc, negℤ, natAbs, subℕ, _+ℤ_, _-ℤ_, _*ℤ_, +ℤ-idl}
 use native.Mathlib.Nat.{le-suc, le-trans, mul-le-mul-left, mul-le-mul-right}
 use lib.Signed.{mag, ltZ, nonNeg}
 use mir.Syntax.{Width}
@@ -94,7 +94,7 @@ small-at n (z ∷ l) p t (suc k) = small-at n l p (both-right (ltb (mag z) n) (s
 pub held-twice : (w v : Width) (z : ℤ) → mag z < 2 ^ hbits w → mag z < 2 ^ hbits v → held v (held w z) ≡ z
 held-twice w v z h k = ap (held v) (held-small w z h) ∙ held-small v z k
 
-mag-neg : (n : ℕ) → mag (negℤ (pos n)) ≤ n
+pub mag-neg : (n : ℕ) → mag (negℤ (pos n)) ≤ n
 mag-neg zero = omega arith
 mag-neg (suc n) = omega arith
 
@@ -167,3 +167,17 @@ module _ (w : Width) (a y z : ℤ) (m : ℕ) (e : y ≡ pos m) (fa : SFits w a) 
 
   pub on-held : held w (held w a +ℤ held w (held w y *ℤ held w z)) ≡ a +ℤ (y *ℤ z)
   on-held = toZ-ofZ w _ on-fits ∙ on
+
+-- an unsigned number, cast to a signed type, and its opposite
+module _ (w : Width) (m : ℕ) (h : m < 2 ^ hbits w) where
+  pub cast-pos : toZ w m ≡ pos m
+  cast-pos = toZ-pos w m h
+
+  opposite : pos 0 -ℤ toZ w m ≡ negℤ (pos m)
+  opposite = ap (λ (z : ℤ). pos 0 -ℤ z) cast-pos ∙ +ℤ-idl (negℤ (pos m))
+
+  pub opposite-fits : SFits w (pos 0 -ℤ toZ w m)
+  opposite-fits = subst (SFits w) (sym opposite) (record { sfits = omega (arith, mag-neg m) })
+
+  pub opposite-held : held w (pos 0 -ℤ toZ w m) ≡ negℤ (pos m)
+  opposite-held = held-is w _ (negℤ (pos m)) opposite (omega (arith, mag-neg m))

@@ -4,7 +4,7 @@
 use mathlib.Core.Bool.{Bool, true, false, cond}
 use mathlib.Core.List.{List, [], _∷_}
 use Prim.Native.Nat.{ℕ, zero, suc, _+_, _*_, _/_, _%_}
-use lib.Dec.{eqb, ltb}
+use lib.Dec.{eqb, leb, ltb}
 use lib.IntN.{ℤ, pos, _+ℤ_, _-ℤ_, _*ℤ_}
 use lib.ListN.{getD}
 use Rattle.rules.specs.Notation.{byte, bit, bits, minus, clamp, quarter}
@@ -46,11 +46,14 @@ hBases d =
     ∷ unused
     ∷ []
 
--- c0 >= c1, "compared red, then green, then blue; equal counts"
+-- a >= b, "compared red, then green, then blue; equal counts"
 abbrev pub notLess : List ℕ → List ℕ → Bool
-notLess [] ys = true
-notLess (x ∷ xs) [] = true
-notLess (x ∷ xs) (y ∷ ys) = cond (eqb x y) (notLess xs ys) (ltb y x)
+notLess a b =
+    cond (eqb (getD a 0 0) (getD b 0 0))
+    (cond (eqb (getD a 1 0) (getD b 1 0))
+    (leb (getD b 2 0) (getD a 2 0))
+    (ltb (getD b 1 0) (getD a 1 0)))
+    (ltb (getD b 0 0) (getD a 0 0))
 
 -- its distance number is bit 34 with 32, which "gains 1 when c0 >= c1"
 unfoldable pub hDistance : List ℕ → ℕ

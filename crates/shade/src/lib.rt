@@ -20,7 +20,7 @@ fn stepped(channel: u8, step: i16) -> u32
 }
 
 // A base colour with a step: an opaque pixel.
-pub fn applicate_color(c: [u8; 3], step: i16) -> u32
+fn applicate_color(c: [u8; 3], step: i16) -> u32
     requires { ⌜ mag step < 1024 ⌝ }
     ensures { λ r. ⌜ r ≡ shaded c step ⌝ }
 {
@@ -32,15 +32,15 @@ pub fn applicate_color(c: [u8; 3], step: i16) -> u32
     )
 }
 
-// The four colours of a half, by index.
-pub fn half_colours(c: [u8; 3], steps: [i16; 4]) -> [u32; 4]
+// Four base colours, each with its step: the one way in which a half, T and H make their colours.
+pub fn four_colours(bases: [[u8; 3]; 4], steps: [i16; 4]) -> [u32; 4]
     requires { ⌜ ((k : ℕ) → mag (getD steps k (pos 0)) < 1024) ⌝ }
-    ensures { λ r. ⌜ r ≡ build 4 (λ k. shaded c (getD steps k (pos 0))) ⌝ }
+    ensures { λ r. ⌜ r ≡ build 4 (λ k. shaded (getD bases k []) (getD steps k (pos 0))) ⌝ }
 {
     let mut colours = [0u32; 4];
     let mut i: usize = 0;
     while i < 4 {
-        colours[i] = applicate_color(c, steps[i]);
+        colours[i] = applicate_color(bases[i], steps[i]);
         i += 1;
     }
     colours

@@ -1,21 +1,24 @@
+-- The loop has made the colours passed, each from its base and its step.
+-- Assumes nothing.
 use mathlib.Core.Path.{_≡_, _∙_, refl, ap}
+use mathlib.Core.List.{[]}
 use Prim.Native.Nat.{ℕ, _<_, _≤_, _-_}
 use native.Mathlib.Omega.{arith}
-use borrow.Author.Needs.{needs}
 use lib.IntN.{pos}
 use lib.ListN.{length, getD, length-set}
 use mir.Syntax.{w16}
+use Rattle.rules.specs.Colour.{shaded}
 use Rattle.laws.proofs.Signed.{held, held-small}
 use Rattle.laws.proofs.Filled.{fills, is-build}
-use Rattle.rules.specs.Colour.{shaded}
-use Rattle.shade.proofs.half_colours.Statement.{statement}
-use Rattle.shade.proofs.half_colours.Tie as tie
+use Rattle.shade.proofs.four_colours.Statement.{statement}
+use Rattle.shade.proofs.four_colours.Tie as tie
 
 abbrev Inv-loop : tie.InvT-loop
-Inv-loop c steps colours₀ i₀ colours i = (i ≤ 4) × (length colours ≡ 4) × ((k : ℕ) → k < i → getD colours k 0 ≡ shaded c (getD steps k (pos 0)))
+Inv-loop bases steps colours₀ i₀ colours i =
+    (i ≤ 4) × (length colours ≡ 4) × ((k : ℕ) → k < i → getD colours k 0 ≡ shaded (getD bases k []) (getD steps k (pos 0)))
 
 abbrev μ-loop : tie.MeasureT-loop
-μ-loop c steps colours₀ i₀ colours i = 4 - i
+μ-loop bases steps colours₀ i₀ colours i = 4 - i
 
 loop-holds : tie.Need-loop-holds Inv-loop μ-loop
 loop-holds c = (omega arith, refl, λ k h. absurd (omega arith))
@@ -26,11 +29,20 @@ mul-applicate-color c = omega arith
 array-copy-out-applicate-color : tie.Need-array-copy-out-applicate-color Inv-loop μ-loop
 array-copy-out-applicate-color c = omega arith
 
+mul-applicate-color-2 : tie.Need-mul-applicate-color-2 Inv-loop μ-loop
+mul-applicate-color-2 c = omega arith
+
+array-copy-out-applicate-color-2 : tie.Need-array-copy-out-applicate-color-2 Inv-loop μ-loop
+array-copy-out-applicate-color-2 c = omega arith
+
+-- a small step is held as it is
 small : (c : tie.Start Inv-loop μ-loop) (k : ℕ) → held w16 (getD (c .args .t2) k (pos 0)) ≡ getD (c .args .t2) k (pos 0)
 small c k = held-small w16 _ (omega (arith, c .pre k))
 
 applicate-color-requires : tie.Need-applicate-color-requires Inv-loop μ-loop
-applicate-color-requires c κs = rw (small (c .before .before .before) (c .before .before .loop .i)) (c .before .before .before .pre (c .before .before .loop .i))
+applicate-color-requires c κs =
+    let l = c .before .before .before in
+    rw (small (l .before) (l .loop .i)) (l .before .pre (l .loop .i))
 
 mul-colours : tie.Need-mul-colours Inv-loop μ-loop
 mul-colours c = omega arith
@@ -46,12 +58,12 @@ loop-less c = omega arith
 
 loop-again : tie.Need-loop-again Inv-loop μ-loop
 loop-again c =
-    let l = c .before .before .before .loop in
-    let s = c .before .before .before .before in (
+    let l = c .before .before .before .before .loop in
+    let s = c .before .before .before .before .before in (
       omega arith,
       length-set (l .colours) (l .i) _ ∙ l .inv .1,
-      fills (λ k. shaded (s .args .c) (getD (s .args .t2) k (pos 0))) 0 (l .colours) (l .i) _ (omega arith) (l .inv .2)
-          (c .applicate-color .ensures ∙ ap (shaded (s .args .c)) (small s (l .i))),
+      fills (λ k. shaded (getD (s .args .t1) k []) (getD (s .args .t2) k (pos 0))) 0 (l .colours) (l .i) _ (omega arith) (l .inv .2)
+          (c .applicate-color .ensures ∙ ap (shaded (getD (s .args .t1) (l .i) [])) (small s (l .i))),
     )
 
 returns : tie.Need-returns Inv-loop μ-loop
@@ -59,8 +71,8 @@ returns c =
     let l = c .before .loop in
     is-build _ 0 4 (l .colours) (l .inv .1) (λ k h. l .inv .2 k (omega arith))
 
-pub half-colours-spec : {M : Type 1} → statement M
-half-colours-spec =
+pub four-colours-spec : {M : Type 1} → statement M
+four-colours-spec =
     tie.close
     (tie.spec
     Inv-loop
@@ -68,6 +80,8 @@ half-colours-spec =
     loop-holds
     mul-applicate-color
     array-copy-out-applicate-color
+    mul-applicate-color-2
+    array-copy-out-applicate-color-2
     applicate-color-requires
     mul-colours
     array-write-colours

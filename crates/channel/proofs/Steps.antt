@@ -1,0 +1,50 @@
+-- The steps of a channel: small, so that every type holds them, and read off the index word from its low end.
+-- Assumes nothing.
+use mathlib.Core.Path.{_≡_, _∙_, sym, ap}
+use mathlib.Core.List.{List, []}
+use Prim.Native.Nat.{ℕ, _+_, _-_, _*_, _/_, _%_, _^_, _<_}
+use native.Mathlib.Omega.{arith}
+use lib.Dec.{lit<}
+use lib.IntN.{ℤ, pos, _+ℤ_, _*ℤ_}
+use lib.ListN.{getD}
+use lib.Signed.{mag}
+use mir.Syntax.{w16}
+use Rattle.rules.specs.Notation.{byte, bits, build, clamp}
+use Rattle.rules.specs.Channels.{alphaSteps, indexWord, alphaIndex, alphaStep}
+use Rattle.laws.proofs.Every.{below}
+use Rattle.laws.proofs.Filled.{getD-build}
+use Rattle.laws.proofs.Order.{place}
+use Rattle.laws.proofs.Signed.{small, small-at, held, held-small}
+
+-- the step of place k, row by row
+abbrev pub stepAt : List ℕ → ℕ → ℤ
+stepAt d k = alphaStep d (k % 4) (k / 4)
+
+small-row : (n j : ℕ) → n < 16 → mag (getD (getD alphaSteps n []) j (pos 0)) < 16
+small-row n j h = small-at 16 (getD alphaSteps n []) (lit< tt) (below (λ k. small 16 (getD alphaSteps k [])) 16 tt n h) j
+
+pub small-step : (d : List ℕ) (x y : ℕ) → mag (alphaStep d x y) < 16
+unfolding alphaStep
+small-step d x y = small-row (bits 3 0 (byte d 1)) (alphaIndex d (4 * x + y)) (omega arith)
+
+-- what turn i reads is the step of pixel 15 - i
+pub reads : (d : List ℕ) (i l : ℕ) → i < 16 → l ≡ indexWord d / 2 ^ (3 * i) → getD (getD alphaSteps (bits 3 0 (byte d 1)) []) (l % 8) (pos 0) ≡ stepAt d (place (15 - i))
+unfolding alphaStep
+reads d i l h e =
+    let n : 4 * (place (15 - i) % 4) + place (15 - i) / 4 ≡ 15 - i = omega arith in
+    let t : 45 - 3 * (15 - i) ≡ 3 * i = omega arith in
+    rw (n, t, e)
+
+-- the steps of a block as the machine holds them
+pub step-held : (d : List ℕ) (steps : List ℤ) (k : ℕ) → steps ≡ build 16 (stepAt d) → k < 16 → held w16 (getD steps k (pos 0)) ≡ stepAt d k
+step-held d steps k e h =
+    ap (λ (a : List ℤ). held w16 (getD a k (pos 0))) e
+    ∙ ap (held w16) (getD-build (stepAt d) (pos 0) 16 k h)
+    ∙ held-small w16 (stepAt d k) (omega (arith, small-step d (k % 4) (k / 4)))
+
+pub step-small : (d : List ℕ) (steps : List ℤ) (k : ℕ) → steps ≡ build 16 (stepAt d) → k < 16 → mag (held w16 (getD steps k (pos 0))) < 16
+step-small d steps k e h = rw (step-held d steps k e h) (small-step d (k % 4) (k / 4))
+
+-- a base moved by a multiple of a step, and clamped, is the same where its parts are
+pub moved-same : (top : ℕ) {a b s t : ℤ} {m n : ℕ} → a ≡ b → m ≡ n → s ≡ t → clamp top (a +ℤ pos m *ℤ s) ≡ clamp top (b +ℤ pos n *ℤ t)
+moved-same top e f g = cc

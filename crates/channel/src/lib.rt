@@ -1,0 +1,88 @@
+// What eight bytes of a channel hold, and the alpha half: `decode_etc2_a8_block` of src/etc/etc2.rs.
+ghost use mathlib.Core.Path.{_≡_};
+ghost use Prim.Native.Nat.{_+_, _*_, _/_, _%_, _≤_, _<_};
+ghost use lib.IntN.{pos, _+ℤ_, _*ℤ_};
+ghost use lib.ListN.{length, getD};
+ghost use lib.Signed.{mag};
+ghost use Rattle.rules.specs.Notation.{build, byte, bits, clamp as clampTo};
+ghost use Rattle.rules.specs.Channels.{indexWord, alphaStep, alphaByte, withAlpha};
+
+// A byte in the index word's type.
+fn wide(b: u8) -> u64
+    ensures { λ r. ⌜ (r ≡ b) × (r < 256) ⌝ }
+{
+    b as u64
+}
+
+// Four bytes, read big-endian.
+fn four(a: u8, b: u8, c: u8, d: u8) -> u64
+    ensures { λ r. ⌜ (r ≡ a * 16777216 + b * 65536 + c * 256 + d) × (r < 4294967296) ⌝ }
+{
+    wide(a) * 16777216 + wide(b) * 65536 + wide(c) * 256 + wide(d)
+}
+
+// Bytes 2 to 7, read big-endian: the indices, three bits to a pixel.
+fn index_word(d: &[u8]) -> u64
+    requires { ⌜ 8 ≤ length (now d) ⌝ }
+    ensures { λ r. ⌜ r ≡ indexWord (now (d .entry)) ⌝ }
+{
+    four(0, 0, d[2], d[3]) * 4294967296 + four(d[4], d[5], d[6], d[7])
+}
+
+// The multiplier: the high nibble of byte 1. A multiplier of 0 stays 0.
+pub fn multiplier_of(b: u8) -> u8
+    ensures { λ r. ⌜ (r ≡ bits 7 4 b) × (r < 16) ⌝ }
+{
+    b / 16
+}
+
+// The row of the table of steps: the low nibble of byte 1.
+fn row_of(b: u8) -> usize
+    ensures { λ r. ⌜ (r ≡ bits 3 0 b) × (r < 16) ⌝ }
+{
+    (b % 16) as usize
+}
+
+// The step of each pixel, row by row. The last pixel's index stands lowest in the word, so the loop goes backwards.
+pub fn steps_of(d: &[u8]) -> [i16; 16]
+    requires { ⌜ 8 ≤ length (now d) ⌝ }
+    ensures { λ r. ⌜ r ≡ build 16 (λ k. alphaStep (now (d .entry)) (k % 4) (k / 4)) ⌝ }
+{
+    let table = consts::alpha_steps();
+    let order = consts::write_order();
+    let row = row_of(d[1]);
+    let mut l = index_word(d);
+    let mut out = [0i16; 16];
+    let mut i: usize = 0;
+    while i < 16 {
+        out[order[15 - i]] = table[row][(l % 8) as usize] as i16;
+        l = l / 8;
+        i += 1;
+    }
+    out
+}
+
+// The base moved by m times a step, clamped to a byte.
+fn alpha(base: u8, m: u8, s: i16) -> u32
+    requires { ⌜ (m < 16) × (mag s < 16) ⌝ }
+    ensures { λ r. ⌜ (r ≡ clampTo 255 (pos base +ℤ pos m *ℤ s)) × (r < 256) ⌝ }
+{
+    color::clamp(base as i16 + m as i16 * s)
+}
+
+// The pixels with their top bytes replaced by the alpha half; the colours stay.
+pub fn a8_onto(d: &[u8], px: [u32; 16]) -> [u32; 16]
+    requires { ⌜ 8 ≤ length (now d) ⌝ }
+    ensures { λ r. ⌜ r ≡ build 16 (λ k. withAlpha (getD px k 0) (alphaByte (now (d .entry)) (k % 4) (k / 4))) ⌝ }
+{
+    let base = d[0];
+    let m = multiplier_of(d[1]);
+    let steps = steps_of(d);
+    let mut out = px;
+    let mut i: usize = 0;
+    while i < 16 {
+        out[i] = alpha(base, m, steps[i]) * 16777216 + px[i] % 16777216;
+        i += 1;
+    }
+    out
+}

@@ -1,0 +1,88 @@
+-- The four colours of H, for each half the same.
+-- Assumes nothing.
+use mathlib.Core.Path.{_∙_, ap}
+use Rattle.rules.specs.Modes.{hBases, hDistance, hColours}
+use Rattle.shade.proofs.Pick.{halves}
+use Rattle.modes.specs.Fields.{distanceAt}
+use Rattle.modes.proofs.Four.{small-h, h-four}
+use borrow.Author.Needs.{needs}
+use Rattle.modes.proofs.h_colours.Statement.{statement}
+use Rattle.modes.proofs.h_colours.Tie as tie
+
+shared-slice-read-h-fields : tie.Need-shared-slice-read-h-fields
+shared-slice-read-h-fields c = search needs
+
+shared-slice-read-h-fields-2 : tie.Need-shared-slice-read-h-fields-2
+shared-slice-read-h-fields-2 c = search needs
+
+shared-slice-read-h-fields-3 : tie.Need-shared-slice-read-h-fields-3
+shared-slice-read-h-fields-3 c = search needs
+
+shared-slice-read-h-fields-4 : tie.Need-shared-slice-read-h-fields-4
+shared-slice-read-h-fields-4 c = search needs
+
+h-fields-requires : tie.Need-h-fields-requires
+h-fields-requires c κs = search needs
+
+shared-slice-read-h-number : tie.Need-shared-slice-read-h-number
+shared-slice-read-h-number c = search needs
+
+h-number-requires : tie.Need-h-number-requires
+h-number-requires c κs = search needs
+
+distance-requires : tie.Need-distance-requires
+distance-requires c κs = search needs
+
+h-steps-requires : tie.Need-h-steps-requires
+h-steps-requires c κs = search needs
+
+array-copy-out-t17 : tie.Need-array-copy-out-t17
+array-copy-out-t17 c = search needs
+
+array-copy-out-t20 : tie.Need-array-copy-out-t20
+array-copy-out-t20 c = search needs
+
+array-copy-out-t23 : tie.Need-array-copy-out-t23
+array-copy-out-t23 c = search needs
+
+array-copy-out-t26 : tie.Need-array-copy-out-t26
+array-copy-out-t26 c = search needs
+
+four-colours-requires : tie.Need-four-colours-requires
+four-colours-requires c κs k =
+    let s = c .before .before .before .before in
+    rw (s .h-steps .ensures) (small-h (s .before .distance .result) (s .before .distance .ensures .1) k)
+
+joined-requires : tie.Need-joined-requires
+joined-requires c κs = search needs
+
+returns : tie.Need-returns
+returns c =
+    let d = c .before .before .before .before .before .before .before .before .before .before .before .before .before .before .before .before .args .d .now in
+    let f = c .before .before .before .before .before .before .before .before .before .before .h-fields in
+    let n = c .before .before .before .before .before .before .before .before .h-number in
+    let m = c .before .before .before .before .before .before .before .distance in
+    let s = c .before .before .before .before .before .before .h-steps in
+    let e = c .before .four-colours .ensures ∙ h-four d (f .result) (s .result) (m .result) (f .ensures) (m .ensures .0 ∙ ap distanceAt (n .ensures .0)) (s .ensures) in
+    c .joined .ensures ∙ halves (λ h. hColours (hBases d) (hDistance d)) _ _ e e
+
+pub h-colours-spec : {M : Type 1} → statement M
+h-colours-spec =
+    tie.close
+    (tie.spec
+    shared-slice-read-h-fields
+    shared-slice-read-h-fields-2
+    shared-slice-read-h-fields-3
+    shared-slice-read-h-fields-4
+    h-fields-requires
+    shared-slice-read-h-number
+    h-number-requires
+    distance-requires
+    h-steps-requires
+    array-copy-out-t17
+    array-copy-out-t20
+    array-copy-out-t23
+    array-copy-out-t26
+    four-colours-requires
+    joined-requires
+    returns)

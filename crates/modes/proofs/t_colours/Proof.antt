@@ -1,0 +1,94 @@
+-- The four colours of T, for each half the same.
+-- Assumes nothing.
+use mathlib.Core.Path.{_∙_}
+use Rattle.rules.specs.Modes.{tBases, tDistance, tColours}
+use Rattle.shade.proofs.Pick.{halves}
+use Rattle.modes.proofs.Four.{small-t, t-four}
+use borrow.Author.Needs.{needs}
+use Rattle.modes.proofs.t_colours.Statement.{statement}
+use Rattle.modes.proofs.t_colours.Tie as tie
+
+shared-slice-read-t-fields : tie.Need-shared-slice-read-t-fields
+shared-slice-read-t-fields c = search needs
+
+shared-slice-read-t-fields-2 : tie.Need-shared-slice-read-t-fields-2
+shared-slice-read-t-fields-2 c = search needs
+
+shared-slice-read-t-fields-3 : tie.Need-shared-slice-read-t-fields-3
+shared-slice-read-t-fields-3 c = search needs
+
+shared-slice-read-t-fields-4 : tie.Need-shared-slice-read-t-fields-4
+shared-slice-read-t-fields-4 c = search needs
+
+t-fields-requires : tie.Need-t-fields-requires
+t-fields-requires c κs = search needs
+
+shared-slice-read-distance : tie.Need-shared-slice-read-distance
+shared-slice-read-distance c = search needs
+
+mul-distance : tie.Need-mul-distance
+mul-distance c = search needs
+
+shared-slice-read-distance-2 : tie.Need-shared-slice-read-distance-2
+shared-slice-read-distance-2 c = search needs
+
+add-distance : tie.Need-add-distance
+add-distance c = search needs
+
+distance-requires : tie.Need-distance-requires
+distance-requires c κs = search needs
+
+t-steps-requires : tie.Need-t-steps-requires
+t-steps-requires c κs = search needs
+
+array-copy-out-t22 : tie.Need-array-copy-out-t22
+array-copy-out-t22 c = search needs
+
+array-copy-out-t25 : tie.Need-array-copy-out-t25
+array-copy-out-t25 c = search needs
+
+array-copy-out-t28 : tie.Need-array-copy-out-t28
+array-copy-out-t28 c = search needs
+
+array-copy-out-t31 : tie.Need-array-copy-out-t31
+array-copy-out-t31 c = search needs
+
+four-colours-requires : tie.Need-four-colours-requires
+four-colours-requires c κs k =
+    let s = c .before .before .before .before in
+    rw (s .t-steps .ensures) (small-t (s .before .distance .result) (s .before .distance .ensures .1) k)
+
+joined-requires : tie.Need-joined-requires
+joined-requires c κs = search needs
+
+returns : tie.Need-returns
+returns c =
+    let d = c .before .before .before .before .before .before .before .before .before .before .before .before .before .before .before .before .args .d .now in
+    let f = c .before .before .before .before .before .before .before .before .before .before .t-fields in
+    let m = c .before .before .before .before .before .before .before .distance in
+    let s = c .before .before .before .before .before .before .t-steps in
+    let e = c .before .four-colours .ensures ∙ t-four d (f .result) (s .result) (m .result) (f .ensures) (m .ensures .0) (s .ensures) in
+    c .joined .ensures ∙ halves (λ h. tColours (tBases d) (tDistance d)) _ _ e e
+
+pub t-colours-spec : {M : Type 1} → statement M
+t-colours-spec =
+    tie.close
+    (tie.spec
+    shared-slice-read-t-fields
+    shared-slice-read-t-fields-2
+    shared-slice-read-t-fields-3
+    shared-slice-read-t-fields-4
+    t-fields-requires
+    shared-slice-read-distance
+    mul-distance
+    shared-slice-read-distance-2
+    add-distance
+    distance-requires
+    t-steps-requires
+    array-copy-out-t22
+    array-copy-out-t25
+    array-copy-out-t28
+    array-copy-out-t31
+    four-colours-requires
+    joined-requires
+    returns)
