@@ -72,8 +72,8 @@ module _ (s : ℕ) (pic : Picture) (bytes elements : ℕ) where
   short-image w h b e = rw (le-ltb limit (pic .width) w, le-ltb limit (pic .height) h, b, e)
 
   -- and where all pass; and back
-  pub pass : Passed s pic bytes elements → (then : List ℕ) → then ≡ checked s pic bytes elements then
-  pass p then =
+  pub all-pass : Passed s pic bytes elements → (then : List ℕ) → then ≡ checked s pic bytes elements then
+  all-pass p then =
       rw (
         le-ltb limit (pic .width) (p .narrow),
         le-ltb limit (pic .height) (p .low),
@@ -105,5 +105,5 @@ module _ (s : ℕ) (pic : Picture) (bytes elements : ℕ) where
     -- one that passes them and has nothing more to refuse
     pub ends : (new : List ℕ) → Passed s pic bytes elements → then ≡ 0 ∷ [] → new ≡ after → Outcome (checked s pic bytes elements then) after Done old new
     ends new p e f =
-        let q : 0 ∷ [] ≡ checked s pic bytes elements then = sym e ∙ pass p then in
+        let q : 0 ∷ [] ≡ checked s pic bytes elements then = sym e ∙ all-pass p then in
         record { says = q; leaves = f ∙ ap (λ (v : List ℕ). cond (accepts v) after old) q }

@@ -27,7 +27,7 @@ use Rattle.laws.proofs.Range.{exactly}
 use Rattle.blocks.proofs.Formats.{part}
 use Rattle.picture.specs.Run.{Passed}
 use Rattle.picture.proofs.Blocks.{block-in}
-use Rattle.picture.proofs.Checks.{pass, unchanged}
+use Rattle.picture.proofs.Checks.{all-pass, unchanged}
 
 module _ (test : ℕ → Bool) (n : ℕ) where
   -- what holds before turn b of a scan of n blocks
@@ -37,8 +37,8 @@ module _ (test : ℕ → Bool) (n : ℕ) where
   pub begin : Scanned 0
   begin = (omega arith, below-none _)
 
-  pub passes : (b : ℕ) → Scanned b → b < n → test b ≡ false → Scanned (b + 1)
-  passes b s h t = (omega arith, below-more _ b (s .1) t)
+  pub goes-on : (b : ℕ) → Scanned b → b < n → test b ≡ false → Scanned (b + 1)
+  goes-on b s h t = (omega arith, below-more _ b (s .1) t)
 
   -- the scan stops at a block, or comes to the end
   pub found : (b : ℕ) → Scanned b → b < n → test b ≡ true → b ≡ firstOf test n
@@ -54,15 +54,15 @@ module _ (test : ℕ → Bool) (n : ℕ) where
   pub refuses : (s : ℕ) (pic : Picture) (bytes elements f : ℕ) (after old : List ℕ) → Passed s pic bytes elements → f ≡ firstOf test n → f < n → Outcome (checked s pic bytes elements (guarded test n)) after (OutOfRange f) old old
   refuses s pic bytes elements f after old p e h =
       unchanged (checked s pic bytes elements (guarded test n)) after old (OutOfRange f)
-      (ap (λ (z : ℕ). 4 ∷ z ∷ []) e ∙ named ∙ pass s pic bytes elements p (guarded test n))
+      (ap (λ (z : ℕ). 4 ∷ z ∷ []) e ∙ named ∙ all-pass s pic bytes elements p (guarded test n))
       refl
     where
       named : 4 ∷ firstOf test n ∷ [] ≡ guarded test n
       named = rw (lt-ltb (firstOf test n) n (omega arith))
 
   -- none was found: there is nothing more to refuse
-  pub accepts : n ≤ firstOf test n → guarded test n ≡ 0 ∷ []
-  accepts h = rw (le-ltb (firstOf test n) n h)
+  pub nothing-found : n ≤ firstOf test n → guarded test n ≡ 0 ∷ []
+  nothing-found h = rw (le-ltb (firstOf test n) n h)
 
 -- and a picture painted by one rule is then painted by another that agrees on every block that passes the test
 pub agree : (test : ℕ → Bool) (shows other : Shows) (s : ℕ) (pic : Picture) (d old new : List ℕ) → ((n x y : ℕ) → test n ≡ false → shows (bytesOf s d n) x y ≡ other (bytesOf s d n) x y) → blocks pic ≤ firstOf test (blocks pic) → new ≡ painted (inside pic) (pixelAt shows s pic d) old → new ≡ painted (inside pic) (pixelAt other s pic d) old

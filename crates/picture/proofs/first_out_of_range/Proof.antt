@@ -8,7 +8,7 @@ use lib.ListN.{length-take, length-drop}
 use denote.Ref.{now}
 use Rattle.rules.specs.Places.{bytesOf}
 use Rattle.rules.specs.Colour.{outOfRange}
-use Rattle.picture.proofs.Guard.{Scanned, begin, passes, found, ended, in-range, out-of-range}
+use Rattle.picture.proofs.Guard.{Scanned, begin, goes-on, found, ended, in-range, out-of-range}
 use borrow.Author.Needs.{needs}
 use Rattle.picture.proofs.first_out_of_range.Statement.{statement}
 use Rattle.picture.proofs.first_out_of_range.Tie as tie
@@ -64,7 +64,7 @@ loop-again c =
     let l = c .before .before .before .before in
     let a = l .before .before .args in
     let d = now (a .«data») in
-    passes (test d) (a .n) (l .loop .b) (l .loop .inv) (c .before .before .before .loop-test .taken) (in-range d (l .loop .b) (k .result) (k .ensures) (c .match .keys1))
+    goes-on (test d) (a .n) (l .loop .b) (l .loop .inv) (c .before .before .before .loop-test .taken) (in-range d (l .loop .b) (k .result) (k .ensures) (c .match .keys1))
 
 returns-2 : tie.Need-returns-2 Inv-loop μ-loop
 returns-2 c =

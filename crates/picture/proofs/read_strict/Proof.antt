@@ -18,7 +18,7 @@ use Rattle.rules.specs.declared.Picture.{Picture}
 use Rattle.laws.proofs.Range as range
 use Rattle.picture.specs.Run.{Passed}
 use Rattle.picture.proofs.Checks.{refusal, passed, stops, ends}
-use Rattle.picture.proofs.Guard.{refuses, accepts, agree}
+use Rattle.picture.proofs.Guard.{refuses, nothing-found, agree}
 use borrow.Author.Needs.{needs}
 use Rattle.picture.proofs.read_strict.Statement.{statement}
 use Rattle.picture.proofs.read_strict.Tie as tie
@@ -87,7 +87,7 @@ returns-3 c =
     let d = now (s .args .«data») in
     let l = now (s .args .image) in
     let n : blocks (pic s) ≤ firstOf (test s) (blocks (pic s)) = omega (arith, e .if1 .left, f .before .blocks-of .ensures .0, scanned f) in
-    ends 8 (pic s) (length d) (length l) (guarded (test s) (blocks (pic s))) (pictureOf Etc2Rgb (pic s) d l) l _ (clear t) (accepts (test s) (blocks (pic s)) n)
+    ends 8 (pic s) (length d) (length l) (guarded (test s) (blocks (pic s))) (pictureOf Etc2Rgb (pic s) d l) l _ (clear t) (nothing-found (test s) (blocks (pic s)) n)
     (agree (test s) etc1Pixel rgbPixel 8 (pic s) d l _ (λ b x y h. range.agree (bytesOf 8 d b) x y h) n (c .before .before .paint-all .ensures))
 
 pub read-strict-spec : {M : Type 1} → statement M

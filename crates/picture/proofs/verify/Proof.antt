@@ -9,7 +9,7 @@ use borrow.Author.Tests.{ltb-false}
 use lib.Dec.{ltb}
 use Rattle.rules.specs.Places.{blocks}
 use Rattle.picture.proofs.Blocks.{few}
-use Rattle.picture.proofs.Checks.{too-wide, too-high, short-data, short-image, pass}
+use Rattle.picture.proofs.Checks.{too-wide, too-high, short-data, short-image, all-pass}
 use borrow.Author.Needs.{needs}
 use Rattle.picture.proofs.verify.Statement.{statement}
 use Rattle.picture.proofs.verify.Tie as tie
@@ -68,7 +68,7 @@ returns-5 : tie.Need-returns-5
 returns-5 c =
     let b = c .before .before .before in
     let a = start b .args in
-    pass (a .size) (a .pic) (a .bytes) (a .elements)
+    all-pass (a .size) (a .pic) (a .bytes) (a .elements)
     (record {
       narrow = narrow b;
       low = low b;
