@@ -2,9 +2,9 @@
 -- check after these: `then` is what it says once they pass.
 -- Assumes nothing.
 use mathlib.Core.Path.{_≡_, _∙_, refl, sym, ap}
-use mathlib.Core.Bool.{Bool, true, false, cond, _||_}
+use mathlib.Core.Bool.{Bool, true, false, cond, _||_, true≢false}
 use mathlib.Core.List.{List, [], _∷_}
-use Prim.Native.Nat.{ℕ, _*_, _≤_, _<_}
+use Prim.Native.Nat.{ℕ, suc, _*_, _≤_, _<_}
 use native.Mathlib.Omega.{arith}
 use borrow.Author.Tests.{lt-ltb, le-ltb, ltb-false}
 use lib.Dec.{ltb}
@@ -37,12 +37,15 @@ unchanged verdict after old a e r =
 order : Bool → Bool → Bool → Bool → List ℕ → List ℕ
 order w h b e then = cond (w || h) (1 ∷ []) (cond b (2 ∷ []) (cond e (3 ∷ []) then))
 
+nonzero : (n : ℕ) → 0 ∷ [] ≡ suc n ∷ [] → ⊥
+nonzero n p = omega (arith, ap (λ (l : List ℕ). getD l 0 0) p)
+
 clear : (w h b e : Bool) → 0 ∷ [] ≡ order w h b e (0 ∷ []) → (w ≡ false) × (h ≡ false) × (b ≡ false) × (e ≡ false)
 unfolding order
-clear true h b e p = absurd (omega (arith, ap (λ (l : List ℕ). getD l 0 0) p))
-clear false true b e p = absurd (omega (arith, ap (λ (l : List ℕ). getD l 0 0) p))
-clear false false true e p = absurd (omega (arith, ap (λ (l : List ℕ). getD l 0 0) p))
-clear false false false true p = absurd (omega (arith, ap (λ (l : List ℕ). getD l 0 0) p))
+clear true h b e p = absurd (nonzero 0 p)
+clear false true b e p = absurd (nonzero 0 p)
+clear false false true e p = absurd (nonzero 1 p)
+clear false false false true p = absurd (nonzero 2 p)
 clear false false false false p = (refl, refl, refl, refl)
 
 -- a check that fails is not followed by another
@@ -52,10 +55,7 @@ halted true h b e then p = refl
 halted false true b e then p = refl
 halted false false true e then p = refl
 halted false false false true then p = refl
-halted false false false false then p = absurd (wrong p)
-  where
-    wrong : true ≡ false → ⊥
-    wrong q = omega (arith, ap (λ (t : Bool). cond {A = ℕ} t 1 0) q)
+halted false false false false then p = absurd (true≢false p)
 
 module _ (s : ℕ) (pic : Picture) (bytes elements : ℕ) where
   -- each check, where it is the first to fail
