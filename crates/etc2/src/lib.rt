@@ -31,11 +31,7 @@ fn colours_of(d: &[u8], kind: Kind, opaque: bool) -> [u32; 8]
 fn punched(c: [u32; 8], opaque: bool) -> [u32; 8]
     ensures { λ r. ⌜ r ≡ cond opaque c (getD c 0 0 ∷ getD c 1 0 ∷ 0 ∷ getD c 3 0 ∷ getD c 4 0 ∷ getD c 5 0 ∷ 0 ∷ getD c 7 0 ∷ []) ⌝ }
 {
-    if opaque {
-        c
-    } else {
-        [c[0], c[1], 0, c[3], c[4], c[5], 0, c[7]]
-    }
+    if opaque { c } else { [c[0], c[1], 0, c[3], c[4], c[5], 0, c[7]] }
 }
 
 // The sixteen pixels of a colour block of a kind, row by row.
