@@ -5,3 +5,4 @@ pub mod Signed
 pub mod Diff
 pub mod Order
 pub mod Paint
+pub mod Parts
