@@ -16,7 +16,7 @@ madeColours steps Individual d h = halfColours (getD (individual d) h []) (steps
 madeColours steps Differential d h = halfColours (getD (wrapping d) h []) (steps (code d h))
 madeColours steps T d h = tColours (tBases d) (tDistance d)
 madeColours steps H d h = hColours (hBases d) (hDistance d)
-madeColours steps Planar d h = halfColours (getD (wrapping d) h []) (steps (code d h))
+madeColours steps Planar d h = []
 
 -- four colours, of which index 2 is transparent where the block is not opaque
 abbrev pub punched : Bool → List ℕ → List ℕ

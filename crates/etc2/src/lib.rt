@@ -13,7 +13,7 @@ ghost use Rattle.shade.specs.Pick.{eight};
 ghost use Rattle.etc1.specs.Halves.{stepsWhere};
 ghost use Rattle.etc2.specs.Colours.{madeColours, punched as punchedOf, colourPixel};
 
-// The eight colours of a block. Planar has none, and what stands for it here is not used.
+// The eight colours of a block. Planar has none, and gets eight that are not used.
 fn colours_of(d: &[u8], kind: Kind, opaque: bool) -> [u32; 8]
     requires { ⌜ 8 ≤ length (now d) ⌝ }
     ensures { λ r. ⌜ r ≡ eight (madeColours (stepsWhere opaque) kind (now (d .entry))) ⌝ }
@@ -23,7 +23,7 @@ fn colours_of(d: &[u8], kind: Kind, opaque: bool) -> [u32; 8]
         Kind::Differential => etc1::both_halves(d, etc1::differential_bases(d), opaque),
         Kind::T => modes::t_colours(d),
         Kind::H => modes::h_colours(d),
-        Kind::Planar => etc1::both_halves(d, etc1::differential_bases(d), opaque),
+        Kind::Planar => [0; 8],
     }
 }
 
@@ -31,7 +31,11 @@ fn colours_of(d: &[u8], kind: Kind, opaque: bool) -> [u32; 8]
 fn punched(c: [u32; 8], opaque: bool) -> [u32; 8]
     ensures { λ r. ⌜ r ≡ cond opaque c (getD c 0 0 ∷ getD c 1 0 ∷ 0 ∷ getD c 3 0 ∷ getD c 4 0 ∷ getD c 5 0 ∷ 0 ∷ getD c 7 0 ∷ []) ⌝ }
 {
-    if opaque { c } else { [c[0], c[1], 0, c[3], c[4], c[5], 0, c[7]] }
+    if opaque {
+        c
+    } else {
+        [c[0], c[1], 0, c[3], c[4], c[5], 0, c[7]]
+    }
 }
 
 // The sixteen pixels of a colour block of a kind, row by row.

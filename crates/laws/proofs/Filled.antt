@@ -45,3 +45,7 @@ module _ {A : Type 0} (f : ℕ → A) (d : A) where
         | yes s ↦ ap (λ (j : ℕ). getD (set l o v) j d) s ∙ getD-set-same l o v d h ∙ e ∙ ap f (sym s)
         | no s ↦ getD-set-other l o k v d s ∙ q k b (⊎-elim (λ t. absurd (s (u k b t))) (λ t. t) (eq-or-lt-of-le {n = p k} {m = i} (omega arith)))
       ]
+
+-- two rules that agree make the same list
+pub build-same : {A : Type 0} (z : A) (g f : ℕ → A) (n : ℕ) → ((k : ℕ) → k < n → g k ≡ f k) → build n g ≡ build n f
+build-same z g f n e = is-build f z n (build n g) (length-build g z n) (λ k h. getD-build g z n k h ∙ e k h)

@@ -1,6 +1,7 @@
 pub mod Every
 pub mod Filled
 pub mod Filling
+pub mod Parts
 pub mod Signed
 pub mod Diff
 pub mod Order

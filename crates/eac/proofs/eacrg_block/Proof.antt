@@ -1,14 +1,13 @@
 -- The bytes of the two halves, put into the pixels; the second half is the part of the lent bytes from byte 8.
 -- Assumes nothing.
 use mathlib.Core.List.{List}
-use mathlib.Core.Path.{_≡_, _∙_, ap}
-use Prim.Native.Nat.{ℕ, _-_}
-use native.Mathlib.Omega.{arith}
-use lib.ListN.{length, getD, take, drop, length-drop}
-use lib.Seq.{take-all}
+use mathlib.Core.Path.{_∙_, ap}
+use Prim.Native.Nat.{ℕ}
+use lib.ListN.{getD}
 use Rattle.rules.specs.Notation.{build}
 use Rattle.rules.specs.Pixel.{word}
 use Rattle.rules.specs.Channels.{redGreenPixel}
+use Rattle.laws.proofs.Parts.{rest}
 use Rattle.eac.proofs.Bytes.{byteAt, byte-small}
 use borrow.Author.Needs.{needs}
 use Rattle.eac.proofs.eacrg_block.Statement.{statement}
@@ -35,9 +34,6 @@ red-green-requires c κs =
     let g = c .eac-bytes2 in
     λ k h. (byte-small _ _ (r .result) k (r .ensures) h, byte-small _ _ (g .result) k (g .ensures) h)
 
-rest : (d : List ℕ) → take (length d - 8) (drop 8 d) ≡ drop 8 d
-rest d = take-all (length d - 8) (drop 8 d) (simp length-drop (omega arith))
-
 returns : tie.Need-returns
 unfolding redGreenPixel
 returns c =
@@ -47,7 +43,7 @@ returns c =
     c .red-green .ensures
     ∙ ap (λ (red : List ℕ). build 16 (λ k. word 255 (getD red k 0) (getD (g .result) k 0) 0)) (r .ensures)
     ∙ ap (λ (green : List ℕ). build 16 (λ k. word 255 (byteAt (s .signed) (s .d .now) k) (getD green k 0) 0)) (g .ensures)
-    ∙ ap (λ (half : List ℕ). build 16 (λ k. word 255 (byteAt (s .signed) (s .d .now) k) (byteAt (s .signed) half k) 0)) (rest (s .d .now))
+    ∙ ap (λ (half : List ℕ). build 16 (λ k. word 255 (byteAt (s .signed) (s .d .now) k) (byteAt (s .signed) half k) 0)) (rest 8 (s .d .now))
 
 pub eacrg-block-spec : {M : Type 1} → statement M
 eacrg-block-spec =

@@ -1,0 +1,12 @@
+-- What a part of a lent slice holds.
+-- Assumes nothing.
+use mathlib.Core.Path.{_≡_}
+use mathlib.Core.List.{List}
+use Prim.Native.Nat.{ℕ, _-_}
+use native.Mathlib.Omega.{arith}
+use lib.ListN.{length, take, drop, length-drop}
+use lib.Seq.{take-all}
+
+-- `&d[n..]` is the list without its first n elements
+pub rest : (n : ℕ) (d : List ℕ) → take (length d - n) (drop n d) ≡ drop n d
+rest n d = take-all (length d - n) (drop n d) (simp length-drop (omega arith))
