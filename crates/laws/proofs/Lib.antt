@@ -11,4 +11,5 @@ pub mod Range
 pub mod Word
 pub mod First
 pub mod Unique
+pub mod Outcome
 pub mod Own

@@ -1,0 +1,83 @@
+-- The channel is checked first; then it is as the alpha half is.
+-- Assumes nothing.
+use mathlib.Core.Path.{_≡_, _∙_, sym, ap}
+use Prim.Native.Nat.{_/_, _%_, _≤_}
+use lib.ListN.{length, getD}
+use denote.Ref.{now}
+use Rattle.rules.specs.Answers.{blockVerdict}
+use Rattle.laws.proofs.Outcome.{refusal, unchanged, done}
+use Rattle.single.proofs.Block.{Passed, passed, sixteen}
+use mathlib.Core.List.{List}
+use Prim.Native.Nat.{ℕ}
+use mathlib.Core.Path.{refl}
+use borrow.Author.Tests.{lt-ltb}
+use Rattle.rules.specs.Notation.{build}
+use Rattle.rules.specs.Answers.{channelVerdict}
+use Rattle.rules.specs.Channels.{orChannel, eacByte}
+use Rattle.rules.specs.declared.Answer.the-variants.{NoChannel}
+use Rattle.single.proofs.Block.{channel-checked}
+use borrow.Author.Needs.{needs}
+use Rattle.single.proofs.read_channel.Statement.{statement}
+use Rattle.single.proofs.read_channel.Tie as tie
+
+abbrev start : tie.After-verify → tie.Start
+start c = c .before .before .before .before
+
+-- where the answer is Done, both checks have passed
+clear : (c : tie.After-enum-told) → Passed 8 (length (now (start (c .before .before) .args .«data»))) (length (now (start (c .before .before) .args .image)))
+clear c = passed _ _ _ _ (c .before .before .verify .ensures) (c .enum-told .given .1)
+
+-- the channel is one of four, so these are the checks that are left
+four : (c : tie.After-verify) → blockVerdict 8 (length (now (start c .args .«data»))) (length (now (start c .args .image))) ≡ channelVerdict (start c .args .channel) (length (now (start c .args .«data»))) (length (now (start c .args .image)))
+four c = channel-checked (start c .args .channel) (length (now (start c .args .«data»))) (length (now (start c .args .image))) (c .before .if1 .left)
+
+returns : tie.Need-returns
+returns c =
+    let a = c .before .before .before .args in
+    unchanged _ _ (now (a .image)) NoChannel (rw (lt-ltb 3 (a .channel) (c .if1 .taken))) refl
+
+verify-requires : tie.Need-verify-requires
+verify-requires c κs = search needs
+
+enum-told : tie.Need-enum-told
+enum-told c = search needs
+
+returns-2 : tie.Need-returns-2
+returns-2 c =
+    let v = c .before in
+    unchanged _ _ (now (start v .args .image)) (v .verify .result) (v .verify .ensures ∙ four v) (refusal (v .verify .result) (c .match .keys2))
+
+first-sixteen-requires : tie.Need-first-sixteen-requires
+first-sixteen-requires c κs = clear (c .before) .room
+
+eac-onto-requires : tie.Need-eac-onto-requires
+eac-onto-requires c κs = (clear (c .before .before) .enough, search needs)
+
+place-block-requires : tie.Need-place-block-requires
+place-block-requires c κs = clear (c .before .before .before .before) .room
+
+same-length : tie.Need-same-length
+same-length c = search needs
+
+returns-3 : tie.Need-returns-3
+returns-3 c =
+    let t = c .before .before .before .before .before .before .before in
+    let a = start (t .before .before) .args in
+    let d = now (a .«data») in
+    let l = now (a .image) in
+    let e = c .before .before .before .before .eac-onto .ensures ∙ ap (λ (s : List ℕ). build 16 (λ k. orChannel (a .channel) (getD s k 0) (eacByte (a .signed) d (k % 4) (k / 4)))) (c .before .before .before .before .before .first-sixteen .ensures) in
+    done _ _ l _ (clear t .zero ∙ four (t .before .before)) (c .before .before .place-block .ensures ∙ sixteen (λ k. orChannel (a .channel) (getD l k 0) (eacByte (a .signed) d (k % 4) (k / 4))) _ l e)
+
+pub read-channel-spec : {M : Type 1} → statement M
+read-channel-spec =
+    tie.close
+    (tie.spec
+    returns
+    verify-requires
+    enum-told
+    returns-2
+    first-sixteen-requires
+    eac-onto-requires
+    place-block-requires
+    same-length
+    returns-3)

@@ -1,0 +1,62 @@
+// Single blocks: the checks, then sixteen pixels into the elements 0 to 15. One reader serves the eight formats; the alpha half and
+// a single channel, which join what stood there, have one each.
+use rules::Answer;
+use rules::Format;
+ghost use mathlib.Core.Path.{_≡_};
+ghost use lib.ListN.{length};
+ghost use Rattle.rules.specs.Answers.{said, blockVerdict, channelVerdict};
+ghost use Rattle.rules.specs.Readers.{ReadsBlock, ReadsAlpha, ReadsChannel};
+
+// The checks that all block readers share, whatever the numbers.
+fn verify(size: usize, bytes: usize, elements: usize) -> Answer
+    ensures { λ r. ⌜ said r ≡ blockVerdict size bytes elements ⌝ }
+{
+    if bytes < size {
+        return Answer::ShortData;
+    }
+    if elements < 16 {
+        return Answer::ShortImage;
+    }
+    Answer::Done
+}
+
+// Reads a block of any format.
+pub fn read_block(f: Format, data: &[u8], image: &mut [u32]) -> Answer
+    ensures { λ r. ⌜ ReadsBlock f (now («data» .entry)) (now (image .entry)) r (now (image .exit)) ⌝ }
+{
+    let answer = verify(blocks::size(f), data.len(), image.len());
+    let Answer::Done = answer else {
+        return answer;
+    };
+    place::place_block(blocks::block(f, data), image);
+    Answer::Done
+}
+
+// Reads an alpha half onto what stood there.
+pub fn read_alpha(data: &[u8], image: &mut [u32]) -> Answer
+    ensures { λ r. ⌜ ReadsAlpha (now («data» .entry)) (now (image .entry)) r (now (image .exit)) ⌝ }
+{
+    let answer = verify(8, data.len(), image.len());
+    let Answer::Done = answer else {
+        return answer;
+    };
+    let stood = place::first_sixteen(image);
+    place::place_block(channel::a8_onto(data, stood), image);
+    Answer::Done
+}
+
+// Reads a single channel, 0 blue, 1 green, 2 red or 3 alpha, onto what stood there.
+pub fn read_channel(signed: bool, data: &[u8], channel: usize, image: &mut [u32]) -> Answer
+    ensures { λ r. ⌜ ReadsChannel signed (now («data» .entry)) channel (now (image .entry)) r (now (image .exit)) ⌝ }
+{
+    if 3 < channel {
+        return Answer::NoChannel;
+    }
+    let answer = verify(8, data.len(), image.len());
+    let Answer::Done = answer else {
+        return answer;
+    };
+    let stood = place::first_sixteen(image);
+    place::place_block(eac::eac_onto(data, signed, channel, stood), image);
+    Answer::Done
+}
