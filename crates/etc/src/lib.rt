@@ -1,0 +1,149 @@
+// The public list of src/etc.rs: eleven block readers, eight picture readers and strict ETC1. None asks anything of its caller.
+// Each promises the answer and every element of the lent image afterwards, for all inputs; what that is, crates/rules/specs/Readers.antt
+// says for all of them. Refusals: 1 width or height above 16,384; 2 too few bytes; 3 too few elements; 4 a block out of range, with its
+// number (strict only); 5 a channel above 3. A refusal changes nothing.
+use rules::Answer;
+use rules::Format;
+ghost use mathlib.Core.Bool.{true, false};
+ghost use Rattle.rules.specs.Readers.{ReadsPicture, ReadsStrict, ReadsBlock, ReadsAlpha, ReadsChannel};
+
+// Reads an ETC1 picture.
+pub fn decode_etc1(data: &[u8], width: usize, height: usize, image: &mut [u32]) -> Answer
+    ensures { λ r. ⌜ ReadsPicture Format.Etc1 (now («data» .entry)) width height (now (image .entry)) r (now (image .exit)) ⌝ }
+{
+    picture::read(Format::Etc1, data, width, height, image)
+}
+
+// Reads an ETC2 RGB picture.
+pub fn decode_etc2_rgb(data: &[u8], width: usize, height: usize, image: &mut [u32]) -> Answer
+    ensures { λ r. ⌜ ReadsPicture Format.Etc2Rgb (now («data» .entry)) width height (now (image .entry)) r (now (image .exit)) ⌝ }
+{
+    picture::read(Format::Etc2Rgb, data, width, height, image)
+}
+
+// Reads an ETC2 RGBA1 picture.
+pub fn decode_etc2_rgba1(data: &[u8], width: usize, height: usize, image: &mut [u32]) -> Answer
+    ensures { λ r. ⌜ ReadsPicture Format.Etc2Rgba1 (now («data» .entry)) width height (now (image .entry)) r (now (image .exit)) ⌝ }
+{
+    picture::read(Format::Etc2Rgba1, data, width, height, image)
+}
+
+// Reads an ETC2 RGBA8 picture.
+pub fn decode_etc2_rgba8(data: &[u8], width: usize, height: usize, image: &mut [u32]) -> Answer
+    ensures { λ r. ⌜ ReadsPicture Format.Etc2Rgba8 (now («data» .entry)) width height (now (image .entry)) r (now (image .exit)) ⌝ }
+{
+    picture::read(Format::Etc2Rgba8, data, width, height, image)
+}
+
+// Reads an EAC R picture.
+pub fn decode_eacr(data: &[u8], width: usize, height: usize, image: &mut [u32]) -> Answer
+    ensures { λ r. ⌜ ReadsPicture Format.EacR (now («data» .entry)) width height (now (image .entry)) r (now (image .exit)) ⌝ }
+{
+    picture::read(Format::EacR, data, width, height, image)
+}
+
+// Reads a signed EAC R picture.
+pub fn decode_eacr_signed(data: &[u8], width: usize, height: usize, image: &mut [u32]) -> Answer
+    ensures { λ r. ⌜ ReadsPicture Format.EacRSigned (now («data» .entry)) width height (now (image .entry)) r (now (image .exit)) ⌝ }
+{
+    picture::read(Format::EacRSigned, data, width, height, image)
+}
+
+// Reads an EAC RG picture.
+pub fn decode_eacrg(data: &[u8], width: usize, height: usize, image: &mut [u32]) -> Answer
+    ensures { λ r. ⌜ ReadsPicture Format.EacRg (now («data» .entry)) width height (now (image .entry)) r (now (image .exit)) ⌝ }
+{
+    picture::read(Format::EacRg, data, width, height, image)
+}
+
+// Reads a signed EAC RG picture.
+pub fn decode_eacrg_signed(data: &[u8], width: usize, height: usize, image: &mut [u32]) -> Answer
+    ensures { λ r. ⌜ ReadsPicture Format.EacRgSigned (now («data» .entry)) width height (now (image .entry)) r (now (image .exit)) ⌝ }
+{
+    picture::read(Format::EacRgSigned, data, width, height, image)
+}
+
+// Reads an ETC1 picture that holds no block out of range, and refuses any other with the number of the first such block. Each
+// pixel that it paints is the one that the ETC2 RGB rule gives.
+pub fn decode_etc1_strict(data: &[u8], width: usize, height: usize, image: &mut [u32]) -> Answer
+    ensures { λ r. ⌜ ReadsStrict (now («data» .entry)) width height (now (image .entry)) r (now (image .exit)) ⌝ }
+{
+    picture::read_strict(data, width, height, image)
+}
+
+// Reads an ETC1 block of 8 bytes into the elements 0 to 15.
+pub fn decode_etc1_block(data: &[u8], image: &mut [u32]) -> Answer
+    ensures { λ r. ⌜ ReadsBlock Format.Etc1 (now («data» .entry)) (now (image .entry)) r (now (image .exit)) ⌝ }
+{
+    single::read_block(Format::Etc1, data, image)
+}
+
+// Reads an ETC2 RGB block of 8 bytes into the elements 0 to 15.
+pub fn decode_etc2_rgb_block(data: &[u8], image: &mut [u32]) -> Answer
+    ensures { λ r. ⌜ ReadsBlock Format.Etc2Rgb (now («data» .entry)) (now (image .entry)) r (now (image .exit)) ⌝ }
+{
+    single::read_block(Format::Etc2Rgb, data, image)
+}
+
+// Reads an ETC2 RGBA1 block of 8 bytes into the elements 0 to 15.
+pub fn decode_etc2_rgba1_block(data: &[u8], image: &mut [u32]) -> Answer
+    ensures { λ r. ⌜ ReadsBlock Format.Etc2Rgba1 (now («data» .entry)) (now (image .entry)) r (now (image .exit)) ⌝ }
+{
+    single::read_block(Format::Etc2Rgba1, data, image)
+}
+
+// Reads an ETC2 RGBA8 block of 16 bytes into the elements 0 to 15.
+pub fn decode_etc2_rgba8_block(data: &[u8], image: &mut [u32]) -> Answer
+    ensures { λ r. ⌜ ReadsBlock Format.Etc2Rgba8 (now («data» .entry)) (now (image .entry)) r (now (image .exit)) ⌝ }
+{
+    single::read_block(Format::Etc2Rgba8, data, image)
+}
+
+// Reads an EAC R block of 8 bytes into the elements 0 to 15.
+pub fn decode_eacr_block(data: &[u8], image: &mut [u32]) -> Answer
+    ensures { λ r. ⌜ ReadsBlock Format.EacR (now («data» .entry)) (now (image .entry)) r (now (image .exit)) ⌝ }
+{
+    single::read_block(Format::EacR, data, image)
+}
+
+// Reads a signed EAC R block of 8 bytes into the elements 0 to 15.
+pub fn decode_eacr_signed_block(data: &[u8], image: &mut [u32]) -> Answer
+    ensures { λ r. ⌜ ReadsBlock Format.EacRSigned (now («data» .entry)) (now (image .entry)) r (now (image .exit)) ⌝ }
+{
+    single::read_block(Format::EacRSigned, data, image)
+}
+
+// Reads an EAC RG block of 16 bytes into the elements 0 to 15.
+pub fn decode_eacrg_block(data: &[u8], image: &mut [u32]) -> Answer
+    ensures { λ r. ⌜ ReadsBlock Format.EacRg (now («data» .entry)) (now (image .entry)) r (now (image .exit)) ⌝ }
+{
+    single::read_block(Format::EacRg, data, image)
+}
+
+// Reads a signed EAC RG block of 16 bytes into the elements 0 to 15.
+pub fn decode_eacrg_signed_block(data: &[u8], image: &mut [u32]) -> Answer
+    ensures { λ r. ⌜ ReadsBlock Format.EacRgSigned (now («data» .entry)) (now (image .entry)) r (now (image .exit)) ⌝ }
+{
+    single::read_block(Format::EacRgSigned, data, image)
+}
+
+// Reads an alpha half of 8 bytes into the top bytes of the elements 0 to 15, and keeps the rest of them.
+pub fn decode_etc2_a8_block(data: &[u8], image: &mut [u32]) -> Answer
+    ensures { λ r. ⌜ ReadsAlpha (now («data» .entry)) (now (image .entry)) r (now (image .exit)) ⌝ }
+{
+    single::read_alpha(data, image)
+}
+
+// Reads an EAC block of 8 bytes and ORs its bytes into channel 0 blue, 1 green, 2 red or 3 alpha of the elements 0 to 15.
+pub fn decode_eac_block(data: &[u8], channel: usize, image: &mut [u32]) -> Answer
+    ensures { λ r. ⌜ ReadsChannel false (now («data» .entry)) channel (now (image .entry)) r (now (image .exit)) ⌝ }
+{
+    single::read_channel(false, data, channel, image)
+}
+
+// The same of a signed EAC block.
+pub fn decode_eac_signed_block(data: &[u8], channel: usize, image: &mut [u32]) -> Answer
+    ensures { λ r. ⌜ ReadsChannel true (now («data» .entry)) channel (now (image .entry)) r (now (image .exit)) ⌝ }
+{
+    single::read_channel(true, data, channel, image)
+}
