@@ -1,0 +1,36 @@
+-- "A reader's statement determines the answer and every element of the lent image afterwards, for all inputs, refused ones
+-- included. It is shown that no second outcome could satisfy it." Below: one lemma, applied to the promise of each reader.
+-- Assumes nothing.
+use mathlib.Core.Path.{_≡_}
+use mathlib.Core.Bool.{Bool}
+use mathlib.Core.List.{List}
+use Prim.Native.Nat.{ℕ}
+use Rattle.rules.specs.Readers.{ReadsPicture, ReadsStrict, ReadsBlock, ReadsAlpha, ReadsChannel}
+use Rattle.rules.specs.declared.Answer.{Answer}
+use Rattle.rules.specs.declared.Format.{Format}
+use Rattle.laws.proofs.Unique.{no-second-outcome}
+
+-- two outcomes, each an answer and an image, are one
+abbrev pub Same : Answer → Answer → List ℕ → List ℕ → Type 0
+Same a b new new' = (a ≡ b) × (new ≡ new')
+
+module _ (d image : List ℕ) (a b : Answer) (new new' : List ℕ) where
+  -- the eight picture readers
+  pub picture-determined : (f : Format) (w h : ℕ) → ReadsPicture f d w h image a new → ReadsPicture f d w h image b new' → Same a b new new'
+  picture-determined f w h p q = no-second-outcome _ _ image a b new new' p q
+
+  -- strict ETC1
+  pub strict-determined : (w h : ℕ) → ReadsStrict d w h image a new → ReadsStrict d w h image b new' → Same a b new new'
+  strict-determined w h p q = no-second-outcome _ _ image a b new new' p q
+
+  -- the eight block readers of the formats
+  pub block-determined : (f : Format) → ReadsBlock f d image a new → ReadsBlock f d image b new' → Same a b new new'
+  block-determined f p q = no-second-outcome _ _ image a b new new' p q
+
+  -- the alpha half
+  pub alpha-determined : ReadsAlpha d image a new → ReadsAlpha d image b new' → Same a b new new'
+  alpha-determined p q = no-second-outcome _ _ image a b new new' p q
+
+  -- a single channel, unsigned and signed
+  pub channel-determined : (signed : Bool) (channel : ℕ) → ReadsChannel signed d channel image a new → ReadsChannel signed d channel image b new' → Same a b new new'
+  channel-determined signed channel p q = no-second-outcome _ _ image a b new new' p q
