@@ -1,11 +1,9 @@
--- What is known of a format, once a match has told which it is; and block n, as a part of the data.
+-- What is known of a format, once a match has told which it is.
 -- Assumes nothing.
 use mathlib.Core.Path.{_≡_, sym, ap, subst}
 use mathlib.Core.List.{List}
-use Prim.Native.Nat.{ℕ, _+_, _-_, _*_, _≤_, _<_}
-use native.Mathlib.Omega.{arith}
-use lib.ListN.{take, drop}
-use Rattle.rules.specs.Places.{tile, bytesOf}
+use Prim.Native.Nat.{ℕ, _≤_, _<_}
+use Rattle.rules.specs.Places.{tile}
 use Rattle.rules.specs.Formats.{sizeOf, showsOf}
 use Rattle.rules.specs.declared.Format.{Format}
 
@@ -20,7 +18,3 @@ enough {n = n} e h = subst (λ (g : Format). sizeOf g ≤ n) e h
 -- what its bytes show
 pub shown : {f g : Format} (d : List ℕ) → f ≡ g → tile (showsOf g) d ≡ tile (showsOf f) d
 shown d e = sym (ap (λ (g : Format). tile (showsOf g) d) e)
-
--- block n, as it is lent
-pub part : (s n : ℕ) (d : List ℕ) → take (n * s + s - n * s) (drop (n * s) d) ≡ bytesOf s d n
-part s n d = let e : n * s + s - n * s ≡ s = omega arith in rw e

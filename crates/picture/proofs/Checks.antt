@@ -9,29 +9,13 @@ use native.Mathlib.Omega.{arith}
 use borrow.Author.Tests.{lt-ltb, le-ltb, ltb-false}
 use lib.Dec.{ltb}
 use lib.ListN.{getD}
-use types.Run.{OneOf, miss}
-use denote.Enum.Declared
 use Rattle.rules.specs.Places.{blocks}
 use Rattle.rules.specs.Answers.{said, accepts, limit, checked, verdict, Outcome}
 use Rattle.rules.specs.declared.Picture.{Picture}
 use Rattle.rules.specs.declared.Answer.{Answer}
-use Rattle.rules.specs.declared.Answer.the-variants.{Done, TooLarge, ShortData, ShortImage, OutOfRange, NoChannel}
-use Rattle.rules.proofs.Answer.{the-type}
+use Rattle.rules.specs.declared.Answer.the-variants.{Done}
+use Rattle.laws.proofs.Outcome.{unchanged, done}
 use Rattle.picture.specs.Run.{Passed}
-
--- every answer but Done is a refusal
-pub refusal : (a : Answer) → OneOf (1 ∷ 2 ∷ 3 ∷ 4 ∷ 5 ∷ []) (Declared.tagOf the-type a) → accepts (said a) ≡ false
-refusal Done t = absurd (miss (1 ∷ 2 ∷ 3 ∷ 4 ∷ 5 ∷ []) 0 tt t)
-refusal TooLarge t = refl
-refusal ShortData t = refl
-refusal ShortImage t = refl
-refusal (OutOfRange n) t = refl
-refusal NoChannel t = refl
-
--- a refusal changes nothing
-pub unchanged : (verdict after old : List ℕ) (a : Answer) → said a ≡ verdict → accepts (said a) ≡ false → Outcome verdict after a old old
-unchanged verdict after old a e r =
-    record { says = e; leaves = sym (ap (λ (t : Bool). cond t after old) (sym (ap accepts e) ∙ r)) }
 
 -- the order of the checks, by their tests
 order : Bool → Bool → Bool → Bool → List ℕ → List ℕ
@@ -104,6 +88,4 @@ module _ (s : ℕ) (pic : Picture) (bytes elements : ℕ) where
 
     -- one that passes them and has nothing more to refuse
     pub ends : (new : List ℕ) → Passed s pic bytes elements → then ≡ 0 ∷ [] → new ≡ after → Outcome (checked s pic bytes elements then) after Done old new
-    ends new p e f =
-        let q : 0 ∷ [] ≡ checked s pic bytes elements then = sym e ∙ all-pass p then in
-        record { says = q; leaves = f ∙ ap (λ (v : List ℕ). cond (accepts v) after old) q }
+    ends new p e f = done (checked s pic bytes elements then) after old new (sym e ∙ all-pass p then) f

@@ -22,12 +22,13 @@ use Rattle.rules.specs.declared.Kind.the-variants.{Individual, Differential, T,
 use Rattle.rules.proofs.Kind.{the-type}
 use Rattle.laws.specs.Kinds.{strange}
 use Rattle.laws.proofs.First.{first, only}
+use Rattle.laws.proofs.Outcome.{unchanged}
 use Rattle.laws.proofs.Paint.{painted-same}
+use Rattle.laws.proofs.Parts.{part}
 use Rattle.laws.proofs.Range.{exactly}
-use Rattle.blocks.proofs.Formats.{part}
 use Rattle.picture.specs.Run.{Passed}
 use Rattle.picture.proofs.Blocks.{block-in}
-use Rattle.picture.proofs.Checks.{all-pass, unchanged}
+use Rattle.picture.proofs.Checks.{all-pass}
 
 module _ (test : ℕ → Bool) (n : ℕ) where
   -- what holds before turn b of a scan of n blocks

@@ -7,7 +7,7 @@ use lib.ListN.{length}
 use denote.Ref.{now}
 use Rattle.rules.specs.Places.{tile, bytesOf}
 use Rattle.rules.specs.Formats.{showsOf}
-use Rattle.blocks.proofs.Formats.{part}
+use Rattle.laws.proofs.Parts.{part}
 use borrow.Author.Needs.{needs}
 use Rattle.blocks.proofs.block_at.Statement.{statement}
 use Rattle.blocks.proofs.block_at.Tie as tie

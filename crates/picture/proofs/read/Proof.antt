@@ -9,7 +9,8 @@ use Rattle.rules.specs.Answers.{said}
 use Rattle.rules.specs.Formats.{sizeOf}
 use Rattle.rules.specs.Readers.{pictureOf, pictureVerdict}
 use Rattle.picture.specs.Run.{Passed}
-use Rattle.picture.proofs.Checks.{refusal, passed, stops, ends}
+use Rattle.laws.proofs.Outcome.{refusal}
+use Rattle.picture.proofs.Checks.{passed, stops, ends}
 use borrow.Author.Needs.{needs}
 use Rattle.picture.proofs.read.Statement.{statement}
 use Rattle.picture.proofs.read.Tie as tie

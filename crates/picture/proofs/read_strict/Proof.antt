@@ -17,7 +17,8 @@ use Rattle.rules.specs.declared.Format.the-variants.{Etc2Rgb}
 use Rattle.rules.specs.declared.Picture.{Picture}
 use Rattle.laws.proofs.Range as range
 use Rattle.picture.specs.Run.{Passed}
-use Rattle.picture.proofs.Checks.{refusal, passed, stops, ends}
+use Rattle.laws.proofs.Outcome.{refusal}
+use Rattle.picture.proofs.Checks.{passed, stops, ends}
 use Rattle.picture.proofs.Guard.{refuses, nothing-found, agree}
 use borrow.Author.Needs.{needs}
 use Rattle.picture.proofs.read_strict.Statement.{statement}
