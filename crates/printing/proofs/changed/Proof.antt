@@ -5,44 +5,36 @@ use Prim.Native.Nat.{_≤_, _-_}
 use lib.ListN.{length}
 use mathlib.Core.Logic.{⊎-elim}
 use native.Mathlib.Omega.{arith}
-use Rattle.block_cases.proofs.changed.Statement.{statement}
-use Rattle.block_cases.proofs.changed.Tie as tie
+use Rattle.printing.proofs.changed.Statement.{statement}
+use Rattle.printing.proofs.changed.Tie as tie
 
 abbrev Inv-loop : tie.InvT-loop
-Inv-loop image n₀ i₀ n i = (i ≤ length image) × (n ≤ i)
+Inv-loop image from n₀ i₀ n i = n ≤ i
 
 abbrev μ-loop : tie.MeasureT-loop
-μ-loop image n₀ i₀ n i = length image - i
+μ-loop image from n₀ i₀ n i = length image - i
 
--- src/main.rt:269:5
 loop-holds : tie.Need-loop-holds Inv-loop μ-loop
 loop-holds c = search needs
 
--- src/main.rt:270:12
 mul-if1 : tie.Need-mul-if1 Inv-loop μ-loop
 mul-if1 c = search needs
 
--- src/main.rt:270:12
 shared-slice-read-if1 : tie.Need-shared-slice-read-if1 Inv-loop μ-loop
 shared-slice-read-if1 c = search needs
 
--- src/main.rt:271:13
 add-n : tie.Need-add-n Inv-loop μ-loop
 add-n c = search needs
 
--- src/main.rt:273:9
 add-i : tie.Need-add-i Inv-loop μ-loop
 add-i c = search needs
 
--- src/main.rt:269:5
 loop-less : tie.Need-loop-less Inv-loop μ-loop
 loop-less c = search needs
 
--- src/main.rt:269:5
 loop-again : tie.Need-loop-again Inv-loop μ-loop
 loop-again c = ⊎-elim (λ w. omega arith) (λ w. omega arith) (c .if1 .came)
 
--- src/main.rt:266:1
 returns : tie.Need-returns Inv-loop μ-loop
 returns c = search needs
 
