@@ -1,6 +1,6 @@
 # shellcheck shell=sh disable=SC2034,SC2154
-# Shared by oracle/compare and oracle/second: what they install and build, and how a
-# proved program is run. Sourced with $top set to the repository's top.
+# Shared by oracle/compare, oracle/second and oracle/record: what they install and build,
+# and how a proved program is run. Sourced with $top set to the repository's top.
 
 room=$top/target/oracle
 mkdir -p "$room"
@@ -56,7 +56,7 @@ build_harness() { # FOLDER OF THE CRATE
     [ -f "$1/src/etc.rs" ] || die "no crate in $1: name its folder with --source"
     install_packages librust-paste-dev
     install_rust
-    source=$(cd "$1/src" && pwd)
+    files=$(cd "$1/src" && pwd)
     build=$room/build
     rm -rf "$build/src" "$build/given"
     mkdir -p "$build/given"
@@ -64,13 +64,38 @@ build_harness() { # FOLDER OF THE CRATE
     cp -R "$top/oracle/harness/src" "$build/src"
     cp "$top/oracle/harness/given/lib.rs" "$build/given/"
     for part in color.rs macros.rs etc.rs etc; do
-        ln -s "$source/$part" "$build/given/$part"
+        ln -s "$files/$part" "$build/given/$part"
     done
     registry=$(dpkg -L librust-paste-dev | grep '/registry$')
     (cd "$build" && cargo build --release --offline --quiet \
         --config 'source.crates-io.replace-with="debian"' \
         --config "source.debian.directory=\"$registry\"") || die "the harness does not build"
     harness=$build/target/release/oracle
+}
+
+# Builds the two programs that make Mesa and Android's libETC1 speak the protocol.
+build_decoders() {
+    install_packages gcc libc6-dev libegl1 libegl-mesa0 libgles2 libgl1-mesa-dri libegl-dev libgles-dev \
+        android-libetc1-dev
+    gcc -O2 -o "$room/mesa" "$top/oracle/mesa.c" -lEGL -lGLESv2 -lm || die "mesa.c does not build"
+    header=$(dpkg -L android-libetc1-dev | grep '/ETC1/etc1\.h$')
+    library=$(dpkg -L android-libetc1-dev | grep '/libETC1\.so$')
+    gcc -O2 -I "${header%/ETC1/etc1.h}" -o "$room/android" "$top/oracle/android.c" \
+        "$library" -Wl,-rpath,"${library%/*}" || die "android.c does not build"
+}
+
+# piglit takes 2 GB where it is installed, and 18 small files of it are wanted: those
+# are taken out of its package.
+fetch_pictures() {
+    pictures=$room/pictures
+    [ ! -d "$pictures" ] || return 0
+    rm -rf "$room/piglit" && mkdir -p "$room/piglit/files"
+    download_package piglit "$room/piglit"
+    dpkg-deb --fsys-tarfile "$room"/piglit/piglit_*.deb |
+        tar -x -C "$room/piglit/files" --transform 's,.*/,,' --wildcards \
+            '*/gles-3.0/waffles-*.ktx' '*/oes_compressed_etc1_rgb8_texture/waffles-*.ktx' ||
+        die "piglit has no such pictures"
+    mv "$room/piglit/files" "$pictures"
 }
 
 # Proves and builds the Rattle program, and writes a script that runs it as the kit
@@ -96,21 +121,22 @@ listed() {
     sed -n 's/^##* `\([a-z0-9-]*\)`.*/\1/p' "$top/docs/DIFFERENCES.md" | paste -s -d , -
 }
 
-# Options common to both commands. ORACLE_CRATE and ORACLE_PROGRAM say the same as
+# Options of all three commands. ORACLE_CRATE and ORACLE_PROGRAM say the same as
 # --crate and --program.
 take_options() {
-    seed=1 blocks=300000 source=$top/../shared/docs/src eleven=
+    seed=1 blocks=300000 source=$top/../shared/docs/src eleven= day=$(date -u +%F)
     crate=${ORACLE_CRATE:-answers} program=${ORACLE_PROGRAM:-}
     while [ $# -gt 0 ]; do
         case $1 in
         --eleven) eleven=--eleven && shift && continue ;;
-        --seed | --blocks | --source | --crate | --program) [ $# -gt 1 ] || die "$1 wants a value" ;;
+        --seed | --blocks | --source | --crate | --program | --date) [ $# -gt 1 ] || die "$1 wants a value" ;;
         *) die "unknown option $1" ;;
         esac
         case $1 in
         --seed) seed=$2 ;;
         --blocks) blocks=$2 ;;
         --source) source=$2 ;;
+        --date) day=$2 ;;
         --crate) crate=$2 ;;
         --program) program=$2 ;;
         esac

@@ -1,5 +1,5 @@
 // The stored list, that oracle/record makes: 1,024 bytes of text that say how and when it was made, then groups. A group is
-// 28 bytes of name and the number of its cases; a case is followed by the answer that is due.
+// 44 bytes of name and the number of its cases; a case is followed by the answer that is due.
 use super::case;
 use super::wire;
 use libc::STDOUT_FILENO;
@@ -28,16 +28,16 @@ fn group(
     image: &mut [u32; 16384],
     due: &mut [u8; 65536],
 ) -> bool {
-    let mut name = [0u8; 32];
-    if !wire::taken(&mut name, 32) {
+    let mut name = [0u8; 48];
+    if !wire::taken(&mut name, 48) {
         return false;
     }
-    let count = wire::word(name[28], name[29], name[30], name[31]);
+    let count = wire::word(name[44], name[45], name[46], name[47]);
     if count > 9999 {
         return false;
     }
     let differ = differing(count, head, data, shown, image, due);
-    wire::given(&name, 28);
+    wire::given(&name, 44);
     report(count, differ);
     true
 }

@@ -128,6 +128,43 @@ pub fn accepted_plan(reader: u32, seed: u64, blocks: usize) -> Vec<Shape> {
     plan.shapes
 }
 
+/// The sizes of stored pictures: one pixel, a whole block, clipped right, below and both, several blocks.
+const STORED: [(u32, u32); 6] = [(1, 1), (4, 4), (5, 1), (3, 6), (5, 5), (10, 7)];
+
+/// The few cases of a reader that are stored with the crate's answers, and with the added refusals.
+pub fn stored_plan(reader: u32, seed: u64) -> Vec<Shape> {
+    let mut plan = Plan::new(reader, seed);
+    if is_block(reader) {
+        plan.stored_blocks();
+        return plan.shapes;
+    }
+    for (width, height) in STORED {
+        for fill in plan.fills() {
+            plan.picture(width, height, 3, 1, fill);
+        }
+    }
+    for (data, image) in [(-1, 0), (0, -1), (-1, -1)] {
+        plan.picture(5, 5, data, image, Fill::Random);
+    }
+    for size in [(16_384, 0), (0, 16_384), (16_385, 0), (0, 16_385), (u32::MAX, u32::MAX)] {
+        plan.add(size, (8, 2), 0, Fill::Random);
+    }
+    plan.shapes
+}
+
+/// The few accepted cases of a reader that are stored with a second decoder's answers. ETC1 as
+/// Mesa reads it is held to blocks in range.
+pub fn stored_accepted_plan(reader: u32, seed: u64, in_range: bool) -> Vec<Shape> {
+    let mut plan = Plan::new(reader, seed);
+    for (width, height) in STORED {
+        let fills = if in_range { vec![Fill::InRange(None)] } else { plan.fills() };
+        for fill in fills {
+            plan.picture(width, height, 0, 0, fill);
+        }
+    }
+    plan.shapes
+}
+
 fn small_sizes() -> impl Iterator<Item = (u32, u32)> {
     (0..=9).flat_map(|width| (0..=9).map(move |height| (width, height)))
 }
@@ -267,6 +304,21 @@ impl Plan {
         for turn in 0..4 * 4096 {
             let channel = if has_channel(self.reader) { turn as u32 % 4 } else { 0 };
             self.one_block(size, channel, Fill::EveryByte(turn));
+        }
+    }
+
+    // Each kind twice, edges, the channels, and lengths that are short by one.
+    fn stored_blocks(&mut self) {
+        let size = block_size(self.reader);
+        let channels = self.channels();
+        for turn in 0..16 {
+            self.one_block(size, channels[turn % channels.len().min(4)], Fill::Kinds(turn));
+        }
+        for channel in channels {
+            self.one_block(size, channel, Fill::Edges);
+        }
+        for lengths in [(size - 1, 16), (size, 15), (size - 1, 15)] {
+            self.add((0, 0), lengths, 0, Fill::Random);
         }
     }
 

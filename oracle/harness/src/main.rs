@@ -1,5 +1,6 @@
 //! Feeds one set of cases to a program under test and to other decoders, and counts
-//! the differences. Run by oracle/compare and oracle/second, which say how.
+//! the differences; or writes down what the other decoders answer. Run by oracle/compare,
+//! oracle/second and oracle/record, which say how.
 
 mod blocks;
 mod cases;
@@ -8,6 +9,7 @@ mod pictures;
 mod protocol;
 mod random;
 mod readers;
+mod record;
 mod report;
 mod rules;
 mod second;
@@ -23,24 +25,31 @@ pub struct Options {
     blocks: usize,
     listed: Vec<String>,
     eleven: bool,
-    mesa: Option<String>,
-    android: Option<String>,
-    pictures: Option<String>,
+    /// Programs that speak the protocol, and the folder of published pictures.
+    mesa: String,
+    android: String,
+    pictures: String,
     program: String,
+    /// What the stored list says of itself, and the folder that it goes to.
+    about: String,
+    folder: String,
 }
 
 fn options(words: &[String]) -> Options {
     let value = |name: &str| words.windows(2).find(|pair| pair[0] == name).map(|pair| pair[1].clone());
+    let text = |name: &str| value(name).unwrap_or_default();
     let number = |name: &str, default: u64| value(name).map_or(default, |text| text.parse().expect("a number"));
     Options {
         seed: number("--seed", 1),
         blocks: number("--blocks", 300_000) as usize,
-        listed: value("--listed").unwrap_or_default().split(',').map(str::to_string).collect(),
+        listed: text("--listed").split(',').map(str::to_string).collect(),
         eleven: words.iter().any(|word| word == "--eleven"),
-        mesa: value("--mesa"),
-        android: value("--android"),
-        pictures: value("--pictures"),
-        program: value("--program").unwrap_or_default(),
+        mesa: text("--mesa"),
+        android: text("--android"),
+        pictures: text("--pictures"),
+        program: text("--program"),
+        about: text("--about"),
+        folder: text("--folder"),
     }
 }
 
@@ -51,7 +60,8 @@ fn main() -> ExitCode {
     let same = match words.first().map(String::as_str) {
         Some("compare") => compare(&options),
         Some("second") => second(&options),
-        _ => Err(std::io::Error::other("the first word is compare or second")),
+        Some("record") => record::record(&options),
+        _ => Err(std::io::Error::other("the first word is compare, second or record")),
     };
     match same {
         Ok(true) => ExitCode::SUCCESS,
@@ -75,31 +85,28 @@ fn compare(options: &Options) -> Result<bool> {
     Ok(same)
 }
 
+// The document's own values are held to both: to the program, and to the crate by the listed equations.
 fn compare_specimens(options: &Options) -> Result<bool> {
     let (cases, due): (Vec<_>, Vec<_>) = specimens::specimens().into_iter().map(|s| (s.case, s.due)).unzip();
     let mut report = Report::new("document 01's specimens".to_string(), "", cases.len());
-    let mut peer = Peer::start(&options.program, cases.into_iter())?;
-    for due in due {
-        let Some((case, got)) = peer.next()? else { break };
+    let mut by_crate =
+        Report::new("the crate, 01's specimens".to_string(), "pixels by a listed difference", cases.len());
+    for ((case, got), due) in protocol::ask(&options.program, cases)?.into_iter().zip(due) {
         report.count(&case, &due, &got, 0);
+        let given = expected::expected(&case, &options.listed);
+        by_crate.count(&case, &due, &given.answer, given.touched);
     }
-    peer.finish()?;
-    Ok(report.close())
+    Ok(report.close() & by_crate.close())
 }
 
 fn second(options: &Options) -> Result<bool> {
     let mut same = true;
-    if let Some(folder) = &options.pictures {
-        for path in pictures::list(folder)? {
-            same &= pictures::compare(&path, &options.program)?;
-        }
+    for path in pictures::list(&options.pictures)? {
+        same &= pictures::compare(&path, &options.program)?;
     }
-    if let Some(android) = &options.android {
-        same &= second::android(options, android)?;
-    }
-    if let Some(mesa) = &options.mesa {
-        same &= second::mesa(options, mesa)?;
-    }
+    same &= second::specimens(&options.android, &options.mesa)?;
+    same &= second::android(options)?;
+    same &= second::mesa(options)?;
     Ok(same)
 }
 

@@ -1,6 +1,6 @@
 //! Published test pictures (KTX 1 files) with their published results.
 
-use crate::protocol::{Answer, Case, Peer};
+use crate::protocol::{ask, Answer, Case};
 use crate::readers::*;
 use crate::report::Report;
 use std::io::{Error, Result};
@@ -88,22 +88,28 @@ fn short(path: &str) -> &str {
     file.trim_start_matches("waffles-compressed-").trim_end_matches("-64x32-miptree.ktx")
 }
 
-/// Each level of a compressed file, against the same level of its published result.
-pub fn compare(path: &str, program: &str) -> Result<bool> {
+/// The levels of a compressed file for each reader that it is for, with the published results.
+pub fn published_levels(path: &str) -> Result<Vec<(String, Vec<(Case, Answer)>)>> {
     let result =
         path.replace("waffles-compressed", "waffles-decompressed").replace("-decompressed-etc1", "-decompressed-rgb");
     let (ktx, shown) = (read(path)?, read(&result)?);
+    let levels = |&reader: &u32| {
+        let due = |level: &Vec<u8>| Answer { number: 0, block: 0, image: published(reader, &shown, level) };
+        let cases = (0..ktx.levels.len()).map(|level| level_case(reader, &ktx, level));
+        (format!("{} of {}", name(reader), short(path)), cases.zip(shown.levels.iter().map(due)).collect())
+    };
+    Ok(readers_of(ktx.internal).iter().map(levels).collect())
+}
+
+/// Each level of a compressed file, against the same level of its published result.
+pub fn compare(path: &str, program: &str) -> Result<bool> {
     let mut same = true;
-    for &reader in readers_of(ktx.internal) {
-        let mut report = Report::new(format!("{} of {}", name(reader), short(path)), "", ktx.levels.len());
-        let cases: Vec<Case> = (0..ktx.levels.len()).map(|level| level_case(reader, &ktx, level)).collect();
-        let mut peer = Peer::start(program, cases.into_iter())?;
-        for level in &shown.levels {
-            let Some((case, got)) = peer.next()? else { break };
-            let due = Answer { number: 0, block: 0, image: published(reader, &shown, level) };
+    for (what, levels) in published_levels(path)? {
+        let mut report = Report::new(what, "", levels.len());
+        let (cases, due): (Vec<Case>, Vec<Answer>) = levels.into_iter().unzip();
+        for ((case, got), due) in ask(program, cases)?.into_iter().zip(due) {
             report.count(&case, &due, &got, 0);
         }
-        peer.finish()?;
         same &= report.close();
     }
     Ok(same)

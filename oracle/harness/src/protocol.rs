@@ -21,7 +21,7 @@ pub struct Case {
     pub image: Vec<u32>,
 }
 
-#[derive(PartialEq)]
+#[derive(Clone, PartialEq)]
 pub struct Answer {
     pub number: u32,
     pub block: u32,
@@ -29,14 +29,21 @@ pub struct Answer {
 }
 
 impl Case {
-    fn bytes(&self) -> Vec<u8> {
-        let lengths = [self.data.len() as u32, self.image.len() as u32];
-        let head = [self.reader, self.channel, self.width, self.height];
-        let mut out: Vec<u8> = head.iter().chain(&lengths).flat_map(|w| w.to_le_bytes()).collect();
-        out.extend_from_slice(&self.data);
-        out.extend(self.image.iter().flat_map(|w| w.to_le_bytes()));
-        out
+    pub fn bytes(&self) -> Vec<u8> {
+        let (data, image) = (self.data.len() as u32, self.image.len() as u32);
+        let head = [self.reader, self.channel, self.width, self.height, data, image];
+        [bytes(&head), self.data.clone(), bytes(&self.image)].concat()
     }
+}
+
+impl Answer {
+    pub fn bytes(&self) -> Vec<u8> {
+        [bytes(&[self.number, self.block]), bytes(&self.image)].concat()
+    }
+}
+
+fn bytes(words: &[u32]) -> Vec<u8> {
+    words.iter().flat_map(|w| w.to_le_bytes()).collect()
 }
 
 fn words(bytes: &[u8]) -> Vec<u32> {
@@ -117,6 +124,17 @@ impl Peer {
         }
         sent
     }
+}
+
+/// What a program answers to a few cases.
+pub fn ask(command: &str, cases: Vec<Case>) -> Result<Vec<(Case, Answer)>> {
+    let mut peer = Peer::start(command, cases.into_iter())?;
+    let mut all = Vec::new();
+    while let Some(pair) = peer.next()? {
+        all.push(pair);
+    }
+    peer.finish()?;
+    Ok(all)
 }
 
 fn no_answer(case: &Case) -> Error {

@@ -2,27 +2,45 @@
 
 use crate::cases::{accepted_plan, Shape};
 use crate::expected::{is_listed, lowest_base_raised, EAC_LOWEST_BASE};
-use crate::protocol::{Answer, Case, Peer};
+use crate::protocol::{ask, Answer, Case, Peer};
 use crate::readers::*;
 use crate::report::Report;
 use crate::rules::{blocks_across, is_new};
+use crate::specimens;
 use std::io::Result;
 
 /// Mesa in all eight formats; with `eleven`, EAC also by the readers of whole values.
-pub fn mesa(options: &crate::Options, mesa: &str) -> Result<bool> {
+pub fn mesa(options: &crate::Options) -> Result<bool> {
     let mut same = true;
     for reader in ETC1..=EACRG_SIGNED {
-        same &= against(reader, options, mesa, "Mesa", reader)?;
+        same &= against(reader, options, &options.mesa, "Mesa", reader)?;
         if options.eleven && is_eac(reader) {
-            same &= against(reader, options, mesa, "Mesa, eleven bits,", reader + WIDE_EACR - EACR)?;
+            same &= against(reader, options, &options.mesa, "Mesa, eleven bits,", reader + WIDE_EACR - EACR)?;
         }
     }
     Ok(same)
 }
 
 /// Android's libETC1, sums out of range included.
-pub fn android(options: &crate::Options, android: &str) -> Result<bool> {
-    against(ETC1, options, android, "Android", ETC1)
+pub fn android(options: &crate::Options) -> Result<bool> {
+    against(ETC1, options, &options.android, "Android", ETC1)
+}
+
+/// Document 01's specimens that show something, by Android for ETC1 and by Mesa for the other formats.
+pub fn specimens(android: &str, mesa: &str) -> Result<bool> {
+    let mut same = true;
+    for (program, label) in [(android, "Android"), (mesa, "Mesa")] {
+        let shown =
+            specimens::specimens().into_iter().filter(|s| s.shows() && (s.case.reader == ETC1) == (label == "Android"));
+        let (cases, due): (Vec<_>, Vec<_>) = shown.map(|s| s.exact()).unzip();
+        let mut report = Report::new(format!("{label}, document 01's specimens"), "", cases.len());
+        for ((case, seen), due) in ask(program, cases)?.into_iter().zip(due) {
+            let asked = case.reader;
+            report.count(&case, &due, &from_mesa(&case, seen, asked), 0);
+        }
+        same &= report.close();
+    }
+    Ok(same)
 }
 
 // The same shapes go to both, each as its own reader wants them.
@@ -37,7 +55,8 @@ fn against(reader: u32, options: &crate::Options, other: &str, label: &str, aske
     while let (Some((case, seen)), Some((as_asked, got))) = (theirs.next()?, ours.next()?) {
         let left = if label == "Android" { Vec::new() } else { wrapped_halves(&case) };
         let changed = case.data.iter().zip(&as_asked.data).filter(|(a, b)| a != b).count();
-        let due = if label == "Android" { seen } else { from_mesa(&case, &got, seen, asked, &left) };
+        let mut due = if label == "Android" { seen } else { from_mesa(&case, seen, asked) };
+        left.iter().for_each(|&k| due.image[k] = got.image[k]);
         report.count(&as_asked, &due, &got, left.len() + changed);
     }
     ours.finish()?;
@@ -55,13 +74,13 @@ fn for_ours(case: Case, asked: u32, raised: bool) -> Case {
     case
 }
 
-fn from_mesa(case: &Case, got: &Answer, seen: Answer, asked: u32, left: &[usize]) -> Answer {
-    let mut image: Vec<u32> = match case.reader {
+/// Mesa's answer in the form of the reader asked.
+pub fn from_mesa(case: &Case, seen: Answer, asked: u32) -> Answer {
+    let image = match case.reader {
         ETC1 | RGB | RGBA1 | RGBA8 => seen.image,
         reader if asked == reader => seen.image.iter().map(|&both| pixel(reader, both)).collect(),
         reader => seen.image.iter().flat_map(|&both| values(reader, both)).collect(),
     };
-    left.iter().for_each(|&k| image[k] = got.image[k]);
     Answer { image, ..seen }
 }
 

@@ -11,6 +11,21 @@ pub struct Specimen {
     pub due: Answer,
 }
 
+impl Specimen {
+    /// Whether a decoder of pictures that has no refusals can be asked.
+    pub fn shows(&self) -> bool {
+        self.case.reader < STRICT && self.due.number == 0 && self.case.width * self.case.height > 0
+    }
+
+    /// The same with an image of the exact length.
+    pub fn exact(mut self) -> (Case, Answer) {
+        let area = (self.case.width * self.case.height) as usize;
+        self.case.image.truncate(area);
+        self.due.image.truncate(area);
+        (self.case, self.due)
+    }
+}
+
 // The image lent is as long as the one that is due.
 fn specimen(reader: u32, size: (u32, u32), data: &[u8], number: u32, image: Vec<u32>) -> Specimen {
     let old = vec![OLD; image.len()];
