@@ -146,7 +146,7 @@ fn by_crate(case: &Case) -> Vec<u32> {
 }
 
 /// What the crate does. It must not be asked what only the table refuses.
-fn crate_answer(case: &Case) -> Answer {
+pub fn crate_answer(case: &Case) -> Answer {
     let mut image = case.image.clone();
     let number = if is_block(case.reader) {
         crate_block(case, &mut image);

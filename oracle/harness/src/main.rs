@@ -4,6 +4,7 @@
 
 mod blocks;
 mod cases;
+mod examples;
 mod expected;
 mod pictures;
 mod protocol;
@@ -79,6 +80,8 @@ fn compare(options: &Options) -> Result<bool> {
         println!("refusals that the crate does not have are expected, and are not listed");
     }
     same &= compare_specimens(options)?;
+    same &= examples::of_crate(&options.program)?;
+    same &= examples::crate_has_no_such_refusal();
     for reader in readers::PICTURES.chain(readers::BLOCKS) {
         same &= compare_reader(reader, options)?;
     }
@@ -105,6 +108,7 @@ fn second(options: &Options) -> Result<bool> {
         same &= pictures::compare(&path, &options.program)?;
     }
     same &= second::specimens(&options.android, &options.mesa)?;
+    same &= examples::of_mesa(&options.mesa, &options.program)?;
     same &= second::android(options)?;
     same &= second::mesa(options)?;
     Ok(same)
