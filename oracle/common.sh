@@ -100,9 +100,11 @@ fetch_pictures() {
 
 # Proves and builds the Rattle program, and writes a script that runs it as the kit
 # does: under its loader and C library, and on another processor than x86-64 under the
-# emulator that stands beside its compiler.
+# emulator that stands beside its compiler. A proved program whose stored list differs is
+# compared all the same: then above all one wants to know where.
 build_program() { # NAME OF THE PROGRAM'S CRATE
-    (cd "$top" && rt check "$1") >"$room/rt.log" 2>&1 || die "rt check $1 failed (target/oracle/rt.log says why)"
+    (cd "$top" && rt check "$1") >"$room/rt.log" 2>&1 || grep -q "^rt: $1 proved" "$room/rt.log" ||
+        die "rt check $1 failed (target/oracle/rt.log says why)"
     kit=$(dirname "$(dirname "$(rt doc)")")
     tools=$kit/on/$(uname -m)/toolchain
     emulator=$tools/bin/qemu-x86_64
@@ -124,7 +126,7 @@ listed() {
 # Options of all three commands. ORACLE_CRATE and ORACLE_PROGRAM say the same as
 # --crate and --program.
 take_options() {
-    seed=1 blocks=300000 source=$top/../shared/docs/src eleven= day=$(date -u +%F)
+    seed=1 blocks=300000 source=$top/../shared/docs/src eleven='' day=$(date -u +%F)
     crate=${ORACLE_CRATE:-answers} program=${ORACLE_PROGRAM:-}
     while [ $# -gt 0 ]; do
         case $1 in

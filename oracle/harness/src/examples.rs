@@ -12,7 +12,11 @@ use std::panic::{catch_unwind, set_hook, take_hook};
 /// A picture of one block: reader, side, bytes, element, the other's pixel, and the pixel due.
 type Example = (u32, u32, [u8; 8], usize, u32, u32);
 
-const OF_CRATE: [Example; 11] = [
+/// A red sum of 32, and a signed base of 80 hex with index 6 everywhere.
+const WRAPPED: [u8; 8] = [0xf9, 0, 0, 2, 0, 0, 0, 0];
+const LOWEST: [u8; 8] = [0x80, 0x10, 0xdb, 0x6d, 0xb6, 0xdb, 0x6d, 0xb6];
+
+const OF_CRATE: [Example; 13] = [
     (RGBA1, 4, [0x80, 0, 0, 0, 0xff, 0xff, 0, 0], 0, 0x0084_0000, 0),
     (RGBA1, 1, [0, 0, 0x08, 0, 0, 1, 0, 0], 0, 0x0000_0008, 0),
     (RGBA1, 1, [0x04, 0, 0xf0, 0, 0, 1, 0, 0], 0, 0x00ff_0000, 0),
@@ -24,12 +28,14 @@ const OF_CRATE: [Example; 11] = [
     (EACR, 1, [0x80, 0x10, 0, 0, 0, 0x20, 0, 0], 0, 0xff7a_0000, 0xff7d_0000),
     (EACR, 1, [0x80, 0x10, 0x20, 0, 0, 0, 0, 0], 0, 0xff7d_0000, 0xff7a_0000),
     (EACR, 4, [0x80, 0x10, 0, 0, 0, 0, 0, 7], 15, 0xff7d_0000, 0xff8e_0000),
+    (ETC1, 4, WRAPPED, 2, 0xff02_0202, 0xff02_0202),
+    (EACR_SIGNED, 4, LOWEST, 0, 0xff07_0000, 0xff07_0000),
 ];
 
-const OF_MESA: [Example; 2] = [
-    (ETC1, 4, [0xf9, 0, 0, 2, 0, 0, 0, 0], 2, 0xff0a_0202, 0xff02_0202),
-    (EACR_SIGNED, 4, [0x80, 0x10, 0xdb, 0x6d, 0xb6, 0xdb, 0x6d, 0xb6], 0, 0xff08_0000, 0xff07_0000),
-];
+const OF_MESA: [Example; 2] =
+    [(ETC1, 4, WRAPPED, 2, 0xff0a_0202, 0xff02_0202), (EACR_SIGNED, 4, LOWEST, 0, 0xff08_0000, 0xff07_0000)];
+
+const OF_ANDROID: [Example; 1] = [(ETC1, 4, WRAPPED, 2, 0xff02_0202, 0xff02_0202)];
 
 fn case_of(&(reader, side, data, ..): &Example) -> Case {
     let image = vec![0; (side * side) as usize];
@@ -59,10 +65,13 @@ pub fn of_crate(program: &str) -> Result<bool> {
     count("DIFFERENCES.md, crate and ours", &OF_CRATE, theirs, program)
 }
 
-pub fn of_mesa(mesa: &str, program: &str) -> Result<bool> {
+pub fn of_seconds(mesa: &str, android: &str, program: &str) -> Result<bool> {
     let seen = ask(mesa, OF_MESA.iter().map(case_of).collect())?;
     let theirs = seen.into_iter().map(|(case, seen)| from_mesa(&case, seen, case.reader)).collect();
-    count("DIFFERENCES.md, Mesa and ours", &OF_MESA, theirs, program)
+    let same = count("DIFFERENCES.md, Mesa and ours", &OF_MESA, theirs, program)?;
+    let seen = ask(android, OF_ANDROID.iter().map(case_of).collect())?;
+    let theirs = seen.into_iter().map(|(_, seen)| seen).collect();
+    Ok(same & count("DIFFERENCES.md, Android and ours", &OF_ANDROID, theirs, program)?)
 }
 
 /// What the crate does where only document 01 refuses. It accepts a side above 16,384, and an

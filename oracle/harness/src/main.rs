@@ -108,7 +108,7 @@ fn second(options: &Options) -> Result<bool> {
         same &= pictures::compare(&path, &options.program)?;
     }
     same &= second::specimens(&options.android, &options.mesa)?;
-    same &= examples::of_mesa(&options.mesa, &options.program)?;
+    same &= examples::of_seconds(&options.mesa, &options.android, &options.program)?;
     same &= second::android(options)?;
     same &= second::mesa(options)?;
     Ok(same)

@@ -51,14 +51,13 @@ fn readers_of(internal: u32) -> &'static [u32] {
     }
 }
 
-// The published results are RGB or RGBA bytes. A format of one or two channels is
-// shown there as grey or with a blue of its own, so only its channels are taken.
+// The published results are RGB or RGBA bytes. A format of one channel is shown there as
+// grey, so only its red is taken.
 fn published(reader: u32, ktx: &Ktx, level: &[u8]) -> Vec<u32> {
-    let (step, has_alpha) = if ktx.format == 0x1908 { (4, true) } else { (3, false) };
+    let step = if ktx.format == 0x1908 { 4 } else { 3 };
     let word = |p: &[u8]| {
-        let alpha = if has_alpha && !is_eac(reader) { p[3] } else { 255 };
-        let green = if reader == EACR || reader == EACR_SIGNED { 0 } else { p[1] };
-        let blue = if is_eac(reader) { 0 } else { p[2] };
+        let alpha = p.get(3).copied().unwrap_or(255);
+        let (green, blue) = if reader == EACR || reader == EACR_SIGNED { (0, 0) } else { (p[1], p[2]) };
         u32::from_be_bytes([alpha, p[0], green, blue])
     };
     level.chunks_exact(step).map(word).collect()
