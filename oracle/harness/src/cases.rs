@@ -307,7 +307,7 @@ impl Plan {
         }
     }
 
-    // Each kind twice, edges, the channels, and lengths that are short by one.
+    // Each kind twice; and with each channel edges, and lengths that are short by one.
     fn stored_blocks(&mut self) {
         let size = block_size(self.reader);
         let channels = self.channels();
@@ -316,9 +316,9 @@ impl Plan {
         }
         for channel in channels {
             self.one_block(size, channel, Fill::Edges);
-        }
-        for lengths in [(size - 1, 16), (size, 15), (size - 1, 15)] {
-            self.add((0, 0), lengths, 0, Fill::Random);
+            for lengths in [(size - 1, 16), (size, 15), (size - 1, 15)] {
+                self.add((0, 0), lengths, channel, Fill::Random);
+            }
         }
     }
 
