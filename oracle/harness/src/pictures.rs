@@ -1,6 +1,6 @@
 //! Published test pictures (KTX 1 files) with their published results.
 
-use crate::protocol::{ask, Answer, Case};
+use crate::protocol::{ask, Answer, Case, Pair};
 use crate::readers::*;
 use crate::report::Report;
 use std::io::{Error, Result};
@@ -88,7 +88,7 @@ fn short(path: &str) -> &str {
 }
 
 /// The levels of a compressed file for each reader that it is for, with the published results.
-pub fn published_levels(path: &str) -> Result<Vec<(String, Vec<(Case, Answer)>)>> {
+pub fn published_levels(path: &str) -> Result<Vec<(String, Vec<Pair>)>> {
     let result =
         path.replace("waffles-compressed", "waffles-decompressed").replace("-decompressed-etc1", "-decompressed-rgb");
     let (ktx, shown) = (read(path)?, read(&result)?);

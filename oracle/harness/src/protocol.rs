@@ -28,6 +28,9 @@ pub struct Answer {
     pub image: Vec<u32>,
 }
 
+/// A case with what a decoder answers to it.
+pub type Pair = (Case, Answer);
+
 impl Case {
     pub fn bytes(&self) -> Vec<u8> {
         let (data, image) = (self.data.len() as u32, self.image.len() as u32);
@@ -98,7 +101,7 @@ impl Peer {
     }
 
     /// The next case with what the program answered, or None after the last.
-    pub fn next(&mut self) -> Result<Option<(Case, Answer)>> {
+    pub fn next(&mut self) -> Result<Option<Pair>> {
         let Ok(case) = self.sent.recv() else { return Ok(None) };
         let mut bytes = vec![0; 8 + 4 * case.image.len()];
         self.out.read_exact(&mut bytes).map_err(|_| no_answer(&case))?;
@@ -127,7 +130,7 @@ impl Peer {
 }
 
 /// What a program answers to a few cases.
-pub fn ask(command: &str, cases: Vec<Case>) -> Result<Vec<(Case, Answer)>> {
+pub fn ask(command: &str, cases: Vec<Case>) -> Result<Vec<Pair>> {
     let mut peer = Peer::start(command, cases.into_iter())?;
     let mut all = Vec::new();
     while let Some(pair) = peer.next()? {

@@ -4,7 +4,7 @@
 use crate::cases::{stored_accepted_plan, stored_plan};
 use crate::expected::{expected, lowest_base_raised};
 use crate::pictures;
-use crate::protocol::{ask, Answer, Case};
+use crate::protocol::{ask, Case, Pair};
 use crate::readers::*;
 use crate::rules::verdict;
 use crate::second::from_mesa;
@@ -15,8 +15,6 @@ const TEXT: usize = 1024;
 const NAME: usize = 44;
 /// The largest picture that is stored, in pixels: published ones are stored from their third level on.
 const MOST_PIXELS: usize = 16 * 8;
-
-type Pair = (Case, Answer);
 
 /// The list as the program reads it, and what it has to write.
 struct List {
