@@ -36,7 +36,7 @@ impl List {
 
 pub fn record(options: &crate::Options) -> Result<bool> {
     let mut list = List { bytes: text(&options.about)?, lines: String::new() };
-    list.group("document 01's specimens", &document());
+    list.group("document 01's specimens", &document(&options.listed)?);
     let mut added = Vec::new();
     for reader in PICTURES.chain(BLOCKS) {
         let cases = stored_plan(reader, options.seed).into_iter().map(|shape| shape.case());
@@ -62,8 +62,13 @@ fn text(about: &str) -> Result<Vec<u8>> {
     Ok(bytes)
 }
 
-fn document() -> Vec<Pair> {
-    specimens().into_iter().map(|s| (s.case, s.due)).collect()
+// The document's own values, which are the crate's too by the listed equations.
+fn document(listed: &[String]) -> Result<Vec<Pair>> {
+    let pairs: Vec<Pair> = specimens().into_iter().map(|s| (s.case, s.due)).collect();
+    if pairs.iter().any(|(case, due)| expected(case, listed).answer != *due) {
+        return Err(Error::other("the crate has another answer to a specimen than document 01"));
+    }
+    Ok(pairs)
 }
 
 // Whether the crate itself was asked: it accepts, or refuses a picture with 2 or 3.
