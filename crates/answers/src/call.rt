@@ -1,0 +1,74 @@
+// The public readers by the numbers of oracle/PROTOCOL.md.
+use rules::Answer;
+ghost use Prim.Native.Nat.{_≤_};
+
+// Whether a number names a reader.
+pub fn is_reader(number: u32) -> bool {
+    number <= 8 || (number >= 16 && number <= 26)
+}
+
+// Calls the reader of a number on the first n bytes and the first m elements.
+pub fn call_on(
+    number: u32,
+    channel: usize,
+    width: usize,
+    height: usize,
+    data: &[u8],
+    n: usize,
+    image: &mut [u32],
+    m: usize,
+) -> Answer
+    requires { do ⌜ n ≤ (← ⟦data.len()⟧) ⌝ }
+    requires { do ⌜ m ≤ (← ⟦image.len()⟧) ⌝ }
+{
+    call(number, channel, width, height, &data[..n], &mut image[..m])
+}
+
+// The last reader is called where a number names none.
+fn call(
+    number: u32,
+    channel: usize,
+    width: usize,
+    height: usize,
+    data: &[u8],
+    image: &mut [u32],
+) -> Answer {
+    if number <= 8 {
+        return picture(number, data, width, height, image);
+    }
+    if number == 21 {
+        return etc::decode_eac_block(data, channel, image);
+    }
+    if number == 22 {
+        return etc::decode_eac_signed_block(data, channel, image);
+    }
+    block(number, data, image)
+}
+
+fn picture(number: u32, data: &[u8], width: usize, height: usize, image: &mut [u32]) -> Answer {
+    match number {
+        0 => etc::decode_etc1(data, width, height, image),
+        1 => etc::decode_etc2_rgb(data, width, height, image),
+        2 => etc::decode_etc2_rgba1(data, width, height, image),
+        3 => etc::decode_etc2_rgba8(data, width, height, image),
+        4 => etc::decode_eacr(data, width, height, image),
+        5 => etc::decode_eacr_signed(data, width, height, image),
+        6 => etc::decode_eacrg(data, width, height, image),
+        7 => etc::decode_eacrg_signed(data, width, height, image),
+        _ => etc::decode_etc1_strict(data, width, height, image),
+    }
+}
+
+fn block(number: u32, data: &[u8], image: &mut [u32]) -> Answer {
+    match number {
+        16 => etc::decode_etc1_block(data, image),
+        17 => etc::decode_etc2_rgb_block(data, image),
+        18 => etc::decode_etc2_rgba1_block(data, image),
+        19 => etc::decode_etc2_a8_block(data, image),
+        20 => etc::decode_etc2_rgba8_block(data, image),
+        23 => etc::decode_eacr_block(data, image),
+        24 => etc::decode_eacr_signed_block(data, image),
+        25 => etc::decode_eacrg_block(data, image),
+        _ => etc::decode_eacrg_signed_block(data, image),
+    }
+}

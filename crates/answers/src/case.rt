@@ -1,0 +1,113 @@
+// One case of oracle/PROTOCOL.md: taken from standard input, and answered.
+use super::call;
+use super::wire;
+use super::wire::low;
+use super::wire::word;
+use rules::Answer;
+ghost use Prim.Native.Nat.{_≤_, _<_};
+
+// The k-th word of a head: reader, channel, width, height, bytes of data, elements.
+fn field(head: &[u8; 24], k: usize) -> u32
+    requires { ⌜ k < 6 ⌝ }
+{
+    let at = k * 4;
+    word(head[at], head[at + 1], head[at + 2], head[at + 3])
+}
+
+// How many bytes of data the head of a case asks for.
+pub fn data_length(head: &[u8; 24]) -> usize
+    ensures { λ r. ⌜ r ≤ 65536 ⌝ }
+{
+    at_most(65536, field(head, 4) as usize)
+}
+
+// How many elements it asks for.
+pub fn image_length(head: &[u8; 24]) -> usize
+    ensures { λ r. ⌜ r ≤ 16384 ⌝ }
+{
+    at_most(16384, field(head, 5) as usize)
+}
+
+fn at_most(most: usize, n: usize) -> usize
+    ensures { λ r. ⌜ r ≤ most ⌝ }
+{
+    if most < n { most } else { n }
+}
+
+// Whether the reader is one, and there is room for the lengths.
+fn is_case(head: &[u8; 24]) -> bool {
+    call::is_reader(field(head, 0)) && field(head, 4) <= 65536 && field(head, 5) <= 16384
+}
+
+// Takes a case: its head, its data, and the bytes of its image. False where the input has none.
+pub fn taken(head: &mut [u8; 24], data: &mut [u8; 65536], shown: &mut [u8; 65536]) -> bool {
+    if !wire::taken(head, 24) {
+        return false;
+    }
+    if !is_case(head) {
+        return false;
+    }
+    if !wire::taken(data, data_length(head)) {
+        return false;
+    }
+    wire::taken(shown, image_length(head) * 4)
+}
+
+// Answers the case that was taken: the eight bytes of the answer, and the image afterwards in place of the one before. The
+// words of the image are lent, since making room for them anew takes longer than a block.
+pub fn answered(
+    head: &[u8; 24],
+    data: &[u8; 65536],
+    shown: &mut [u8; 65536],
+    image: &mut [u32; 16384],
+) -> [u8; 8] {
+    let n = data_length(head);
+    let m = image_length(head);
+    wire::unpack(shown, m, image);
+    let width = field(head, 2) as usize;
+    let height = field(head, 3) as usize;
+    let answer = call::call_on(
+        field(head, 0),
+        field(head, 1) as usize,
+        width,
+        height,
+        data,
+        n,
+        image,
+        m,
+    );
+    wire::pack(image, m, shown);
+    spelled(number(answer), block(answer))
+}
+
+fn number(answer: Answer) -> u8 {
+    match answer {
+        Answer::Done => 0,
+        Answer::TooLarge => 1,
+        Answer::ShortData => 2,
+        Answer::ShortImage => 3,
+        Answer::OutOfRange(_) => 4,
+        Answer::NoChannel => 5,
+    }
+}
+
+// The block that a refusal names; a picture has fewer than 2^32.
+fn block(answer: Answer) -> u32 {
+    match answer {
+        Answer::OutOfRange(n) => (n % 4294967296) as u32,
+        _ => 0,
+    }
+}
+
+fn spelled(number: u8, block: u32) -> [u8; 8] {
+    [
+        number,
+        0,
+        0,
+        0,
+        low(block),
+        low(block / 256),
+        low(block / 65536),
+        low(block / 16777216),
+    ]
+}

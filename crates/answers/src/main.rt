@@ -1,0 +1,49 @@
+// Answers cases by the public readers, as oracle/PROTOCOL.md says. With any argument it replays a stored list instead: it
+// compares each answer with the one that the list has for it, and says what differs.
+mod call;
+mod case;
+mod replay;
+mod wire;
+
+fn main() {
+    let mut head = [0u8; 24];
+    let mut data = io::large_buffer();
+    let mut shown = io::large_buffer();
+    let mut image = [0u32; 16384];
+    if os::arg_count() > 1 {
+        let mut due = io::large_buffer();
+        replay::replay(&mut head, &mut data, &mut shown, &mut image, &mut due);
+    } else {
+        answer_all(&mut head, &mut data, &mut shown, &mut image);
+    }
+}
+
+// A proved loop has to end, and nothing says that the input does: it counts down from a number that no run uses up.
+fn answer_all(
+    head: &mut [u8; 24],
+    data: &mut [u8; 65536],
+    shown: &mut [u8; 65536],
+    image: &mut [u32; 16384],
+) {
+    let mut turns = u64::MAX;
+    while turns > 0 && answer_one(head, data, shown, image) {
+        turns -= 1;
+    }
+}
+
+// False where the input has no further case, or an answer cannot be written.
+fn answer_one(
+    head: &mut [u8; 24],
+    data: &mut [u8; 65536],
+    shown: &mut [u8; 65536],
+    image: &mut [u32; 16384],
+) -> bool {
+    if !case::taken(head, data, shown) {
+        return false;
+    }
+    let said = case::answered(head, data, shown, image);
+    if !wire::given(&said, 8) {
+        return false;
+    }
+    wire::given(shown, case::image_length(head) * 4)
+}

@@ -1,0 +1,109 @@
+// The stored list, that oracle/record makes: 1,024 bytes of text that say how and when it was made, then groups. A group is
+// 44 bytes of name and the number of its cases; a case is followed by the answer that is due.
+use super::case;
+use super::wire;
+use libc::STDOUT_FILENO;
+ghost use Prim.Native.Nat.{_≤_};
+
+// Writes a line for each group, and before it one for each of its cases whose answer is not the one that is due.
+pub fn replay(
+    head: &mut [u8; 24],
+    data: &mut [u8; 65536],
+    shown: &mut [u8; 65536],
+    image: &mut [u32; 16384],
+    due: &mut [u8; 65536],
+) {
+    wire::taken(due, 1024);
+    let mut turns = u64::MAX;
+    while turns > 0 && group(head, data, shown, image, due) {
+        turns -= 1;
+    }
+}
+
+// One group. False where the list ends, or has a number of cases that no list has.
+fn group(
+    head: &mut [u8; 24],
+    data: &mut [u8; 65536],
+    shown: &mut [u8; 65536],
+    image: &mut [u32; 16384],
+    due: &mut [u8; 65536],
+) -> bool {
+    let mut name = [0u8; 48];
+    if !wire::taken(&mut name, 48) {
+        return false;
+    }
+    let count = wire::word(name[44], name[45], name[46], name[47]);
+    if count > 9999 {
+        return false;
+    }
+    let differ = differing(count, head, data, shown, image, due);
+    wire::given(&name, 44);
+    report(count, differ);
+    true
+}
+
+// How many of the next cases differ; each is named.
+fn differing(
+    count: u32,
+    head: &mut [u8; 24],
+    data: &mut [u8; 65536],
+    shown: &mut [u8; 65536],
+    image: &mut [u32; 16384],
+    due: &mut [u8; 65536],
+) -> u32 {
+    let mut differ: u32 = 0;
+    let mut i: u32 = 0;
+    while i < count {
+        if !is_held(head, data, shown, image, due) {
+            name_case(i);
+            differ += 1;
+        }
+        i += 1;
+    }
+    differ
+}
+
+// Takes a case and the answer that is due, and compares. False too where the list is cut short.
+fn is_held(
+    head: &mut [u8; 24],
+    data: &mut [u8; 65536],
+    shown: &mut [u8; 65536],
+    image: &mut [u32; 16384],
+    due: &mut [u8; 65536],
+) -> bool {
+    if !case::taken(head, data, shown) {
+        return false;
+    }
+    let said = case::answered(head, data, shown, image);
+    let mut to_say = [0u8; 8];
+    if !wire::taken(&mut to_say, 8) {
+        return false;
+    }
+    let m = case::image_length(head) * 4;
+    if !wire::taken(due, m) {
+        return false;
+    }
+    let is_said = check::same(&said, &to_say);
+    is_said && is_same(shown, due, m)
+}
+
+// Whether the first n bytes are the same.
+fn is_same(a: &[u8], b: &[u8], n: usize) -> bool
+    requires { do ⌜ n ≤ (← ⟦a.len()⟧) ⌝ }
+    requires { do ⌜ n ≤ (← ⟦b.len()⟧) ⌝ }
+{
+    check::same(&a[..n], &b[..n])
+}
+
+fn name_case(i: u32) {
+    io::write_all(STDOUT_FILENO, b"  case ");
+    io::print_decimal(STDOUT_FILENO, i as u64);
+    io::write_all(STDOUT_FILENO, b" differs\n");
+}
+
+fn report(count: u32, differ: u32) {
+    io::print_decimal(STDOUT_FILENO, count as u64);
+    io::write_all(STDOUT_FILENO, b" cases, ");
+    io::print_decimal(STDOUT_FILENO, differ as u64);
+    io::write_all(STDOUT_FILENO, b" differ\n");
+}

@@ -1,0 +1,104 @@
+//! The inputs that docs/DIFFERENCES.md names, each with what the other decoder shows there
+//! and what is due: a statement of that page that is not so counts as a difference.
+
+use crate::expected::crate_answer;
+use crate::protocol::{ask, Answer, Case};
+use crate::readers::*;
+use crate::report::Report;
+use crate::second::from_mesa;
+use std::io::Result;
+use std::panic::{catch_unwind, set_hook, take_hook};
+
+/// A picture of one block: reader, side, bytes, element, the other's pixel, and the pixel due.
+type Example = (u32, u32, [u8; 8], usize, u32, u32);
+
+/// A red sum of 32, and a signed base of 80 hex with index 6 everywhere.
+const WRAPPED: [u8; 8] = [0xf9, 0, 0, 2, 0, 0, 0, 0];
+const LOWEST: [u8; 8] = [0x80, 0x10, 0xdb, 0x6d, 0xb6, 0xdb, 0x6d, 0xb6];
+
+const OF_CRATE: [Example; 13] = [
+    (RGBA1, 4, [0x80, 0, 0, 0, 0xff, 0xff, 0, 0], 0, 0x0084_0000, 0),
+    (RGBA1, 1, [0, 0, 0x08, 0, 0, 1, 0, 0], 0, 0x0000_0008, 0),
+    (RGBA1, 1, [0x04, 0, 0xf0, 0, 0, 1, 0, 0], 0, 0x00ff_0000, 0),
+    (RGBA1, 1, [0, 0x04, 0, 0, 0, 1, 0, 0], 0, 0x0006_0606, 0),
+    (EACR, 4, [0x80, 0x10, 0, 0, 0, 0, 0, 0], 7, 0xff77_0000, 0xff7d_0000),
+    (EACR, 4, [0x80, 0x10, 0, 0, 0, 0, 0, 0], 14, 0xff7a_0000, 0xff7d_0000),
+    (EACR, 4, [0x80, 0x00, 0, 0, 0, 0, 0, 0], 7, 0xff7f_0000, 0xff80_0000),
+    (EACR_SIGNED, 4, [0x00, 0x10, 0, 0, 0, 0, 0, 0], 14, 0xff79_0000, 0xff7c_0000),
+    (EACR, 1, [0x80, 0x10, 0, 0, 0, 0x20, 0, 0], 0, 0xff7a_0000, 0xff7d_0000),
+    (EACR, 1, [0x80, 0x10, 0x20, 0, 0, 0, 0, 0], 0, 0xff7d_0000, 0xff7a_0000),
+    (EACR, 4, [0x80, 0x10, 0, 0, 0, 0, 0, 7], 15, 0xff7d_0000, 0xff8e_0000),
+    (ETC1, 4, WRAPPED, 2, 0xff02_0202, 0xff02_0202),
+    (EACR_SIGNED, 4, LOWEST, 0, 0xff07_0000, 0xff07_0000),
+];
+
+const OF_MESA: [Example; 2] =
+    [(ETC1, 4, WRAPPED, 2, 0xff0a_0202, 0xff02_0202), (EACR_SIGNED, 4, LOWEST, 0, 0xff08_0000, 0xff07_0000)];
+
+const OF_ANDROID: [Example; 1] = [(ETC1, 4, WRAPPED, 2, 0xff02_0202, 0xff02_0202)];
+
+fn case_of(&(reader, side, data, ..): &Example) -> Case {
+    let image = vec![0; (side * side) as usize];
+    Case { reader, channel: 0, width: side, height: side, data: data.to_vec(), image }
+}
+
+/// The whole answer with only the named element in question.
+fn with_element(answer: &Answer, element: usize, pixel: u32) -> Answer {
+    let mut due = answer.clone();
+    due.image[element] = pixel;
+    due
+}
+
+fn count(what: &str, examples: &[Example], theirs: Vec<Answer>, program: &str) -> Result<bool> {
+    let mut report = Report::new(what.to_string(), "", 2 * examples.len());
+    let ours = ask(program, examples.iter().map(case_of).collect())?;
+    for ((example, seen), (case, got)) in examples.iter().zip(theirs).zip(ours) {
+        let &(.., element, other, due) = example;
+        report.count(&case, &with_element(&seen, element, other), &seen, 0);
+        report.count(&case, &with_element(&got, element, due), &got, 0);
+    }
+    Ok(report.close())
+}
+
+pub fn of_crate(program: &str) -> Result<bool> {
+    let theirs = OF_CRATE.iter().map(|example| crate_answer(&case_of(example))).collect();
+    count("DIFFERENCES.md, crate and ours", &OF_CRATE, theirs, program)
+}
+
+pub fn of_seconds(mesa: &str, android: &str, program: &str) -> Result<bool> {
+    let seen = ask(mesa, OF_MESA.iter().map(case_of).collect())?;
+    let theirs = seen.into_iter().map(|(case, seen)| from_mesa(&case, seen, case.reader)).collect();
+    let same = count("DIFFERENCES.md, Mesa and ours", &OF_MESA, theirs, program)?;
+    let seen = ask(android, OF_ANDROID.iter().map(case_of).collect())?;
+    let theirs = seen.into_iter().map(|(_, seen)| seen).collect();
+    Ok(same & count("DIFFERENCES.md, Android and ours", &OF_ANDROID, theirs, program)?)
+}
+
+/// What the crate does where only document 01 refuses. It accepts a side above 16,384, and an
+/// alpha half of two bytes with multiplier 0 over any image. Else it stops the whole program on
+/// bytes, elements or a channel that it indexes past.
+pub fn crate_has_no_such_refusal() -> bool {
+    let hook = take_hook();
+    set_hook(Box::new(|_| ()));
+    let short = BLOCKS.into_iter().all(|reader| {
+        let size = block_size(reader);
+        stops(&refused(reader, 0, size - 1, 16)) && stops(&refused(reader, 0, size, 15))
+    });
+    let channels = [BLOCK_EAC, BLOCK_EAC_SIGNED].into_iter().all(|reader| stops(&refused(reader, 4, 8, 16)));
+    set_hook(hook);
+    let wide = Case { width: 16_385, ..refused(ETC1, 0, 0, 0) };
+    let alpha = Case { data: vec![0x80, 0], ..refused(BLOCK_A8, 0, 2, 1) };
+    let accepts = crate_answer(&wide).number == 0 && crate_answer(&alpha).image == [0x8000_0000];
+    let so = short && channels && accepts;
+    println!("{:<34} {}", "the crate, where only 01 refuses", if so { "as DIFFERENCES.md says" } else { "otherwise" });
+    so
+}
+
+// Bytes of 10 hex, so that no multiplier is 0.
+fn refused(reader: u32, channel: u32, bytes: usize, elements: usize) -> Case {
+    Case { reader, channel, width: 0, height: 0, data: vec![0x10; bytes], image: vec![0; elements] }
+}
+
+fn stops(case: &Case) -> bool {
+    catch_unwind(|| crate_answer(case).number).is_err()
+}

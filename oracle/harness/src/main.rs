@@ -1,0 +1,127 @@
+//! Feeds one set of cases to a program under test and to other decoders, and counts
+//! the differences; or writes down what the other decoders answer. Run by oracle/compare,
+//! oracle/second and oracle/record, which say how.
+
+mod blocks;
+mod cases;
+mod examples;
+mod expected;
+mod pictures;
+mod protocol;
+mod random;
+mod readers;
+mod record;
+mod report;
+mod rules;
+mod second;
+mod specimens;
+
+use protocol::Peer;
+use report::Report;
+use std::io::Result;
+use std::process::ExitCode;
+
+pub struct Options {
+    seed: u64,
+    blocks: usize,
+    listed: Vec<String>,
+    eleven: bool,
+    /// Programs that speak the protocol, and the folder of published pictures.
+    mesa: String,
+    android: String,
+    pictures: String,
+    program: String,
+    /// What the stored list says of itself, and the folder that it goes to.
+    about: String,
+    folder: String,
+}
+
+fn options(words: &[String]) -> Options {
+    let value = |name: &str| words.windows(2).find(|pair| pair[0] == name).map(|pair| pair[1].clone());
+    let text = |name: &str| value(name).unwrap_or_default();
+    let number = |name: &str, default: u64| value(name).map_or(default, |text| text.parse().expect("a number"));
+    Options {
+        seed: number("--seed", 1),
+        blocks: number("--blocks", 300_000) as usize,
+        listed: text("--listed").split(',').map(str::to_string).collect(),
+        eleven: words.iter().any(|word| word == "--eleven"),
+        mesa: text("--mesa"),
+        android: text("--android"),
+        pictures: text("--pictures"),
+        program: text("--program"),
+        about: text("--about"),
+        folder: text("--folder"),
+    }
+}
+
+fn main() -> ExitCode {
+    let words: Vec<String> = std::env::args().skip(1).collect();
+    let options = options(words.get(1..).unwrap_or(&[]));
+    protocol::watch();
+    let same = match words.first().map(String::as_str) {
+        Some("compare") => compare(&options),
+        Some("second") => second(&options),
+        Some("record") => record::record(&options),
+        _ => Err(std::io::Error::other("the first word is compare, second or record")),
+    };
+    match same {
+        Ok(true) => ExitCode::SUCCESS,
+        Ok(false) => ExitCode::from(1),
+        Err(error) => {
+            eprintln!("oracle: {error}");
+            ExitCode::from(2)
+        }
+    }
+}
+
+fn compare(options: &Options) -> Result<bool> {
+    let mut same = expected::is_listed(&options.listed, expected::REFUSALS_ADDED);
+    if !same {
+        println!("refusals that the crate does not have are expected, and are not listed");
+    }
+    same &= compare_specimens(options)?;
+    same &= examples::of_crate(&options.program)?;
+    same &= examples::crate_has_no_such_refusal();
+    for reader in readers::PICTURES.chain(readers::BLOCKS) {
+        same &= compare_reader(reader, options)?;
+    }
+    Ok(same)
+}
+
+// The document's own values are held to both: to the program, and to the crate by the listed equations.
+fn compare_specimens(options: &Options) -> Result<bool> {
+    let (cases, due): (Vec<_>, Vec<_>) = specimens::specimens().into_iter().map(|s| (s.case, s.due)).unzip();
+    let mut report = Report::new("document 01's specimens".to_string(), "", cases.len());
+    let mut by_crate =
+        Report::new("the crate, 01's specimens".to_string(), "pixels by a listed difference", cases.len());
+    for ((case, got), due) in protocol::ask(&options.program, cases)?.into_iter().zip(due) {
+        report.count(&case, &due, &got, 0);
+        let given = expected::expected(&case, &options.listed);
+        by_crate.count(&case, &due, &given.answer, given.touched);
+    }
+    Ok(report.close() & by_crate.close())
+}
+
+fn second(options: &Options) -> Result<bool> {
+    let mut same = true;
+    for path in pictures::list(&options.pictures)? {
+        same &= pictures::compare(&path, &options.program)?;
+    }
+    same &= second::specimens(&options.android, &options.mesa)?;
+    same &= examples::of_seconds(&options.mesa, &options.android, &options.program)?;
+    same &= second::android(options)?;
+    same &= second::mesa(options)?;
+    Ok(same)
+}
+
+fn compare_reader(reader: u32, options: &Options) -> Result<bool> {
+    let shapes = cases::plan(reader, options.seed, options.blocks);
+    let mut report = Report::new(readers::name(reader).to_string(), "pixels by a listed difference", shapes.len());
+    let mut peer = Peer::start(&options.program, shapes.into_iter().map(|shape| shape.case()))?;
+    while let Some((case, got)) = peer.next()? {
+        let due = expected::expected(&case, &options.listed);
+        report.count(&case, &due.answer, &got, due.touched);
+    }
+    peer.finish()?;
+    Ok(report.close())
+}

@@ -1,0 +1,112 @@
+//! The public readers by their numbers in PROTOCOL.md.
+
+pub const ETC1: u32 = 0;
+pub const RGB: u32 = 1;
+pub const RGBA1: u32 = 2;
+pub const RGBA8: u32 = 3;
+pub const EACR: u32 = 4;
+pub const EACR_SIGNED: u32 = 5;
+pub const EACRG: u32 = 6;
+pub const EACRG_SIGNED: u32 = 7;
+pub const STRICT: u32 = 8;
+/// EAC as whole values of eleven bits, for a program that has those readers.
+pub const WIDE_EACR: u32 = 9;
+pub const WIDE_EACRG: u32 = 11;
+pub const WIDE_EACRG_SIGNED: u32 = 12;
+
+pub const BLOCK_ETC1: u32 = 16;
+pub const BLOCK_RGB: u32 = 17;
+pub const BLOCK_RGBA1: u32 = 18;
+pub const BLOCK_A8: u32 = 19;
+pub const BLOCK_RGBA8: u32 = 20;
+pub const BLOCK_EAC: u32 = 21;
+pub const BLOCK_EAC_SIGNED: u32 = 22;
+pub const BLOCK_EACR: u32 = 23;
+pub const BLOCK_EACR_SIGNED: u32 = 24;
+pub const BLOCK_EACRG: u32 = 25;
+pub const BLOCK_EACRG_SIGNED: u32 = 26;
+
+pub const PICTURES: std::ops::RangeInclusive<u32> = ETC1..=STRICT;
+pub const BLOCKS: std::ops::RangeInclusive<u32> = BLOCK_ETC1..=BLOCK_EACRG_SIGNED;
+
+pub fn name(reader: u32) -> &'static str {
+    match reader {
+        ETC1 => "etc1",
+        RGB => "etc2_rgb",
+        RGBA1 => "etc2_rgba1",
+        RGBA8 => "etc2_rgba8",
+        EACR => "eacr",
+        EACR_SIGNED => "eacr_signed",
+        EACRG => "eacrg",
+        EACRG_SIGNED => "eacrg_signed",
+        STRICT => "strict etc1",
+        WIDE_EACR..=WIDE_EACRG_SIGNED => "eac of eleven bits",
+        BLOCK_ETC1 => "etc1_block",
+        BLOCK_RGB => "etc2_rgb_block",
+        BLOCK_RGBA1 => "etc2_rgba1_block",
+        BLOCK_A8 => "etc2_a8_block",
+        BLOCK_RGBA8 => "etc2_rgba8_block",
+        BLOCK_EAC => "eac_block",
+        BLOCK_EAC_SIGNED => "eac_signed_block",
+        BLOCK_EACR => "eacr_block",
+        BLOCK_EACR_SIGNED => "eacr_signed_block",
+        BLOCK_EACRG => "eacrg_block",
+        BLOCK_EACRG_SIGNED => "eacrg_signed_block",
+        _ => "unknown",
+    }
+}
+
+pub fn is_block(reader: u32) -> bool {
+    reader >= BLOCK_ETC1
+}
+
+/// The two readers that name a channel.
+pub fn has_channel(reader: u32) -> bool {
+    reader == BLOCK_EAC || reader == BLOCK_EAC_SIGNED
+}
+
+pub fn block_size(reader: u32) -> usize {
+    match reader {
+        RGBA8 | EACRG | EACRG_SIGNED | WIDE_EACRG | WIDE_EACRG_SIGNED | BLOCK_RGBA8 | BLOCK_EACRG
+        | BLOCK_EACRG_SIGNED => 16,
+        _ => 8,
+    }
+}
+
+/// Elements of the image that a pixel takes.
+pub fn elements(reader: u32) -> usize {
+    if reader == WIDE_EACRG || reader == WIDE_EACRG_SIGNED {
+        2
+    } else {
+        1
+    }
+}
+
+/// How the eight bytes from a multiple of eight on are read.
+#[derive(Clone, Copy, PartialEq)]
+pub enum Half {
+    Etc1,
+    Rgb,
+    Rgba1,
+    Alpha,
+    Eac,
+}
+
+pub fn half(reader: u32, second: bool) -> Half {
+    match reader {
+        ETC1 | STRICT | BLOCK_ETC1 => Half::Etc1,
+        RGB | BLOCK_RGB => Half::Rgb,
+        RGBA1 | BLOCK_RGBA1 => Half::Rgba1,
+        RGBA8 | BLOCK_RGBA8 if second => Half::Rgb,
+        RGBA8 | BLOCK_RGBA8 | BLOCK_A8 => Half::Alpha,
+        _ => Half::Eac,
+    }
+}
+
+pub fn is_signed(reader: u32) -> bool {
+    matches!(reader, EACR_SIGNED | EACRG_SIGNED | BLOCK_EAC_SIGNED | BLOCK_EACR_SIGNED | BLOCK_EACRG_SIGNED)
+}
+
+pub fn is_eac(reader: u32) -> bool {
+    half(reader, false) == Half::Eac
+}

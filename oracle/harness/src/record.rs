@@ -1,0 +1,103 @@
+//! The stored list that crates/answers replays: a few hundred cases with the answers of
+//! decoders that nobody here wrote. The program under test is not asked.
+
+use crate::cases::{stored_accepted_plan, stored_plan};
+use crate::expected::{expected, lowest_base_raised};
+use crate::pictures;
+use crate::protocol::{ask, Case, Pair};
+use crate::readers::*;
+use crate::rules::verdict;
+use crate::second::from_mesa;
+use crate::specimens::specimens;
+use std::io::{Error, Result};
+
+const TEXT: usize = 1024;
+const NAME: usize = 44;
+/// The largest picture that is stored, in pixels: published ones are stored from their third level on.
+const MOST_PIXELS: usize = 16 * 8;
+
+/// The list as the program reads it, and what it has to write.
+struct List {
+    bytes: Vec<u8>,
+    lines: String,
+}
+
+impl List {
+    fn group(&mut self, name: &str, pairs: &[Pair]) {
+        self.bytes.extend(format!("{name:<NAME$}").into_bytes());
+        self.bytes.extend((pairs.len() as u32).to_le_bytes());
+        for (case, due) in pairs {
+            self.bytes.extend(case.bytes());
+            self.bytes.extend(due.bytes());
+        }
+        self.lines += &format!("{name:<NAME$}{} cases, 0 differ\n", pairs.len());
+    }
+}
+
+pub fn record(options: &crate::Options) -> Result<bool> {
+    let mut list = List { bytes: text(&options.about)?, lines: String::new() };
+    list.group("document 01's specimens", &document(&options.listed)?);
+    let mut added = Vec::new();
+    for reader in PICTURES.chain(BLOCKS) {
+        let cases = stored_plan(reader, options.seed).into_iter().map(|shape| shape.case());
+        let answered = cases.map(|case| (case.clone(), expected(&case, &options.listed).answer));
+        let (theirs, ours): (Vec<Pair>, Vec<Pair>) = answered.partition(|(case, _)| is_of_crate(case));
+        list.group(&format!("crate: {}", name(reader)), &theirs);
+        added.extend(ours);
+    }
+    list.group("document 01's added refusals", &added);
+    seconds(options, &mut list)?;
+    std::fs::write(format!("{}/stdin", options.folder), &list.bytes)?;
+    std::fs::write(format!("{}/stdout", options.folder), &list.lines)?;
+    Ok(true)
+}
+
+// What the list says of itself, in its first bytes.
+fn text(about: &str) -> Result<Vec<u8>> {
+    let mut bytes = about.as_bytes().to_vec();
+    if bytes.len() > TEXT {
+        return Err(Error::other("the text is too long"));
+    }
+    bytes.resize(TEXT, b'\n');
+    Ok(bytes)
+}
+
+// The document's own values, which are the crate's too by the listed equations.
+fn document(listed: &[String]) -> Result<Vec<Pair>> {
+    let pairs: Vec<Pair> = specimens().into_iter().map(|s| (s.case, s.due)).collect();
+    if pairs.iter().any(|(case, due)| expected(case, listed).answer != *due) {
+        return Err(Error::other("the crate has another answer to a specimen than document 01"));
+    }
+    Ok(pairs)
+}
+
+// Whether the crate itself was asked: it accepts, or refuses a picture with 2 or 3.
+fn is_of_crate(case: &Case) -> bool {
+    match verdict(case).0 {
+        0 => true,
+        2 | 3 => !is_block(case.reader),
+        _ => false,
+    }
+}
+
+fn seconds(options: &crate::Options, list: &mut List) -> Result<()> {
+    let mut cases: Vec<Case> =
+        specimens().into_iter().filter(|s| s.shows() && s.case.reader == ETC1).map(|s| s.exact().0).collect();
+    cases.extend(stored_accepted_plan(ETC1, options.seed, false).iter().map(|shape| shape.case()));
+    list.group("Android: etc1", &ask(&options.android, cases)?);
+    for reader in ETC1..=EACRG_SIGNED {
+        let shapes = stored_accepted_plan(reader, options.seed, reader == ETC1);
+        let cases = shapes.iter().map(|shape| lowest_base_raised(&shape.case())).collect();
+        let seen = ask(&options.mesa, cases)?;
+        let pairs: Vec<Pair> =
+            seen.into_iter().map(|(case, seen)| (case.clone(), from_mesa(&case, seen, reader))).collect();
+        list.group(&format!("Mesa: {}", name(reader)), &pairs);
+    }
+    for path in pictures::list(&options.pictures)? {
+        for (what, mut levels) in pictures::published_levels(&path)? {
+            levels.retain(|(case, _)| case.image.len() <= MOST_PIXELS);
+            list.group(&format!("piglit: {what}"), &levels);
+        }
+    }
+    Ok(())
+}

@@ -1,0 +1,69 @@
+//! Document 01's table of refusals, and the test behind strict ETC1. Cases that it
+//! refuses never reach the crate, which has no such checks or has fewer of them.
+
+use crate::protocol::Case;
+use crate::readers::{block_size, has_channel, is_block, STRICT};
+
+const LIMIT: u32 = 16_384;
+
+pub fn blocks_across(width: u32) -> usize {
+    (width as usize).div_ceil(4)
+}
+
+pub fn blocks(case: &Case) -> usize {
+    if is_block(case.reader) {
+        return 1;
+    }
+    blocks_across(case.width) * blocks_across(case.height)
+}
+
+/// The answer's number and block.
+pub fn verdict(case: &Case) -> (u32, u32) {
+    if is_block(case.reader) {
+        (block_verdict(case), 0)
+    } else {
+        picture_verdict(case)
+    }
+}
+
+fn block_verdict(case: &Case) -> u32 {
+    if has_channel(case.reader) && case.channel > 3 {
+        return 5;
+    }
+    if case.data.len() < block_size(case.reader) {
+        return 2;
+    }
+    if case.image.len() < 16 {
+        return 3;
+    }
+    0
+}
+
+fn picture_verdict(case: &Case) -> (u32, u32) {
+    if case.width > LIMIT || case.height > LIMIT {
+        return (1, 0);
+    }
+    if case.data.len() < blocks(case) * block_size(case.reader) {
+        return (2, 0);
+    }
+    if case.image.len() < case.width as usize * case.height as usize {
+        return (3, 0);
+    }
+    if case.reader == STRICT {
+        let new = case.data.chunks_exact(8).take(blocks(case)).position(is_new);
+        return new.map_or((0, 0), |block| (4, block as u32));
+    }
+    (0, 0)
+}
+
+/// A five-bit base plus its signed step that lies outside 0 to 31.
+pub fn is_outside(byte: u8) -> bool {
+    let step = (byte % 8) as i32;
+    let sum = (byte / 8) as i32 + if step > 3 { step - 8 } else { step };
+    !(0..=31).contains(&sum)
+}
+
+/// A block that an ETC1 reader must not read by the ETC1 rule.
+pub fn is_new(block: &[u8]) -> bool {
+    block[3] & 2 != 0 && block[..3].iter().any(|&byte| is_outside(byte))
+}

@@ -1,0 +1,128 @@
+//! The program under test against decoders that share nothing with it or the crate.
+
+use crate::cases::{accepted_plan, Shape};
+use crate::expected::{is_listed, lowest_base_raised, EAC_LOWEST_BASE};
+use crate::protocol::{ask, Answer, Case, Peer};
+use crate::readers::*;
+use crate::report::Report;
+use crate::rules::{blocks_across, is_new};
+use crate::specimens;
+use std::io::Result;
+
+/// Mesa in all eight formats; with `eleven`, EAC also by the readers of whole values.
+pub fn mesa(options: &crate::Options) -> Result<bool> {
+    let mut same = true;
+    for reader in ETC1..=EACRG_SIGNED {
+        same &= against(reader, options, &options.mesa, "Mesa", reader)?;
+        if options.eleven && is_eac(reader) {
+            same &= against(reader, options, &options.mesa, "Mesa, eleven bits,", reader + WIDE_EACR - EACR)?;
+        }
+    }
+    Ok(same)
+}
+
+/// Android's libETC1, sums out of range included.
+pub fn android(options: &crate::Options) -> Result<bool> {
+    against(ETC1, options, &options.android, "Android", ETC1)
+}
+
+/// Document 01's specimens that show something, by Android for ETC1 and by Mesa for the other formats.
+pub fn specimens(android: &str, mesa: &str) -> Result<bool> {
+    let mut same = true;
+    for (program, label) in [(android, "Android"), (mesa, "Mesa")] {
+        let shown =
+            specimens::specimens().into_iter().filter(|s| s.shows() && (s.case.reader == ETC1) == (label == "Android"));
+        let (cases, due): (Vec<_>, Vec<_>) = shown.map(|s| s.exact()).unzip();
+        let mut report = Report::new(format!("{label}, document 01's specimens"), "", cases.len());
+        for ((case, seen), due) in ask(program, cases)?.into_iter().zip(due) {
+            let asked = case.reader;
+            report.count(&case, &due, &from_mesa(&case, seen, asked), 0);
+        }
+        same &= report.close();
+    }
+    Ok(same)
+}
+
+// The same shapes go to both, each as its own reader wants them.
+fn against(reader: u32, options: &crate::Options, other: &str, label: &str, asked: u32) -> Result<bool> {
+    let shapes = accepted_plan(reader, options.seed, options.blocks);
+    let aside = if reader == ETC1 { "pixels left to Android" } else { "bases 80 given as 81" };
+    let mut report = Report::new(format!("{label} {}", name(reader)), aside, shapes.len());
+    let raised = !is_listed(&options.listed, EAC_LOWEST_BASE);
+    let cases = |shapes: Vec<Shape>| shapes.into_iter().map(|shape| shape.case());
+    let mut theirs = Peer::start(other, cases(shapes.clone()))?;
+    let mut ours = Peer::start(&options.program, cases(shapes).map(move |case| for_ours(case, asked, raised)))?;
+    while let (Some((case, seen)), Some((as_asked, got))) = (theirs.next()?, ours.next()?) {
+        let left = if label == "Android" { Vec::new() } else { wrapped_halves(&case) };
+        let changed = case.data.iter().zip(&as_asked.data).filter(|(a, b)| a != b).count();
+        let mut due = if label == "Android" { seen } else { from_mesa(&case, seen, asked) };
+        left.iter().for_each(|&k| due.image[k] = got.image[k]);
+        report.count(&as_asked, &due, &got, left.len() + changed);
+    }
+    ours.finish()?;
+    theirs.finish()?;
+    Ok(report.close())
+}
+
+// Mesa reads the signed base 80 hex as 81: where ours does not, ours is given 81.
+fn for_ours(case: Case, asked: u32, raised: bool) -> Case {
+    let mut case = if raised { lowest_base_raised(&case) } else { case };
+    if asked == WIDE_EACRG || asked == WIDE_EACRG_SIGNED {
+        case.image.extend_from_within(..);
+    }
+    case.reader = asked;
+    case
+}
+
+/// Mesa's answer in the form of the reader asked.
+pub fn from_mesa(case: &Case, seen: Answer, asked: u32) -> Answer {
+    let image = match case.reader {
+        ETC1 | RGB | RGBA1 | RGBA8 => seen.image,
+        reader if asked == reader => seen.image.iter().map(|&both| pixel(reader, both)).collect(),
+        reader => seen.image.iter().flat_map(|&both| values(reader, both)).collect(),
+    };
+    Answer { image, ..seen }
+}
+
+// Of ETC1 blocks with a sum out of range Mesa does not wrap the second base, so their
+// second halves are taken as answered: Android's reading is held to those.
+fn wrapped_halves(case: &Case) -> Vec<usize> {
+    if case.reader != ETC1 {
+        return Vec::new();
+    }
+    let width = case.width as usize;
+    let is_left = |&k: &usize| {
+        let (x, y) = (k % width, k / width);
+        let at = 8 * (y / 4 * blocks_across(case.width) + x / 4);
+        let block = &case.data[at..at + 8];
+        let across = if block[3] & 1 == 0 { x } else { y };
+        is_new(block) && across % 4 >= 2
+    };
+    (0..case.image.len()).filter(is_left).collect()
+}
+
+// Mesa's sixteen bits of red and green, back to the eleven that they repeat.
+fn eleven(reader: u32, both: u32) -> [i32; 2] {
+    let signed = is_signed(reader);
+    [both as u16, (both >> 16) as u16].map(|bits| {
+        let sixteen = if signed { bits as i16 as i32 } else { bits as i32 };
+        let value = sixteen.abs() / 32;
+        let repeated = value * 32 + value / if signed { 32 } else { 64 };
+        assert_eq!(repeated, sixteen.abs(), "Mesa gave sixteen bits that repeat no eleven");
+        value * sixteen.signum()
+    })
+}
+
+// Bytes as document 01 takes them from the eleven bits.
+fn pixel(reader: u32, both: u32) -> u32 {
+    let least = if is_signed(reader) { -1023 } else { 0 };
+    let bytes = eleven(reader, both).map(|value| (value - least) as u32 / 8);
+    let green = if block_size(reader) == 16 { bytes[1] } else { 0 };
+    0xff00_0000 | bytes[0] << 16 | green << 8
+}
+
+// The whole values, as elements of sixteen bits.
+fn values(reader: u32, both: u32) -> Vec<u32> {
+    let channels = block_size(reader) / 8;
+    eleven(reader, both).iter().take(channels).map(|&value| value as u16 as u32).collect()
+}
