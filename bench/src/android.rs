@@ -17,7 +17,14 @@ pub fn print(side: usize, turns: usize, data: &[u8]) {
         let began = crate::clock::seconds();
         // SAFETY: the lengths are those of a picture of this side.
         let done = unsafe {
-            etc1_decode_image(data.as_ptr(), out.as_mut_ptr(), side as u32, side as u32, 3, side as u32 * 3)
+            etc1_decode_image(
+                data.as_ptr(),
+                out.as_mut_ptr(),
+                side as u32,
+                side as u32,
+                3,
+                side as u32 * 3,
+            )
         };
         assert_eq!(done, 0);
         std::hint::black_box(&out);

@@ -15,7 +15,10 @@ extern "C" {
 const CLOCK_THREAD_CPUTIME_ID: c_int = 3;
 
 pub fn seconds() -> f64 {
-    let mut time = Time { seconds: 0, nanoseconds: 0 };
+    let mut time = Time {
+        seconds: 0,
+        nanoseconds: 0,
+    };
     // SAFETY: `time` is a local with C's layout of a timespec on 64-bit Linux.
     let done = unsafe { clock_gettime(CLOCK_THREAD_CPUTIME_ID, &mut time) };
     assert_eq!(done, 0);

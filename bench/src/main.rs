@@ -17,21 +17,22 @@ type Maker = fn(usize, &[blocks::Half], &mut Random) -> Vec<u8>;
 
 fn main() {
     let mut alike = true;
-    for (title, make) in [("random blocks", blocks::random as Maker), ("a natural mix", blocks::natural)] {
+    for (title, make) in [
+        ("random blocks", blocks::random as Maker),
+        ("a natural mix", blocks::natural),
+    ] {
         println!("{SIDE} x {SIDE}, {title}; milliseconds, medians of {TURNS} turns");
         println!("| format | crate | library | ratio | same pixels |");
         println!("|---|---|---|---|---|");
         for format in &FORMATS {
             alike &= compared(format, make);
         }
-        if std::env::args().nth(1).as_deref() == Some("--quick") {
-            continue;
-        }
-        android::print(SIDE, TURNS, &make(SIDE * SIDE / 16, &[blocks::Half::Colour], &mut Random::new(SEED)));
+        android::print(
+            SIDE,
+            TURNS,
+            &make(SIDE * SIDE / 16, &[blocks::Half::Colour], &mut Random::new(SEED)),
+        );
         println!();
-    }
-    if std::env::args().nth(1).as_deref() == Some("--quick") {
-        return;
     }
     println!("filling the image alone: {:.2} ms\n", filled(SIDE));
     growth();
@@ -61,7 +62,10 @@ fn compared(format: &Format, make: Maker) -> bool {
 fn growth() {
     let sides = [16, 256, 1024, 4096];
     println!("how cost grows: nanoseconds a pixel, crate / library, a natural mix");
-    println!("| format | {} |", sides.map(|side| format!("{side} x {side}")).join(" | "));
+    println!(
+        "| format | {} |",
+        sides.map(|side| format!("{side} x {side}")).join(" | ")
+    );
     println!("|---|---|---|---|---|");
     for format in &FORMATS {
         let cells = sides.map(|side| {

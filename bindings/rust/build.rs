@@ -13,8 +13,7 @@ fn main() {
     let folder = PathBuf::from(env::var_os("OUT_DIR").unwrap());
     let linked = folder.join("libyalivucu.a");
     if archive != linked {
-        std::fs::copy(&archive, &linked)
-            .unwrap_or_else(|why| panic!("cannot copy {}: {why}", archive.display()));
+        std::fs::copy(&archive, &linked).unwrap_or_else(|why| panic!("cannot copy {}: {why}", archive.display()));
         println!("cargo:rerun-if-changed={}", archive.display());
     }
     println!("cargo:rustc-link-search=native={}", folder.display());

@@ -193,12 +193,7 @@ channels! {
 /// assert_eq!(refused, Err(Refusal::OutOfRange { block: 0 }));
 /// assert_eq!(image, [7; 16]);
 /// ```
-pub fn decode_etc1_strict(
-    data: &[u8],
-    width: usize,
-    height: usize,
-    image: &mut [u32],
-) -> Result<(), Refusal> {
+pub fn decode_etc1_strict(data: &[u8], width: usize, height: usize, image: &mut [u32]) -> Result<(), Refusal> {
     let mut block = 0;
     // SAFETY: the pointers and lengths are those of two slices that live through the call, and
     // `block` is a local of its own.
