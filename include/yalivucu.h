@@ -1,8 +1,8 @@
 /* ETC1, ETC2 and EAC textures, read by proved code.
  *
- * Link with the static library that `bindings/archive FILE.a` writes; it needs the C library
- * and nothing else. Every function may be called from several threads at once, allocates
- * nothing, keeps nothing between calls and always returns.
+ * Link with the static library that `bindings/archive FILE.a` writes. Every function may be
+ * called from several threads at once, allocates nothing, keeps nothing between calls and
+ * always returns.
  *
  * Arguments
  *   data, data_len     the compressed bytes and how many there are. They are only read, and
