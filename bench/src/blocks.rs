@@ -1,0 +1,134 @@
+//! Blocks to read: random bytes, and a natural mix of kinds.
+
+/// A small random generator (xorshift), so that every run has the same pictures.
+pub struct Random(u64);
+
+impl Random {
+    pub fn new(seed: u64) -> Random {
+        Random(seed.wrapping_mul(0x9e37_79b9_7f4a_7c15) | 1)
+    }
+
+    pub fn next(&mut self) -> u64 {
+        self.0 ^= self.0 << 13;
+        self.0 ^= self.0 >> 7;
+        self.0 ^= self.0 << 17;
+        self.0.wrapping_mul(0x2545_f491_4f6c_dd1d) >> 16
+    }
+
+    /// A number below n.
+    fn below(&mut self, n: u64) -> u64 {
+        self.next() % n
+    }
+}
+
+/// What the bytes of a block hold, eight by eight.
+#[derive(Clone, Copy, PartialEq)]
+pub enum Half {
+    Colour,
+    /// Colour whose difference bit is the opaque bit.
+    Punched,
+    Alpha,
+    Channel,
+}
+
+#[derive(Clone, Copy)]
+enum Kind {
+    Individual,
+    Differential,
+    T,
+    H,
+    Planar,
+}
+
+pub fn random(count: usize, halves: &[Half], random: &mut Random) -> Vec<u8> {
+    (0..count * halves.len() * 8).map(|_| random.next() as u8).collect()
+}
+
+/// Runs of 1 to 32 blocks of one kind: 78 % differential, 13 % individual, 3 % each of T, H
+/// and planar; a tenth of the RGBA1 runs and a quarter of the alpha runs are transparent or flat.
+pub fn natural(count: usize, halves: &[Half], random: &mut Random) -> Vec<u8> {
+    let mut data = Vec::with_capacity(count * halves.len() * 8);
+    let mut left = 0;
+    let (mut kind, mut share) = (Kind::Differential, 0);
+    for _ in 0..count {
+        if left == 0 {
+            left = 1 + random.below(32);
+            kind = drawn(random);
+            share = random.below(100);
+        }
+        left -= 1;
+        for half in halves {
+            data.extend(match half {
+                Half::Colour => colour(kind, random),
+                Half::Punched => punched(kind, share >= 10, random),
+                Half::Alpha => alpha(share < 25, random),
+                Half::Channel => alpha(false, random),
+            });
+        }
+    }
+    data
+}
+
+fn drawn(random: &mut Random) -> Kind {
+    match random.below(100) {
+        0..=77 => Kind::Differential,
+        78..=90 => Kind::Individual,
+        91..=93 => Kind::T,
+        94..=96 => Kind::H,
+        _ => Kind::Planar,
+    }
+}
+
+/// A random byte whose base plus step is, or is not, in 0..31.
+fn summed(inside: bool, random: &mut Random) -> u8 {
+    loop {
+        let byte = random.next() as u8;
+        let step = (byte & 7) as i8;
+        let sum = (byte >> 3) as i8 + if step > 3 { step - 8 } else { step };
+        if (0..32).contains(&sum) == inside {
+            return byte;
+        }
+    }
+}
+
+fn colour(kind: Kind, random: &mut Random) -> [u8; 8] {
+    let mut block = random.next().to_le_bytes();
+    block[6..].copy_from_slice(&(random.next() as u16).to_le_bytes());
+    block[3] |= 2;
+    let inside = match kind {
+        Kind::Individual => {
+            block[3] &= !2;
+            return block;
+        }
+        Kind::Differential => [true, true, true],
+        Kind::T => [false, true, true],
+        Kind::H => [true, false, true],
+        Kind::Planar => [true, true, false],
+    };
+    for (byte, inside) in block.iter_mut().zip(inside) {
+        *byte = summed(inside, random);
+    }
+    block
+}
+
+/// RGBA1 has no individual blocks: the bit that would tell them says whether a block is opaque.
+fn punched(kind: Kind, opaque: bool, random: &mut Random) -> [u8; 8] {
+    let kind = match kind {
+        Kind::Individual => Kind::Differential,
+        other => other,
+    };
+    let mut block = colour(kind, random);
+    if !opaque {
+        block[3] &= !2;
+    }
+    block
+}
+
+/// A flat block has multiplier 0, any other 1 to 15.
+fn alpha(flat: bool, random: &mut Random) -> [u8; 8] {
+    let mut block = random.next().to_le_bytes();
+    block[6..].copy_from_slice(&(random.next() as u16).to_le_bytes());
+    let multiplier = if flat { 0 } else { 1 + random.below(15) as u8 };
+    block[1] = multiplier << 4 | block[1] & 15;
+    block
+}

@@ -1,0 +1,76 @@
+//! The formats that are measured, and how the crate's pixels are compared with the library's.
+use crate::blocks::Half;
+
+pub type Reader<E> = fn(&[u8], usize, usize, &mut [u32]) -> Result<(), E>;
+
+pub struct Format {
+    pub name: &'static str,
+    pub halves: &'static [Half],
+    pub library: Reader<yalivucu::Refusal>,
+    pub given: Reader<&'static str>,
+}
+
+pub const FORMATS: [Format; 6] = [
+    Format {
+        name: "ETC1",
+        halves: &[Half::Colour],
+        library: yalivucu::decode_etc1,
+        given: given::decode_etc1,
+    },
+    Format {
+        name: "RGB",
+        halves: &[Half::Colour],
+        library: yalivucu::decode_etc2_rgb,
+        given: given::decode_etc2_rgb,
+    },
+    Format {
+        name: "RGBA1",
+        halves: &[Half::Punched],
+        library: yalivucu::decode_etc2_rgba1,
+        given: given::decode_etc2_rgba1,
+    },
+    Format {
+        name: "RGBA8",
+        halves: &[Half::Alpha, Half::Colour],
+        library: yalivucu::decode_etc2_rgba8,
+        given: given::decode_etc2_rgba8,
+    },
+    Format {
+        name: "EAC R",
+        halves: &[Half::Channel],
+        library: yalivucu::decode_eacr,
+        given: given::decode_eacr,
+    },
+    Format {
+        name: "EAC RG",
+        halves: &[Half::Channel, Half::Channel],
+        library: yalivucu::decode_eacrg,
+        given: given::decode_eacrg,
+    },
+];
+
+impl Format {
+    /// Whether both write the same pixels, outside the listed differences: the crate keeps the
+    /// colour of a transparent RGBA1 pixel, and it reads the EAC index word backwards.
+    pub fn same(&self, data: &[u8], width: usize, height: usize) -> bool {
+        let mut ours = vec![0; width * height];
+        let mut theirs = ours.clone();
+        (self.given)(data, width, height, &mut theirs).expect("the crate refused");
+        let told: Vec<u8> = match self.halves[0] {
+            Half::Channel => data.chunks(8).flat_map(backwards).collect(),
+            _ => data.to_vec(),
+        };
+        (self.library)(&told, width, height, &mut ours).expect("the library refused");
+        if self.halves[0] == Half::Punched {
+            for pixel in theirs.iter_mut().filter(|pixel| **pixel >> 24 == 0) {
+                *pixel = 0;
+            }
+        }
+        ours == theirs
+    }
+}
+
+/// The bytes that the Khronos order shows as the crate shows b0 to b7.
+fn backwards(b: &[u8]) -> [u8; 8] {
+    [b[0], b[1], b[5], b[4], b[3], b[2], b[1], b[0]]
+}

@@ -1,0 +1,133 @@
+/* The library from C: the specimens of document 01 that show one call each, and every refusal. */
+#include "yalivucu.h"
+#include <stdio.h>
+#include <string.h>
+
+enum { MOST = 32 };
+
+static const uint32_t STOOD = 0x11111111;
+static uint32_t image[MOST];
+static int failures;
+
+static void same(const char *what, uint32_t got, uint32_t wanted)
+{
+    if (got == wanted) return;
+    printf("%s: %08x, not %08x\n", what, got, wanted);
+    failures++;
+}
+
+static void clear(void)
+{
+    for (int k = 0; k < MOST; k++) image[k] = STOOD;
+}
+
+/* From element `from` on, nothing was written. */
+static void untouched(const char *what, int from)
+{
+    for (int k = from; k < MOST; k++) same(what, image[k], STOOD);
+}
+
+static const uint8_t ZERO[16] = {0};
+static const uint8_t TWO[16] = {0x04, 0, 0, 0x02};
+
+static void pictures(void)
+{
+    const struct {
+        const char *name;
+        uint32_t (*read)(const uint8_t *, size_t, size_t, size_t, uint32_t *, size_t);
+        size_t size;
+        uint32_t first;
+    } row[] = {
+        {"etc1", yalivucu_decode_etc1, 8, 0xff020202},
+        {"etc2_rgb", yalivucu_decode_etc2_rgb, 8, 0xff020202},
+        {"etc2_rgba1", yalivucu_decode_etc2_rgba1, 8, 0xff000000},
+        {"etc2_rgba8", yalivucu_decode_etc2_rgba8, 16, 0x00020202},
+        {"eacr", yalivucu_decode_eacr, 8, 0xff000000},
+        {"eacr_signed", yalivucu_decode_eacr_signed, 8, 0xff7f0000},
+        {"eacrg", yalivucu_decode_eacrg, 16, 0xff000000},
+        {"eacrg_signed", yalivucu_decode_eacrg_signed, 16, 0xff7f7f00},
+    };
+    for (size_t k = 0; k < sizeof row / sizeof *row; k++) {
+        clear();
+        same(row[k].name, row[k].read(ZERO, row[k].size, 16385, 0, image, 0), YALIVUCU_TOO_LARGE);
+        same(row[k].name, row[k].read(ZERO, row[k].size, SIZE_MAX, SIZE_MAX, image, MOST), YALIVUCU_TOO_LARGE);
+        same(row[k].name, row[k].read(ZERO, row[k].size - 1, 4, 4, image, 15), YALIVUCU_SHORT_DATA);
+        same(row[k].name, row[k].read(ZERO, row[k].size, 4, 4, image, 15), YALIVUCU_SHORT_IMAGE);
+        same(row[k].name, row[k].read(ZERO, 0, 16384, 0, image, 0), YALIVUCU_DONE);
+        untouched(row[k].name, 0);
+        same(row[k].name, row[k].read(ZERO, row[k].size, 4, 4, image, MOST), YALIVUCU_DONE);
+        same(row[k].name, image[0], row[k].first);
+        untouched(row[k].name, 16);
+    }
+}
+
+static void strict(void)
+{
+    uint8_t data[16];
+    size_t block = 77;
+    memcpy(data, ZERO, 8);
+    memcpy(data + 8, TWO, 8);
+    clear();
+    same("strict, short", yalivucu_decode_etc1_strict(data, 15, 5, 1, image, 5, &block), YALIVUCU_SHORT_DATA);
+    same("strict, accepted", yalivucu_decode_etc1_strict(data, 8, 4, 1, image, 4, &block), YALIVUCU_DONE);
+    same("strict, block kept", (uint32_t)block, 77);
+    same("strict, painted", image[3], 0xff020202);
+    clear();
+    same("strict, refused", yalivucu_decode_etc1_strict(data, 16, 5, 1, image, 6, &block), YALIVUCU_OUT_OF_RANGE);
+    same("strict, block", (uint32_t)block, 1);
+    untouched("strict, refused", 0);
+}
+
+static void blocks(void)
+{
+    const struct {
+        const char *name;
+        uint32_t (*read)(const uint8_t *, size_t, uint32_t *, size_t);
+        size_t size;
+        uint32_t first;
+    } row[] = {
+        {"etc1_block", yalivucu_decode_etc1_block, 8, 0xff020202},
+        {"etc2_rgb_block", yalivucu_decode_etc2_rgb_block, 8, 0xff020202},
+        {"etc2_rgba1_block", yalivucu_decode_etc2_rgba1_block, 8, 0xff000000},
+        {"etc2_rgba8_block", yalivucu_decode_etc2_rgba8_block, 16, 0x00020202},
+        {"eacr_block", yalivucu_decode_eacr_block, 8, 0xff000000},
+        {"eacr_signed_block", yalivucu_decode_eacr_signed_block, 8, 0xff7f0000},
+        {"eacrg_block", yalivucu_decode_eacrg_block, 16, 0xff000000},
+        {"eacrg_signed_block", yalivucu_decode_eacrg_signed_block, 16, 0xff7f7f00},
+        {"etc2_a8_block", yalivucu_decode_etc2_a8_block, 8, 0x00111111},
+    };
+    for (size_t k = 0; k < sizeof row / sizeof *row; k++) {
+        clear();
+        same(row[k].name, row[k].read(ZERO, row[k].size - 1, image, 15), YALIVUCU_SHORT_DATA);
+        same(row[k].name, row[k].read(ZERO, row[k].size, image, 15), YALIVUCU_SHORT_IMAGE);
+        untouched(row[k].name, 0);
+        same(row[k].name, row[k].read(ZERO, row[k].size, image, MOST), YALIVUCU_DONE);
+        same(row[k].name, image[0], row[k].first);
+        untouched(row[k].name, 16);
+    }
+}
+
+static void channels(void)
+{
+    const uint8_t data[8] = {0x80, 0x10};
+    clear();
+    same("eac_block, channel 4", yalivucu_decode_eac_block(data, 7, 4, image, 15), YALIVUCU_NO_CHANNEL);
+    same("eac_block, short", yalivucu_decode_eac_block(data, 7, 3, image, 15), YALIVUCU_SHORT_DATA);
+    same("eac_block, narrow", yalivucu_decode_eac_block(data, 8, 3, image, 15), YALIVUCU_SHORT_IMAGE);
+    untouched("eac_block, refused", 0);
+    same("eac_block", yalivucu_decode_eac_block(data, 8, 2, image, 16), YALIVUCU_DONE);
+    same("eac_block, red", image[15], 0x117d1111);
+    same("eac_signed_block", yalivucu_decode_eac_signed_block(ZERO, 8, 0, image, 16), YALIVUCU_DONE);
+    same("eac_signed_block, blue", image[0], 0x117d117f);
+    untouched("eac_block", 16);
+}
+
+int main(void)
+{
+    pictures();
+    strict();
+    blocks();
+    channels();
+    puts(failures ? "C: FAILED" : "C: passed");
+    return failures != 0;
+}

@@ -1,0 +1,94 @@
+/* ETC1, ETC2 and EAC textures, read by proved code.
+ *
+ * Link with the static library that `bindings/archive FILE.a` writes. Every function may be
+ * called from several threads at once, allocates nothing, keeps nothing between calls and
+ * always returns.
+ *
+ * Arguments
+ *   data, data_len     the compressed bytes and how many there are. They are only read, and
+ *                      bytes beyond the last block of the picture are not looked at.
+ *   width, height      of the picture in pixels: any numbers; 0 is a picture with no pixels.
+ *   image, image_len   the pixels and how many elements there is room for. Pixel (x, y) is
+ *                      image[y * width + x]; a pixel is
+ *                      alpha << 24 | red << 16 | green << 8 | blue.
+ *   out, out_len       the same for the sixteen pixels of one block, row by row.
+ *
+ * Answers
+ *   0  done: the picture's width * height elements, or a block's 16, are written. No other
+ *      element is touched, so what lies behind the picture keeps its value.
+ *   1  refused: the width or the height is above 16384.
+ *   2  refused: data_len is less than the blocks have. A picture has
+ *      ((width + 3) / 4) * ((height + 3) / 4) blocks of 8 bytes, or 16 where it says so below.
+ *   3  refused: image_len is less than width * height, or out_len less than 16.
+ *   4  refused by yalivucu_decode_etc1_strict alone: a block's base plus step is out of range.
+ *   5  refused: the channel is above 3.
+ * Pictures test 1, 2, 3, 4 in that order, blocks 5, 2, 3. A refusal touches no element.
+ *
+ * What the caller owes
+ *   data points to data_len bytes that may be read, image (out) to image_len (out_len)
+ *   elements that may be read and written, and the two do not overlap. Where a length is 0 the
+ *   pointer is not followed, but pass one that is not NULL. C checks none of this, and nothing
+ *   here can. No number and no content of the bytes is wrong: for those there are the answers.
+ */
+#ifndef YALIVUCU_H
+#define YALIVUCU_H
+
+#include <stddef.h>
+#include <stdint.h>
+
+#ifdef __cplusplus
+extern "C" {
+#endif
+
+enum yalivucu_answer {
+    YALIVUCU_DONE = 0,
+    YALIVUCU_TOO_LARGE = 1,
+    YALIVUCU_SHORT_DATA = 2,
+    YALIVUCU_SHORT_IMAGE = 3,
+    YALIVUCU_OUT_OF_RANGE = 4,
+    YALIVUCU_NO_CHANNEL = 5
+};
+
+/* Pictures in blocks of 8 bytes. */
+uint32_t yalivucu_decode_etc1(const uint8_t *data, size_t data_len, size_t width, size_t height, uint32_t *image, size_t image_len);
+uint32_t yalivucu_decode_etc2_rgb(const uint8_t *data, size_t data_len, size_t width, size_t height, uint32_t *image, size_t image_len);
+uint32_t yalivucu_decode_etc2_rgba1(const uint8_t *data, size_t data_len, size_t width, size_t height, uint32_t *image, size_t image_len);
+uint32_t yalivucu_decode_eacr(const uint8_t *data, size_t data_len, size_t width, size_t height, uint32_t *image, size_t image_len);
+uint32_t yalivucu_decode_eacr_signed(const uint8_t *data, size_t data_len, size_t width, size_t height, uint32_t *image, size_t image_len);
+
+/* Pictures in blocks of 16 bytes. */
+uint32_t yalivucu_decode_etc2_rgba8(const uint8_t *data, size_t data_len, size_t width, size_t height, uint32_t *image, size_t image_len);
+uint32_t yalivucu_decode_eacrg(const uint8_t *data, size_t data_len, size_t width, size_t height, uint32_t *image, size_t image_len);
+uint32_t yalivucu_decode_eacrg_signed(const uint8_t *data, size_t data_len, size_t width, size_t height, uint32_t *image, size_t image_len);
+
+/* An ETC1 picture, in blocks of 8 bytes, that holds no block out of range: what it accepts, an
+ * ETC2 decoder shows alike. With answer 4, *block is the number of the first such block, from 0,
+ * left to right and then down; with any other answer *block is not written. block is not NULL
+ * and points into neither data nor image. */
+uint32_t yalivucu_decode_etc1_strict(const uint8_t *data, size_t data_len, size_t width, size_t height, uint32_t *image, size_t image_len, size_t *block);
+
+/* One block of 8 bytes, into out[0] to out[15]. */
+uint32_t yalivucu_decode_etc1_block(const uint8_t *data, size_t data_len, uint32_t *out, size_t out_len);
+uint32_t yalivucu_decode_etc2_rgb_block(const uint8_t *data, size_t data_len, uint32_t *out, size_t out_len);
+uint32_t yalivucu_decode_etc2_rgba1_block(const uint8_t *data, size_t data_len, uint32_t *out, size_t out_len);
+uint32_t yalivucu_decode_eacr_block(const uint8_t *data, size_t data_len, uint32_t *out, size_t out_len);
+uint32_t yalivucu_decode_eacr_signed_block(const uint8_t *data, size_t data_len, uint32_t *out, size_t out_len);
+
+/* One block of 16 bytes, into out[0] to out[15]. */
+uint32_t yalivucu_decode_etc2_rgba8_block(const uint8_t *data, size_t data_len, uint32_t *out, size_t out_len);
+uint32_t yalivucu_decode_eacrg_block(const uint8_t *data, size_t data_len, uint32_t *out, size_t out_len);
+uint32_t yalivucu_decode_eacrg_signed_block(const uint8_t *data, size_t data_len, uint32_t *out, size_t out_len);
+
+/* An alpha half of 8 bytes: replaces the top byte of out[0] to out[15] and keeps the rest. */
+uint32_t yalivucu_decode_etc2_a8_block(const uint8_t *data, size_t data_len, uint32_t *out, size_t out_len);
+
+/* One EAC block of 8 bytes: ORs its bytes into channel 0 blue, 1 green, 2 red or 3 alpha of
+ * out[0] to out[15]. */
+uint32_t yalivucu_decode_eac_block(const uint8_t *data, size_t data_len, size_t channel, uint32_t *out, size_t out_len);
+uint32_t yalivucu_decode_eac_signed_block(const uint8_t *data, size_t data_len, size_t channel, uint32_t *out, size_t out_len);
+
+#ifdef __cplusplus
+}
+#endif
+
+#endif
