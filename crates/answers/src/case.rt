@@ -77,18 +77,7 @@ pub fn answered(
         m,
     );
     wire::pack(image, m, shown);
-    spelled(number(answer), block(answer))
-}
-
-fn number(answer: Answer) -> u8 {
-    match answer {
-        Answer::Done => 0,
-        Answer::TooLarge => 1,
-        Answer::ShortData => 2,
-        Answer::ShortImage => 3,
-        Answer::OutOfRange(_) => 4,
-        Answer::NoChannel => 5,
-    }
+    spelled(etc::number(answer), block(answer))
 }
 
 // The block that a refusal names; a picture has fewer than 2^32.
@@ -99,9 +88,9 @@ fn block(answer: Answer) -> u32 {
     }
 }
 
-fn spelled(number: u8, block: u32) -> [u8; 8] {
+fn spelled(number: u32, block: u32) -> [u8; 8] {
     [
-        number,
+        low(number),
         0,
         0,
         0,

@@ -7,20 +7,6 @@ ghost use mathlib.Core.Bool.{true, false};
 ghost use Rattle.rules.specs.Readers.{ReadsPicture, ReadsStrict, ReadsBlock, ReadsAlpha, ReadsChannel};
 ghost use Rattle.capi.specs.Told.{Told, numberOf, blockOr};
 
-// Document 01's number of an answer.
-fn number(a: Answer) -> u32
-    ensures { λ r. ⌜ r ≡ numberOf a ⌝ }
-{
-    match a {
-        Answer::Done => 0,
-        Answer::TooLarge => 1,
-        Answer::ShortData => 2,
-        Answer::ShortImage => 3,
-        Answer::OutOfRange(_) => 4,
-        Answer::NoChannel => 5,
-    }
-}
-
 // Reads an ETC1 picture.
 #[no_mangle]
 pub extern "C" fn yalivucu_decode_etc1(
@@ -31,7 +17,7 @@ pub extern "C" fn yalivucu_decode_etc1(
 ) -> u32
     ensures { λ r. ⌜ Told (λ a. ReadsPicture Format.Etc1 (now («data» .entry)) width height (now (image .entry)) a (now (image .exit))) r ⌝ }
 {
-    number(etc::decode_etc1(data, width, height, image))
+    etc::number(etc::decode_etc1(data, width, height, image))
 }
 
 // Reads an ETC2 RGB picture.
@@ -44,7 +30,7 @@ pub extern "C" fn yalivucu_decode_etc2_rgb(
 ) -> u32
     ensures { λ r. ⌜ Told (λ a. ReadsPicture Format.Etc2Rgb (now («data» .entry)) width height (now (image .entry)) a (now (image .exit))) r ⌝ }
 {
-    number(etc::decode_etc2_rgb(data, width, height, image))
+    etc::number(etc::decode_etc2_rgb(data, width, height, image))
 }
 
 // Reads an ETC2 RGBA1 picture.
@@ -57,7 +43,7 @@ pub extern "C" fn yalivucu_decode_etc2_rgba1(
 ) -> u32
     ensures { λ r. ⌜ Told (λ a. ReadsPicture Format.Etc2Rgba1 (now («data» .entry)) width height (now (image .entry)) a (now (image .exit))) r ⌝ }
 {
-    number(etc::decode_etc2_rgba1(data, width, height, image))
+    etc::number(etc::decode_etc2_rgba1(data, width, height, image))
 }
 
 // Reads an ETC2 RGBA8 picture.
@@ -70,7 +56,7 @@ pub extern "C" fn yalivucu_decode_etc2_rgba8(
 ) -> u32
     ensures { λ r. ⌜ Told (λ a. ReadsPicture Format.Etc2Rgba8 (now («data» .entry)) width height (now (image .entry)) a (now (image .exit))) r ⌝ }
 {
-    number(etc::decode_etc2_rgba8(data, width, height, image))
+    etc::number(etc::decode_etc2_rgba8(data, width, height, image))
 }
 
 // Reads an EAC R picture.
@@ -83,7 +69,7 @@ pub extern "C" fn yalivucu_decode_eacr(
 ) -> u32
     ensures { λ r. ⌜ Told (λ a. ReadsPicture Format.EacR (now («data» .entry)) width height (now (image .entry)) a (now (image .exit))) r ⌝ }
 {
-    number(etc::decode_eacr(data, width, height, image))
+    etc::number(etc::decode_eacr(data, width, height, image))
 }
 
 // Reads a signed EAC R picture.
@@ -96,7 +82,7 @@ pub extern "C" fn yalivucu_decode_eacr_signed(
 ) -> u32
     ensures { λ r. ⌜ Told (λ a. ReadsPicture Format.EacRSigned (now («data» .entry)) width height (now (image .entry)) a (now (image .exit))) r ⌝ }
 {
-    number(etc::decode_eacr_signed(data, width, height, image))
+    etc::number(etc::decode_eacr_signed(data, width, height, image))
 }
 
 // Reads an EAC RG picture.
@@ -109,7 +95,7 @@ pub extern "C" fn yalivucu_decode_eacrg(
 ) -> u32
     ensures { λ r. ⌜ Told (λ a. ReadsPicture Format.EacRg (now («data» .entry)) width height (now (image .entry)) a (now (image .exit))) r ⌝ }
 {
-    number(etc::decode_eacrg(data, width, height, image))
+    etc::number(etc::decode_eacrg(data, width, height, image))
 }
 
 // Reads a signed EAC RG picture.
@@ -122,7 +108,7 @@ pub extern "C" fn yalivucu_decode_eacrg_signed(
 ) -> u32
     ensures { λ r. ⌜ Told (λ a. ReadsPicture Format.EacRgSigned (now («data» .entry)) width height (now (image .entry)) a (now (image .exit))) r ⌝ }
 {
-    number(etc::decode_eacrg_signed(data, width, height, image))
+    etc::number(etc::decode_eacrg_signed(data, width, height, image))
 }
 
 // Reads an ETC1 picture that holds no block out of range. Where it refuses for one, `block` is its number; otherwise `block` stays as it was.
@@ -138,7 +124,7 @@ pub extern "C" fn yalivucu_decode_etc1_strict(
 {
     let answer = etc::decode_etc1_strict(data, width, height, image);
     let Answer::OutOfRange(n) = answer else {
-        return number(answer);
+        return etc::number(answer);
     };
     *block = n;
     4
@@ -149,7 +135,7 @@ pub extern "C" fn yalivucu_decode_etc1_strict(
 pub extern "C" fn yalivucu_decode_etc1_block(data: &[u8], out: &mut [u32]) -> u32
     ensures { λ r. ⌜ Told (λ a. ReadsBlock Format.Etc1 (now («data» .entry)) (now (out .entry)) a (now (out .exit))) r ⌝ }
 {
-    number(etc::decode_etc1_block(data, out))
+    etc::number(etc::decode_etc1_block(data, out))
 }
 
 // Reads an ETC2 RGB block of 8 bytes into the elements 0 to 15.
@@ -157,7 +143,7 @@ pub extern "C" fn yalivucu_decode_etc1_block(data: &[u8], out: &mut [u32]) -> u3
 pub extern "C" fn yalivucu_decode_etc2_rgb_block(data: &[u8], out: &mut [u32]) -> u32
     ensures { λ r. ⌜ Told (λ a. ReadsBlock Format.Etc2Rgb (now («data» .entry)) (now (out .entry)) a (now (out .exit))) r ⌝ }
 {
-    number(etc::decode_etc2_rgb_block(data, out))
+    etc::number(etc::decode_etc2_rgb_block(data, out))
 }
 
 // Reads an ETC2 RGBA1 block of 8 bytes into the elements 0 to 15.
@@ -165,7 +151,7 @@ pub extern "C" fn yalivucu_decode_etc2_rgb_block(data: &[u8], out: &mut [u32]) -
 pub extern "C" fn yalivucu_decode_etc2_rgba1_block(data: &[u8], out: &mut [u32]) -> u32
     ensures { λ r. ⌜ Told (λ a. ReadsBlock Format.Etc2Rgba1 (now («data» .entry)) (now (out .entry)) a (now (out .exit))) r ⌝ }
 {
-    number(etc::decode_etc2_rgba1_block(data, out))
+    etc::number(etc::decode_etc2_rgba1_block(data, out))
 }
 
 // Reads an ETC2 RGBA8 block of 16 bytes into the elements 0 to 15.
@@ -173,7 +159,7 @@ pub extern "C" fn yalivucu_decode_etc2_rgba1_block(data: &[u8], out: &mut [u32])
 pub extern "C" fn yalivucu_decode_etc2_rgba8_block(data: &[u8], out: &mut [u32]) -> u32
     ensures { λ r. ⌜ Told (λ a. ReadsBlock Format.Etc2Rgba8 (now («data» .entry)) (now (out .entry)) a (now (out .exit))) r ⌝ }
 {
-    number(etc::decode_etc2_rgba8_block(data, out))
+    etc::number(etc::decode_etc2_rgba8_block(data, out))
 }
 
 // Reads an EAC R block of 8 bytes into the elements 0 to 15.
@@ -181,7 +167,7 @@ pub extern "C" fn yalivucu_decode_etc2_rgba8_block(data: &[u8], out: &mut [u32])
 pub extern "C" fn yalivucu_decode_eacr_block(data: &[u8], out: &mut [u32]) -> u32
     ensures { λ r. ⌜ Told (λ a. ReadsBlock Format.EacR (now («data» .entry)) (now (out .entry)) a (now (out .exit))) r ⌝ }
 {
-    number(etc::decode_eacr_block(data, out))
+    etc::number(etc::decode_eacr_block(data, out))
 }
 
 // Reads a signed EAC R block of 8 bytes into the elements 0 to 15.
@@ -189,7 +175,7 @@ pub extern "C" fn yalivucu_decode_eacr_block(data: &[u8], out: &mut [u32]) -> u3
 pub extern "C" fn yalivucu_decode_eacr_signed_block(data: &[u8], out: &mut [u32]) -> u32
     ensures { λ r. ⌜ Told (λ a. ReadsBlock Format.EacRSigned (now («data» .entry)) (now (out .entry)) a (now (out .exit))) r ⌝ }
 {
-    number(etc::decode_eacr_signed_block(data, out))
+    etc::number(etc::decode_eacr_signed_block(data, out))
 }
 
 // Reads an EAC RG block of 16 bytes into the elements 0 to 15.
@@ -197,7 +183,7 @@ pub extern "C" fn yalivucu_decode_eacr_signed_block(data: &[u8], out: &mut [u32]
 pub extern "C" fn yalivucu_decode_eacrg_block(data: &[u8], out: &mut [u32]) -> u32
     ensures { λ r. ⌜ Told (λ a. ReadsBlock Format.EacRg (now («data» .entry)) (now (out .entry)) a (now (out .exit))) r ⌝ }
 {
-    number(etc::decode_eacrg_block(data, out))
+    etc::number(etc::decode_eacrg_block(data, out))
 }
 
 // Reads a signed EAC RG block of 16 bytes into the elements 0 to 15.
@@ -205,7 +191,7 @@ pub extern "C" fn yalivucu_decode_eacrg_block(data: &[u8], out: &mut [u32]) -> u
 pub extern "C" fn yalivucu_decode_eacrg_signed_block(data: &[u8], out: &mut [u32]) -> u32
     ensures { λ r. ⌜ Told (λ a. ReadsBlock Format.EacRgSigned (now («data» .entry)) (now (out .entry)) a (now (out .exit))) r ⌝ }
 {
-    number(etc::decode_eacrg_signed_block(data, out))
+    etc::number(etc::decode_eacrg_signed_block(data, out))
 }
 
 // Reads an alpha half of 8 bytes into the top bytes of the elements 0 to 15, and keeps the rest of them.
@@ -213,7 +199,7 @@ pub extern "C" fn yalivucu_decode_eacrg_signed_block(data: &[u8], out: &mut [u32
 pub extern "C" fn yalivucu_decode_etc2_a8_block(data: &[u8], out: &mut [u32]) -> u32
     ensures { λ r. ⌜ Told (λ a. ReadsAlpha (now («data» .entry)) (now (out .entry)) a (now (out .exit))) r ⌝ }
 {
-    number(etc::decode_etc2_a8_block(data, out))
+    etc::number(etc::decode_etc2_a8_block(data, out))
 }
 
 // Reads an EAC block of 8 bytes and ORs its bytes into channel 0 blue, 1 green, 2 red or 3 alpha of the elements 0 to 15.
@@ -221,7 +207,7 @@ pub extern "C" fn yalivucu_decode_etc2_a8_block(data: &[u8], out: &mut [u32]) ->
 pub extern "C" fn yalivucu_decode_eac_block(data: &[u8], channel: usize, out: &mut [u32]) -> u32
     ensures { λ r. ⌜ Told (λ a. ReadsChannel false (now («data» .entry)) channel (now (out .entry)) a (now (out .exit))) r ⌝ }
 {
-    number(etc::decode_eac_block(data, channel, out))
+    etc::number(etc::decode_eac_block(data, channel, out))
 }
 
 // Reads a signed EAC block of 8 bytes and ORs its bytes into channel 0 blue, 1 green, 2 red or 3 alpha of the elements 0 to 15.
@@ -233,5 +219,5 @@ pub extern "C" fn yalivucu_decode_eac_signed_block(
 ) -> u32
     ensures { λ r. ⌜ Told (λ a. ReadsChannel true (now («data» .entry)) channel (now (out .entry)) a (now (out .exit))) r ⌝ }
 {
-    number(etc::decode_eac_signed_block(data, channel, out))
+    etc::number(etc::decode_eac_signed_block(data, channel, out))
 }

@@ -4,8 +4,25 @@
 // number (strict only); 5 a channel above 3. A refusal changes nothing.
 use rules::Answer;
 use rules::Format;
+ghost use mathlib.Core.Path.{_≡_};
 ghost use mathlib.Core.Bool.{true, false};
+ghost use lib.ListN.{getD};
+ghost use Rattle.rules.specs.Answers.{said};
 ghost use Rattle.rules.specs.Readers.{ReadsPicture, ReadsStrict, ReadsBlock, ReadsAlpha, ReadsChannel};
+
+// Document 01's number of an answer.
+pub fn number(answer: Answer) -> u32
+    ensures { λ r. ⌜ r ≡ getD (said answer) 0 0 ⌝ }
+{
+    match answer {
+        Answer::Done => 0,
+        Answer::TooLarge => 1,
+        Answer::ShortData => 2,
+        Answer::ShortImage => 3,
+        Answer::OutOfRange(_) => 4,
+        Answer::NoChannel => 5,
+    }
+}
 
 // Reads an ETC1 picture.
 pub fn decode_etc1(data: &[u8], width: usize, height: usize, image: &mut [u32]) -> Answer

@@ -1,21 +1,12 @@
--- The write order, and the fields of an index word.
+-- The fields of an index word, and the place of a pixel.
 -- Assumes nothing.
 use mathlib.Core.Path.{_≡_, _∙_, sym, ap}
-use mathlib.Core.List.{List, [], _∷_}
 use Prim.Native.Nat.{ℕ, _+_, _-_, _*_, _/_, _%_, _^_, _<_, _≤_}
 use native.Mathlib.Nat.{mul-add, mul-one}
 use native.Mathlib.Omega.{arith}
 use lib.Dec.{eqb, eqb→eq}
-use lib.ListN.{getD}
 use lib.Pow.{shr-shr, field, mod-mod-pow, low}
 use Rattle.laws.proofs.Every.{below}
-
-abbrev pub order : List ℕ
-order = 0 ∷ 4 ∷ 8 ∷ 12 ∷ 1 ∷ 5 ∷ 9 ∷ 13 ∷ 2 ∷ 6 ∷ 10 ∷ 14 ∷ 3 ∷ 7 ∷ 11 ∷ 15 ∷ []
-
--- the place of pixel i, row by row
-pub order-at : (i : ℕ) → i < 16 → getD order i 0 ≡ 4 * (i % 4) + i / 4
-order-at i h = eqb→eq _ _ (below (λ k. eqb (getD order k 0) (4 * (k % 4) + k / 4)) 16 tt i h)
 
 -- a word that loses b bits each turn
 pub shifted : (n b i : ℕ) → n / 2 ^ (b * i) / 2 ^ b ≡ n / 2 ^ (b * (i + 1))

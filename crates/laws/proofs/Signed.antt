@@ -103,9 +103,6 @@ pub mag-mul : (m : ℕ) (z : ℤ) → mag (pos m *ℤ z) ≤ m * suc (mag z)
 mag-mul m (pos b) = mul-le-mul-left m (le-suc b)
 mag-mul m (negsuc b) = mag-neg (m * suc b)
 
-pub mag-mul-lt : (m k n : ℕ) (z : ℤ) → m ≤ k → mag z < n → mag (pos m *ℤ z) ≤ k * n
-mag-mul-lt m k n z h p = le-trans (mag-mul m z) (le-trans (mul-le-mul-left m p) (mul-le-mul-right n h))
-
 pub times-le : (m k x n : ℕ) → m ≤ k → x ≤ n → m * x ≤ k * n
 times-le m k x n h p = le-trans (mul-le-mul-left m p) (mul-le-mul-right n h)
 
@@ -128,19 +125,6 @@ module _ (w : Width) (a m : ℕ) (z : ℤ) (f : SFits w z) (h : m < 2 ^ hbits w)
 
 pub held-is : (w : Width) (y z : ℤ) → y ≡ z → mag z < 2 ^ hbits w → held w y ≡ z
 held-is w y z e h = ap (held w) e ∙ held-small w z h
-
--- equality of two signed numbers, as a test
-abbrev pub eqZ : ℤ → ℤ → Bool
-eqZ (pos a) (pos b) = eqb a b
-eqZ (pos a) (negsuc b) = false
-eqZ (negsuc a) (pos b) = false
-eqZ (negsuc a) (negsuc b) = eqb a b
-
-pub eqZ→eq : (y z : ℤ) → T (eqZ y z) → y ≡ z
-eqZ→eq (pos a) (pos b) t = ap pos (eqb→eq a b t)
-eqZ→eq (pos a) (negsuc b) t = absurd t
-eqZ→eq (negsuc a) (pos b) t = absurd t
-eqZ→eq (negsuc a) (negsuc b) t = ap negsuc (eqb→eq a b t)
 
 -- the sum of two signed numbers
 pub mag-sum : (y z : ℤ) → mag (y +ℤ z) ≤ mag y + mag z + 1

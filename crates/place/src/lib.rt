@@ -78,10 +78,10 @@ pub fn place_block(tile: [u32; 16], image: &mut [u32])
     requires { ⌜ 16 ≤ length (now image) ⌝ }
     ensures { λ _. ⌜ now (image .exit) ≡ painted (λ (k : ℕ). ltb k 16) (λ (k : ℕ). getD tile k 0) (now (image .entry)) ⌝ }
 {
-    let mut i: usize = 0;
-    while i < 16 {
-        image[i] = tile[i];
-        i += 1;
+    let mut k: usize = 0;
+    while k < 16 {
+        image[k] = tile[k];
+        k += 1;
     }
 }
 

@@ -1,9 +1,6 @@
 // What the test programs print: answers, elements, and how many elements changed.
 use libc::STDOUT_FILENO;
 use rules::Answer;
-ghost use mathlib.Core.Path.{_≡_};
-ghost use Rattle.rules.specs.Answers.{said};
-ghost use lib.ListN.{getD};
 
 pub fn say(text: &[u8]) {
     io::write_all(STDOUT_FILENO, text);
@@ -18,23 +15,9 @@ fn say_element(element: u32) {
     io::print_hex(STDOUT_FILENO, element as u64, 8);
 }
 
-// Document 01's number of an answer.
-pub fn number(answer: Answer) -> usize
-    ensures { λ r. ⌜ r ≡ getD (said answer) 0 0 ⌝ }
-{
-    match answer {
-        Answer::Done => 0,
-        Answer::TooLarge => 1,
-        Answer::ShortData => 2,
-        Answer::ShortImage => 3,
-        Answer::OutOfRange(_) => 4,
-        Answer::NoChannel => 5,
-    }
-}
-
 // Prints an answer's number, and the block that refusal 4 names.
 pub fn say_answer(answer: Answer) {
-    say_number(number(answer));
+    say_number(etc::number(answer) as usize);
     if let Answer::OutOfRange(block) = answer {
         say(b" block ");
         say_number(block);

@@ -9,10 +9,10 @@ use Rattle.place.proofs.place_block.Statement.{statement}
 use Rattle.place.proofs.place_block.Tie as tie
 
 abbrev Inv-loop : tie.InvT-loop
-Inv-loop image₀ tile i₀ image i = Begun tile image₀ image i
+Inv-loop image₀ tile k₀ image k = Begun tile image₀ image k
 
 abbrev μ-loop : tie.MeasureT-loop
-μ-loop image₀ tile i₀ image i = 16 - i
+μ-loop image₀ tile k₀ image k = 16 - k
 
 loop-holds : tie.Need-loop-holds Inv-loop μ-loop
 loop-holds c = begin (c .args .t1) _
@@ -29,8 +29,8 @@ mul-image-2 c = search needs
 slice-write-image : tie.Need-slice-write-image Inv-loop μ-loop
 slice-write-image c = omega (arith, c .before .loop .inv .1 .same, c .before .before .pre)
 
-add-i : tie.Need-add-i Inv-loop μ-loop
-add-i c = search needs
+add-k : tie.Need-add-k Inv-loop μ-loop
+add-k c = search needs
 
 loop-less : tie.Need-loop-less Inv-loop μ-loop
 loop-less c = search needs
@@ -39,7 +39,7 @@ loop-again : tie.Need-loop-again Inv-loop μ-loop
 loop-again c =
     let l = c .before in
     let a = l .before .args in
-    go-on (a .t1) (now (a .image)) (l .loop .image) (l .loop .i) (c .loop-test .taken) (slice-write-image c) (l .loop .inv)
+    go-on (a .t1) (now (a .image)) (l .loop .image) (l .loop .k) (c .loop-test .taken) (slice-write-image c) (l .loop .inv)
 
 same-length : tie.Need-same-length Inv-loop μ-loop
 same-length c = c .before .loop .inv .1 .same
@@ -48,7 +48,7 @@ returns : tie.Need-returns Inv-loop μ-loop
 returns c =
     let l = c .before in
     let a = l .before .args in
-    ended (a .t1) (now (a .image)) (l .loop .image) (l .loop .i) (c .loop-test .left) (l .loop .inv)
+    ended (a .t1) (now (a .image)) (l .loop .image) (l .loop .k) (c .loop-test .left) (l .loop .inv)
 
 pub place-block-spec : {M : Type 1} → statement M
 place-block-spec =
@@ -61,7 +61,7 @@ place-block-spec =
     array-read-image
     mul-image-2
     slice-write-image
-    add-i
+    add-k
     loop-less
     loop-again
     same-length
