@@ -103,6 +103,7 @@ fetch_pictures() {
 # emulator that stands beside its compiler. A proved program whose stored list differs is
 # compared all the same: then above all one wants to know where.
 build_program() { # NAME OF THE PROGRAM'S CRATE
+    echo "proving $1 and what it is made of: some minutes from nothing" >&2
     (cd "$top" && rt check "$1") >"$room/rt.log" 2>&1 || grep -q "^rt: $1 proved" "$room/rt.log" ||
         die "rt check $1 failed (target/oracle/rt.log says why)"
     kit=$(dirname "$(dirname "$(rt doc)")")
