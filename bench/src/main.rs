@@ -58,7 +58,9 @@ fn compared(format: &Format, make: Maker) -> bool {
     same
 }
 
-/// Nanoseconds a pixel, crate and library, by the side of the picture.
+/// Nanoseconds a pixel, crate and library, by the side of the picture. Small pictures are read
+/// one after the other, each with blocks of its own: of a single one the processor would come to
+/// foresee every branch.
 fn growth() {
     let sides = [16, 256, 1024, 4096];
     println!("how cost grows: nanoseconds a pixel, crate / library, a natural mix");
@@ -70,8 +72,9 @@ fn growth() {
     for format in &FORMATS {
         let cells = sides.map(|side| {
             let pixels = side * side;
-            let data = blocks::natural(pixels / 16, format.halves, &mut Random::new(SEED));
-            let (theirs, ours) = alternated(format, &data, side, 262_144_usize.div_ceil(pixels), 11);
+            let pictures = 1_048_576_usize.div_ceil(pixels);
+            let data = blocks::natural(pictures * pixels / 16, format.halves, &mut Random::new(SEED));
+            let (theirs, ours) = alternated(format, &data, side, pictures, 11);
             let each = 1e9 / pixels as f64;
             format!("{:.2} / {:.2}", theirs * each, ours * each)
         });
@@ -79,37 +82,41 @@ fn growth() {
     }
 }
 
-/// The medians of crate and library, in seconds a picture. A turn reads the picture `times`
-/// times with the one and then with the other; the image is cleared before each, untimed.
-fn alternated(format: &Format, data: &[u8], side: usize, times: usize, turns: usize) -> (f64, f64) {
+/// The medians of crate and library, in seconds a picture. The data has so many pictures, which
+/// a turn reads with the one and then with the other; the image is cleared before, untimed.
+fn alternated(format: &Format, data: &[u8], side: usize, pictures: usize, turns: usize) -> (f64, f64) {
     let mut image = vec![0; side * side];
     let mut taken = [vec![], vec![]];
+    let each = data.len() / pictures;
     for _ in 0..turns {
-        taken[0].push(timed(&mut image, times, |image| {
-            (format.given)(black_box(data), side, side, image).expect("the crate refused")
-        }));
-        taken[1].push(timed(&mut image, times, |image| {
-            (format.library)(black_box(data), side, side, image).expect("the library refused")
-        }));
+        let theirs = timed(&mut image, |image| {
+            for picture in data.chunks(each) {
+                (format.given)(black_box(picture), side, side, black_box(&mut *image)).expect("the crate refused");
+            }
+        });
+        let ours = timed(&mut image, |image| {
+            for picture in data.chunks(each) {
+                (format.library)(black_box(picture), side, side, black_box(&mut *image)).expect("the library refused");
+            }
+        });
+        taken[0].push(theirs / pictures as f64);
+        taken[1].push(ours / pictures as f64);
     }
     let [theirs, ours] = taken.map(median);
     (theirs, ours)
 }
 
-/// Seconds for one of `times` calls, on an image that is cleared first.
-pub fn timed(image: &mut [u32], times: usize, read: impl Fn(&mut [u32])) -> f64 {
+/// Seconds of work on an image that is cleared first.
+fn timed(image: &mut [u32], work: impl Fn(&mut [u32])) -> f64 {
     image.fill(0);
-    black_box(&mut *image);
     let began = clock::seconds();
-    for _ in 0..times {
-        read(black_box(&mut *image));
-    }
-    (clock::seconds() - began) / times as f64
+    work(black_box(image));
+    clock::seconds() - began
 }
 
 fn filled(side: usize) -> f64 {
     let mut image = vec![0; side * side];
-    let turns = (0..TURNS).map(|_| timed(&mut image, 1, |image| image.fill(black_box(0xff00_0000))));
+    let turns = (0..TURNS).map(|_| timed(&mut image, |image| image.fill(black_box(0xff00_0000))));
     median(turns.collect()) * 1e3
 }
 
