@@ -4,18 +4,24 @@
 use mathlib.Core.Path.{_≡_, _∙_, refl, sym, ap}
 use mathlib.Core.Bool.{Bool, true, false, cond}
 use mathlib.Core.List.{List}
-use Prim.Native.Nat.{ℕ, _*_, _%_, _<_, _≤_}
+use Prim.Native.Nat.{ℕ, _+_, _*_, _/_, _%_, _<_, _≤_}
+use native.Mathlib.Omega.{arith}
 use borrow.Author.Tests.{le-ltb}
-use lib.Dec.{T}
+use lib.Dec.{T, ltb→lt}
 use lib.ListN.{length, getD}
 use Rattle.rules.specs.Pixel.{Shows}
-use Rattle.rules.specs.Places.{inside, inTile, element, row, blockOf, bytesOf, pixelAt, painted}
+use Rattle.rules.specs.Places.{sized, across, inside, inTile, element, row, blockOf, bytesOf, pixelAt, painted}
 use Rattle.rules.specs.Answers.{accepts, Outcome, said}
+use Rattle.rules.specs.Formats.{sizeOf, showsOf}
+use Rattle.rules.specs.Readers.{pictureVerdict, ReadsPicture}
 use Rattle.rules.specs.declared.Answer.{Answer}
+use Rattle.rules.specs.declared.Answer.the-variants.{Done}
+use Rattle.rules.specs.declared.Format.{Format}
 use Rattle.rules.specs.declared.Picture.{Picture}
 use Rattle.laws.proofs.Paint.{getD-painted, length-painted}
 use Rattle.laws.proofs.Own.{Beside, picture}
 use Rattle.place.proofs.Grid.{column-at, row-at, inside-at}
+use Rattle.picture.proofs.Checks.{passed}
 
 holds : (t : Bool) → T t → t ≡ true
 holds true h = refl
@@ -73,3 +79,17 @@ own-tile shows s n pic d e verdict verdict' image new new' a b z p q r t k h out
     ap (λ (l : List ℕ). getD l k 0) (an-acceptance-paints verdict (over shows s pic d image) image new a p r)
     ∙ picture shows s n pic d e z image k h out
     ∙ sym (ap (λ (l : List ℕ). getD l k 0) (an-acceptance-paints verdict' (over shows s pic e image) image new' b q t))
+
+-- The same for a user, with nothing left to look up: a picture that a reader of format f has done shows at (x, y) what the rule
+-- of f says of block number (y / 4) * ceil(w / 4) + x / 4, in its column x % 4 and row y % 4.
+pub every-pixel-of-a-picture : (f : Format) (d : List ℕ) (w h : ℕ) (image new : List ℕ) → ReadsPicture f d w h image Done new → (x y : ℕ) → x < w → y < h → getD new (y * w + x) 0 ≡ showsOf f (bytesOf (sizeOf f) d (y / 4 * across w + x / 4)) (x % 4) (y % 4)
+every-pixel-of-a-picture f d w h image new p x y i j =
+    let pic = sized w h in
+    let room = passed (sizeOf f) pic (length d) (length image) (p .says) in
+    let within : element pic x y < w * h = ltb→lt (element pic x y) (w * h) (inside-at pic x y i j) in
+    each-accepted-pixel (showsOf f) (sizeOf f) pic d (pictureVerdict f pic d image) image new Done p refl x y i j (omega (arith, room .roomy))
+
+-- and no element behind it, nor any element of a refused one, has changed
+pub nothing-else-changes : (f : Format) (d : List ℕ) (w h : ℕ) (image new : List ℕ) (a : Answer) → ReadsPicture f d w h image a new → (k : ℕ) → k < length image → w * h ≤ k → getD new k 0 ≡ getD image k 0
+nothing-else-changes f d w h image new a p k i j =
+    only-its-own-pixels (showsOf f) (sizeOf f) (sized w h) d (pictureVerdict f (sized w h) d image) image new a p k i j
