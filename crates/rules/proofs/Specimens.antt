@@ -2,13 +2,13 @@
 -- that the readers promise. A row has the specimen's number, the reader, the bytes, what the reader says, and the image
 -- afterwards; each image is seventeen elements of 11111111 (hex) before, so that the last shows what is never touched.
 -- Assumes nothing.
-use mathlib.Core.Bool.{Bool, true, false, cond, _&&_}
+use mathlib.Core.Bool.{Bool, true, false, _&&_}
 use mathlib.Core.List.{List, [], _∷_, _++_}
 use Prim.Native.Nat.{ℕ, zero, suc, _+_, _*_}
 use lib.Dec.{T, eqb}
 use lib.ListN.{length, getD, replicate}
 use Rattle.rules.specs.Places.{sized, painted}
-use Rattle.rules.specs.Answers.{accepts, firstOf, blockVerdict, channelVerdict}
+use Rattle.rules.specs.Answers.{left, firstOf, blockVerdict, channelVerdict}
 use Rattle.rules.specs.Colour.{differential, wrapped, kindBySums, outOfRange}
 use Rattle.rules.specs.Modes.{tBases, tDistance, hBases, hDistance, planarBases, planarChannel, indexed, rgbPixel, rgba1Pixel, etc1Pixel}
 use Rattle.rules.specs.Channels.{alphaStep, alphaByte, rgba8Pixel, eacValue, eacByte, redPixel, redGreenPixel}
@@ -55,7 +55,7 @@ before = replicate 17 0x11111111
 holds : Row → Bool
 holds r =
     let verdict = says (r .reader) (r .block) before in
-    same verdict (r .answer) && same (cond (accepts verdict) (paints (r .reader) (r .block) before) before) (r .image)
+    same verdict (r .answer) && same (left verdict (paints (r .reader) (r .block) before) before) (r .image)
 
 every : List Row → Bool
 every [] = true

@@ -60,8 +60,11 @@ blockVerdict s bytes elements = cond (ltb bytes s) (2 ∷ []) (cond (ltb element
 abbrev pub channelVerdict : ℕ → ℕ → ℕ → List ℕ
 channelVerdict channel bytes elements = cond (ltb 3 channel) (5 ∷ []) (blockVerdict 8 bytes elements)
 
--- What every reader owes its caller: it says the verdict; the image is then as `after` has it where the verdict is 0,
--- and "on 1 to 5 no element changes".
+-- "On 1 to 5 no element changes": what is left of an image that `after` would have painted
+abbrev pub left : List ℕ → List ℕ → List ℕ → List ℕ
+left verdict after old = cond (accepts verdict) after old
+
+-- What every reader owes its caller: it says the verdict, and leaves the image so.
 pub record Outcome (verdict after : List ℕ) (answer : Answer) (old new : List ℕ) : Type 0 where
   pub says : said answer ≡ verdict
-  pub leaves : new ≡ cond (accepts verdict) after old
+  pub leaves : new ≡ left verdict after old
