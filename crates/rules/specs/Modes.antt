@@ -17,6 +17,7 @@ use Rattle.rules.specs.declared.Kind.the-variants.{Individual, Different
 abbrev pub distances : List ℕ
 distances = 3 ∷ 6 ∷ 11 ∷ 16 ∷ 23 ∷ 32 ∷ 41 ∷ 64 ∷ []
 
+-- "three base colours of three bytes each hold all of them": T and H use two of them, planar three.
 -- T: c0 is bits 60..59 with 57..56, 55..52, 51..48; c1 is bits 47..44, 43..40, 39..36; each four bits times 17
 unfoldable pub tBases : List ℕ → List (List ℕ)
 tBases d =
@@ -96,14 +97,6 @@ planarOf c i x y = planarChannel (getD (getD c 0 []) i 0) (getD (getD c 1 []) i 
 -- ".. always opaque"
 abbrev pub planarPixel : List (List ℕ) → ℕ → ℕ → ℕ
 planarPixel c x y = word 255 (planarOf c 0 x y) (planarOf c 1 x y) (planarOf c 2 x y)
-
--- "three base colours of three bytes each hold all of them"
-abbrev pub basesOf : Kind → List ℕ → List (List ℕ)
-basesOf Individual d = individual d
-basesOf Differential d = differential d
-basesOf T d = tBases d
-basesOf H d = hBases d
-basesOf Planar d = planarBases d
 
 -- the four colours of half h, by index; `steps` is what a code stands for, and planar has none
 abbrev pub coloursOf : (ℕ → List ℕ) → Kind → List ℕ → ℕ → List ℕ
