@@ -21,11 +21,7 @@ fn none(number: u64) -> Source {
 
 // What lseek answered, as a length.
 fn length_of(end: i64) -> usize {
-    if end < 0 {
-        0
-    } else {
-        end as usize
-    }
+    if end < 0 { 0 } else { end as usize }
 }
 
 // The header of an opened file of so many bytes.
@@ -76,7 +72,11 @@ pub fn named(what: u8) -> Source {
         return none(30);
     }
     let len = length_of(end);
-    let told = if what == 3 { bare(len) } else { header_of(fd, len) };
+    let told = if what == 3 {
+        bare(len)
+    } else {
+        header_of(fd, len)
+    };
     Source {
         fd: fd,
         number: 0,

@@ -53,7 +53,9 @@ pub fn refusal(number: u64) {
         24 => complain(b"The sizes contradict each other."),
         25 => complain(b"The file holds more than one flat picture: a volume, an array or a cube."),
         26 => complain(b"The picture has no pixel, and a PNG cannot have none."),
-        27 => complain(b"The picture is no ETC1 or ETC2 RGB picture, so an ETC1 reader has nothing to accept."),
+        27 => complain(
+            b"The picture is no ETC1 or ETC2 RGB picture, so an ETC1 reader has nothing to accept.",
+        ),
         30 => complain(b"The file cannot be opened or measured."),
         31 => complain(b"The PNG cannot be written; nothing is left of it."),
         _ => complain(b"That is not a way to call this program; --help says how to."),
@@ -123,7 +125,9 @@ pub fn help() {
     tell(b"unpack --check FILE     whether a strict ETC1 reader accepts the picture\n");
     tell(b"unpack --info FILE      format, size and blocks\n");
     tell(b"unpack --help           this\n\n");
-    tell(b"FORMAT is etc1, etc2-rgb, etc2-rgba1, etc2-rgba8, eac-r, eac-r-signed,\neac-rg or eac-rg-signed.\n\n");
+    tell(
+        b"FORMAT is etc1, etc2-rgb, etc2-rgba1, etc2-rgba8, eac-r, eac-r-signed,\neac-rg or eac-rg-signed.\n\n",
+    );
     tell(b"Results go to standard output, refusals to standard error. The exit status is 0,\n");
     tell(b"or the number of the refusal: 1 too large, 2 too few bytes, 4 not for a strict\n");
     tell(b"ETC1 reader, 20 to 27 the file's header, 30 the file, 31 the PNG, 32 the call.\n");
