@@ -19,9 +19,15 @@ fn none(number: u64) -> Source {
     }
 }
 
-// What lseek answered, as a length.
+// What lseek answered, as a length. No picture needs as much as 2^40 bytes, so a longer file counts as that long.
 fn length_of(end: i64) -> usize {
-    if end < 0 { 0 } else { end as usize }
+    if end < 0 {
+        return 0;
+    }
+    if 1099511627776 < end {
+        return 1099511627776;
+    }
+    end as usize
 }
 
 // The header of an opened file of so many bytes.
