@@ -1,0 +1,45 @@
+-- `checksum::crc_byte` meets its contract: the table has what the steps make of the low byte, and the rest is added in.
+-- Assumes nothing.
+use mathlib.Core.Path.{_≡_, _∙_, sym, ap}
+use Prim.Native.Nat.{ℕ, _/_, _%_}
+use native.Mathlib.Omega.{arith}
+use native.Mathlib.Nat.{mod-lt}
+use lib.Bits.{bitXor}
+use Rattle.checksum.specs.Sums.{crcByte, crcSteps}
+use Rattle.checksum.proofs.Table.{remainder}
+use Rattle.checksum.proofs.Bytes.{eight}
+use borrow.Author.Needs.{needs}
+use Rattle.checksum.proofs.crc_byte.Statement.{statement}
+use Rattle.checksum.proofs.crc_byte.Tie as tie
+use Rattle.checksum.proofs.crc_byte.Reads as reads
+use Rattle.checksum.proofs.crc_byte.Lts as lts
+use Rattle.checksum.proofs.wide.Reads as wide-reads
+
+-- src/lib.rt:54:23
+wide-requires : tie.Need-wide-requires
+wide-requires c κs = search needs
+
+-- src/lib.rt:55:15
+cast-low : tie.Need-cast-low
+cast-low c = search needs
+
+-- src/lib.rt:56:5
+mul-result : tie.Need-mul-result
+mul-result c = search needs
+
+-- src/lib.rt:56:5
+array-read-result : tie.Need-array-read-result
+array-read-result c = search needs
+
+-- src/lib.rt:51:1
+returns : tie.Need-returns
+unfolding crcByte
+returns c =
+    let a = c .before .args in
+    let m = bitXor (a .sum) (c .wide .result) in
+    ap (λ (z : ℕ). bitXor z (m / 256)) (remainder (m % 256) (mod-lt m (omega arith)))
+    ∙ sym (eight m)
+    ∙ ap (λ (z : ℕ). crcSteps 8 (bitXor (a .sum) z)) (c .wide .ensures .0)
+
+pub crc-byte-spec : {M : Type 1} → statement M
+crc-byte-spec = tie.close (tie.spec wide-requires cast-low mul-result array-read-result returns)

@@ -1,0 +1,42 @@
+-- `header::is_ktx` meets its contract: the first word that differs decides.
+-- Assumes nothing.
+use mathlib.Core.Path.{_≡_, _∙_, refl, sym, ap}
+use mathlib.Core.Bool.{Bool, true, false}
+use Prim.Native.Nat.{ℕ, _+_, _*_, _/_, _≤_}
+use native.Mathlib.Omega.{arith}
+use borrow.Author.Tests.{eq-eqb, ne-eqb, lt-ltb, le-ltb}
+use lib.Dec.{eqb}
+use Rattle.header.proofs.Picks.{same, other, above, upTo}
+use borrow.Author.Needs.{needs}
+use Rattle.header.proofs.is_ktx.Statement.{statement}
+use Rattle.header.proofs.is_ktx.Tie as tie
+use Rattle.header.proofs.is_ktx.Reads as reads
+use Rattle.header.proofs.is_ktx.Lts as lts
+use Rattle.header.proofs.big.Reads as big-reads
+
+big-requires : tie.Need-big-requires
+big-requires c κs = search needs
+
+returns : tie.Need-returns
+returns c = simp (other (c .before .big .ensures .0) (c .if1 .taken))
+
+big-requires-2 : tie.Need-big-requires-2
+big-requires-2 c κs = search needs
+
+returns-2 : tie.Need-returns-2
+returns-2 c = simp (same (c .before .before .before .big .ensures .0) (c .before .before .if1 .left), other (c .before .big2 .ensures .0) (c .if2 .taken))
+
+big-requires-3 : tie.Need-big-requires-3
+big-requires-3 c κs = search needs
+
+returns-3 : tie.Need-returns-3
+returns-3 c =
+    rw (
+      same (c .before .before .before .before .big .ensures .0) (c .before .before .before .if1 .left),
+      same (c .before .before .big2 .ensures .0) (c .before .if2 .left),
+    )
+    (ap (λ (z : ℕ). eqb z 218765834) (c .big3 .ensures .0))
+
+pub is-ktx-spec : {M : Type 1} → statement M
+is-ktx-spec =
+    tie.close (tie.spec big-requires returns big-requires-2 returns-2 big-requires-3 returns-3)

@@ -1,0 +1,46 @@
+-- `header::ktx` meets its contract, by the file's order.
+-- Assumes nothing.
+use mathlib.Core.Path.{_≡_, _∙_, refl, sym, ap}
+use mathlib.Core.Bool.{Bool, true, false}
+use Prim.Native.Nat.{ℕ, _+_, _*_, _/_, _≤_}
+use native.Mathlib.Omega.{arith}
+use borrow.Author.Tests.{eq-eqb, ne-eqb, lt-ltb, le-ltb}
+use denote.Ref.{now}
+use Rattle.header.proofs.Picks.{same, other, above, upTo, alike, unlike}
+use Rattle.header.specs.Files.{ktxOf}
+use borrow.Author.Needs.{needs}
+use Rattle.header.proofs.ktx.Statement.{statement}
+use Rattle.header.proofs.ktx.Tie as tie
+use Rattle.header.proofs.ktx.Reads as reads
+use Rattle.header.proofs.ktx.Lts as lts
+use Rattle.header.proofs.big.Reads as big-reads
+use Rattle.header.proofs.ktx_in.Reads as ktx-in-reads
+
+big-requires : tie.Need-big-requires
+big-requires c κs = search needs
+
+ktx-in-requires : tie.Need-ktx-in-requires
+ktx-in-requires c κs = search needs
+
+returns : tie.Need-returns
+unfolding ktxOf
+returns c = simp (same (c .before .before .big .ensures .0) (c .before .if1 .taken)) (c .ktx-in .ensures)
+
+ktx-in-requires-2 : tie.Need-ktx-in-requires-2
+ktx-in-requires-2 c κs = search needs
+
+returns-2 : tie.Need-returns-2
+unfolding ktxOf
+returns-2 c =
+    let b = c .before .before .before in
+    simp (other (b .big .ensures .0) (c .before .before .if1 .left), same (b .big .ensures .0) (c .before .if2 .taken)) (c .ktx-in2 .ensures)
+
+returns-3 : tie.Need-returns-3
+unfolding ktxOf
+returns-3 c =
+    let b = c .before .before in
+    simp (other (b .big .ensures .0) (c .before .if1 .left), other (b .big .ensures .0) (c .if2 .left))
+
+pub ktx-spec : {M : Type 1} → statement M
+ktx-spec =
+    tie.close (tie.spec big-requires ktx-in-requires returns ktx-in-requires-2 returns-2 returns-3)

@@ -1,0 +1,81 @@
+-- `header::pkm` meets its contract, by the version.
+-- Assumes nothing.
+use mathlib.Core.Path.{_≡_, _∙_, refl, sym, ap}
+use mathlib.Core.Bool.{Bool, true, false}
+use Prim.Native.Nat.{ℕ, _+_, _*_, _/_, _≤_}
+use native.Mathlib.Omega.{arith}
+use borrow.Author.Tests.{eq-eqb, ne-eqb, lt-ltb, le-ltb}
+use denote.Ref.{now}
+use Rattle.header.proofs.Picks.{same, other, above, upTo, alike, unlike}
+use Rattle.header.specs.Files.{pkmOf, pkmAs, oldPkm, newPkm}
+use borrow.Author.Needs.{needs}
+use Rattle.header.proofs.pkm.Statement.{statement}
+use Rattle.header.proofs.pkm.Tie as tie
+use Rattle.header.proofs.pkm.Reads as reads
+use Rattle.header.proofs.pkm.Lts as lts
+use Rattle.header.proofs.half.Reads as half-reads
+use Rattle.header.proofs.new_pkm.Reads as new-pkm-reads
+use Rattle.header.proofs.old_pkm.Reads as old-pkm-reads
+use Rattle.header.proofs.pkm_as.Reads as pkm-as-reads
+
+half-requires : tie.Need-half-requires
+half-requires c κs = search needs
+
+half-requires-2 : tie.Need-half-requires-2
+half-requires-2 c κs = search needs
+
+old-pkm-requires : tie.Need-old-pkm-requires
+old-pkm-requires c κs = search needs
+
+pkm-as-requires : tie.Need-pkm-as-requires
+pkm-as-requires c κs = search needs
+
+returns : tie.Need-returns
+unfolding pkmOf
+returns c =
+    let h = c .before .before .before in
+    let a = h .before .before .before .args in
+    simp (same (h .before .half .ensures .0) (c .before .before .if1 .taken))
+    (c .pkm-as .ensures
+    ∙ ap (λ z. pkmAs z (now (a .d)) (a .len)) (c .before .old-pkm .ensures ∙ ap oldPkm (h .half2 .ensures .0)))
+
+new-pkm-requires : tie.Need-new-pkm-requires
+new-pkm-requires c κs = search needs
+
+pkm-as-requires-2 : tie.Need-pkm-as-requires-2
+pkm-as-requires-2 c κs = search needs
+
+returns-2 : tie.Need-returns-2
+unfolding pkmOf
+returns-2 c =
+    let h = c .before .before .before .before in
+    let a = h .before .before .before .args in
+    simp (
+      other (h .before .half .ensures .0) (c .before .before .before .if1 .left),
+      same (h .before .half .ensures .0) (c .before .before .if2 .taken),
+    )
+    (c .pkm-as2 .ensures
+    ∙ ap (λ z. pkmAs z (now (a .d)) (a .len)) (c .before .new-pkm .ensures ∙ ap newPkm (h .half2 .ensures .0)))
+
+returns-3 : tie.Need-returns-3
+unfolding pkmOf
+returns-3 c =
+    let h = c .before .before in
+    simp (
+      other (h .before .half .ensures .0) (c .before .if1 .left),
+      other (h .before .half .ensures .0) (c .if2 .left),
+    )
+
+pub pkm-spec : {M : Type 1} → statement M
+pkm-spec =
+    tie.close
+    (tie.spec
+    half-requires
+    half-requires-2
+    old-pkm-requires
+    pkm-as-requires
+    returns
+    new-pkm-requires
+    pkm-as-requires-2
+    returns-2
+    returns-3)

@@ -1,0 +1,105 @@
+-- `header::pkm_as` meets its contract: the first check that fails decides.
+-- Assumes nothing.
+use mathlib.Core.Path.{_≡_, _∙_, refl, sym, ap}
+use mathlib.Core.Bool.{Bool, true, false}
+use Prim.Native.Nat.{ℕ, _+_, _*_, _/_, _≤_}
+use native.Mathlib.Omega.{arith}
+use borrow.Author.Tests.{eq-eqb, ne-eqb, lt-ltb, le-ltb}
+use denote.Ref.{now}
+use borrow.Author.Tests.{not-true, not-false}
+use Rattle.header.proofs.Picks.{same, other, above, upTo, alike, unlike, laid}
+use Rattle.header.specs.Files.{pkmAs, laidOut, padded}
+use borrow.Author.Needs.{needs}
+use Rattle.header.proofs.pkm_as.Statement.{statement}
+use Rattle.header.proofs.pkm_as.Tie as tie
+use Rattle.header.proofs.pkm_as.Reads as reads
+use Rattle.header.proofs.pkm_as.Lts as lts
+use Rattle.header.proofs.half.Reads as half-reads
+use Rattle.header.proofs.laid_out.Reads as laid-out-reads
+
+enum-known-known : tie.Need-enum-known-known
+enum-known-known c = search needs
+
+enum-told : tie.Need-enum-told
+enum-told c = search needs
+
+returns : tie.Need-returns
+unfolding pkmAs
+returns c = simp (c .enum-told .given .1)
+
+half-requires : tie.Need-half-requires
+half-requires c κs = search needs
+
+half-requires-2 : tie.Need-half-requires-2
+half-requires-2 c κs = search needs
+
+half-requires-3 : tie.Need-half-requires-3
+half-requires-3 c κs = search needs
+
+add-if1 : tie.Need-add-if1
+add-if1 c = search needs
+
+mul-if1 : tie.Need-mul-if1
+mul-if1 c = search needs
+
+returns-2 : tie.Need-returns-2
+unfolding pkmAs
+returns-2 c =
+    let h = c .before in
+    simp (
+      h .before .before .before .before .known .given .1,
+      unlike (h .half3 .ensures .0) (ap padded (h .before .before .half .ensures .0)) (c .if1 .taken),
+    )
+
+half-requires-4 : tie.Need-half-requires-4
+half-requires-4 c κs = search needs
+
+add-if2 : tie.Need-add-if2
+add-if2 c = search needs
+
+mul-if2 : tie.Need-mul-if2
+mul-if2 c = search needs
+
+returns-3 : tie.Need-returns-3
+unfolding pkmAs
+returns-3 c =
+    let h = c .before .before .before in
+    simp (
+      h .before .before .before .before .known .given .1,
+      alike (h .half3 .ensures .0) (ap padded (h .before .before .half .ensures .0)) (c .before .before .if1 .left),
+      unlike (c .before .half4 .ensures .0) (ap padded (h .before .half2 .ensures .0)) (c .if2 .taken),
+    )
+
+laid-out-requires : tie.Need-laid-out-requires
+laid-out-requires c κs = search needs
+
+returns-4 : tie.Need-returns-4
+unfolding pkmAs
+returns-4 c =
+    let h = c .before .before .before .before in
+    simp (
+      h .before .before .before .before .known .given .1,
+      alike (h .half3 .ensures .0) (ap padded (h .before .before .half .ensures .0)) (c .before .before .before .if1 .left),
+      alike (c .before .before .half4 .ensures .0) (ap padded (h .before .half2 .ensures .0)) (c .before .if2 .left),
+    )
+    (c .laid-out .ensures ∙ laid _ _ (h .before .before .half .ensures .0) (h .before .half2 .ensures .0) refl)
+
+pub pkm-as-spec : {M : Type 1} → statement M
+pkm-as-spec =
+    tie.close
+    (tie.spec
+    enum-known-known
+    enum-told
+    returns
+    half-requires
+    half-requires-2
+    half-requires-3
+    add-if1
+    mul-if1
+    returns-2
+    half-requires-4
+    add-if2
+    mul-if2
+    returns-3
+    laid-out-requires
+    returns-4)

@@ -1,0 +1,95 @@
+-- `header::read_header` meets its contract: the first bytes tell the kind of file.
+-- Assumes nothing.
+use mathlib.Core.Path.{_≡_, _∙_, refl, sym, ap}
+use mathlib.Core.Bool.{Bool, true, false}
+use Prim.Native.Nat.{ℕ, _+_, _*_, _/_, _≤_}
+use native.Mathlib.Omega.{arith}
+use borrow.Author.Tests.{eq-eqb, ne-eqb, lt-ltb, le-ltb}
+use denote.Ref.{now}
+use borrow.Author.Tests.{not-true, not-false}
+use Rattle.header.proofs.Picks.{same, other, above, upTo, alike, unlike, laid}
+use Rattle.header.specs.Files.{headerOf, isKtx}
+use borrow.Author.Needs.{needs}
+use Rattle.header.proofs.read_header.Statement.{statement}
+use Rattle.header.proofs.read_header.Tie as tie
+use Rattle.header.proofs.read_header.Reads as reads
+use Rattle.header.proofs.read_header.Lts as lts
+use Rattle.header.proofs.big.Reads as big-reads
+use Rattle.header.proofs.is_ktx.Reads as is-ktx-reads
+use Rattle.header.proofs.ktx.Reads as ktx-reads
+use Rattle.header.proofs.pkm.Reads as pkm-reads
+
+returns : tie.Need-returns
+unfolding headerOf
+returns c = simp (lt-ltb _ _ (c .if1 .taken))
+
+big-requires : tie.Need-big-requires
+big-requires c κs = search needs
+
+pkm-requires : tie.Need-pkm-requires
+pkm-requires c κs = search needs
+
+returns-2 : tie.Need-returns-2
+unfolding headerOf
+returns-2 c =
+    let b = c .before .before in
+    simp (le-ltb _ _ (b .before .if1 .left), same (b .big .ensures .0) (c .before .if2 .taken)) (c .pkm .ensures)
+
+is-ktx-requires : tie.Need-is-ktx-requires
+is-ktx-requires c κs = search needs
+
+returns-3 : tie.Need-returns-3
+unfolding headerOf
+returns-3 c =
+    let k = c .before in
+    let b = k .before .before in
+    simp (
+      le-ltb _ _ (b .before .if1 .left),
+      other (b .big .ensures .0) (k .before .if2 .left),
+      sym (k .is-ktx .ensures),
+      not-true (k .is-ktx .result) (c .if3 .taken),
+    )
+
+returns-4 : tie.Need-returns-4
+unfolding headerOf
+returns-4 c =
+    let k = c .before .before in
+    let b = k .before .before in
+    simp (
+      le-ltb _ _ (b .before .if1 .left),
+      other (b .big .ensures .0) (k .before .if2 .left),
+      sym (k .is-ktx .ensures),
+      not-false (k .is-ktx .result) (c .before .if3 .left),
+      lt-ltb _ _ (c .if4 .taken),
+    )
+
+ktx-requires : tie.Need-ktx-requires
+ktx-requires c κs = search needs
+
+returns-5 : tie.Need-returns-5
+unfolding headerOf
+returns-5 c =
+    let k = c .before .before .before in
+    let b = k .before .before in
+    simp (
+      le-ltb _ _ (b .before .if1 .left),
+      other (b .big .ensures .0) (k .before .if2 .left),
+      sym (k .is-ktx .ensures),
+      not-false (k .is-ktx .result) (c .before .before .if3 .left),
+      le-ltb _ _ (c .before .if4 .left),
+    )
+    (c .ktx .ensures)
+
+pub read-header-spec : {M : Type 1} → statement M
+read-header-spec =
+    tie.close
+    (tie.spec
+    returns
+    big-requires
+    pkm-requires
+    returns-2
+    is-ktx-requires
+    returns-3
+    returns-4
+    ktx-requires
+    returns-5)

@@ -1,0 +1,38 @@
+-- `header::word` meets its contract, by the file's order.
+-- Assumes nothing.
+use mathlib.Core.Path.{_≡_, _∙_, refl, sym, ap}
+use mathlib.Core.Bool.{Bool, true, false}
+use Prim.Native.Nat.{ℕ, _+_, _*_, _/_, _≤_}
+use native.Mathlib.Omega.{arith}
+use borrow.Author.Tests.{eq-eqb, ne-eqb, lt-ltb, le-ltb}
+use denote.Ref.{now}
+use Rattle.header.proofs.Picks.{same, other, above, upTo}
+use Rattle.header.specs.Words.{word32}
+use borrow.Author.Needs.{needs}
+use Rattle.header.proofs.word.Statement.{statement}
+use Rattle.header.proofs.word.Tie as tie
+use Rattle.header.proofs.word.Reads as reads
+use Rattle.header.proofs.word.Lts as lts
+use Rattle.header.proofs.big.Reads as big-reads
+use Rattle.header.proofs.little.Reads as little-reads
+
+big-requires : tie.Need-big-requires
+big-requires c κs = search needs
+
+little-requires : tie.Need-little-requires
+little-requires c κs = search needs
+
+returns : tie.Need-returns
+unfolding word32
+returns c =
+    let a = c .before .before .before .args in
+    (c .big .ensures .0 ∙ sym (ap (λ (b : Bool). word32 b (now (a .d)) (a .at)) (c .before .if1 .taken)), c .big .ensures .1)
+
+returns-2 : tie.Need-returns-2
+unfolding word32
+returns-2 c =
+    let a = c .before .before .before .args in
+    (c .little .ensures .0 ∙ sym (ap (λ (b : Bool). word32 b (now (a .d)) (a .at)) (c .before .if1 .left)), c .little .ensures .1)
+
+pub word-spec : {M : Type 1} → statement M
+word-spec = tie.close (tie.spec big-requires little-requires returns returns-2)

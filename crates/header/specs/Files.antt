@@ -1,0 +1,195 @@
+-- What the first bytes of a PKM or a KTX 1 file say: an answer for every list of bytes.
+-- Assumes nothing.
+use mathlib.Core.Bool.{Bool, true, false, cond, not, _&&_, _||_}
+use mathlib.Core.List.{List, [], _∷_}
+use Prim.Native.Nat.{ℕ, _+_, _*_, _/_}
+use lib.Dec.{eqb, ltb}
+use lib.ListN.{length}
+use Rattle.rules.specs.Places.{sized, blocks}
+use Rattle.rules.specs.Answers.{tooLarge}
+use Rattle.rules.specs.Formats.{sizeOf}
+use Rattle.rules.specs.declared.Format.{Format}
+use Rattle.rules.specs.declared.Format.the-variants.{Etc1, Etc2Rgb, Etc2Rgba1, Etc2Rgba8, EacR, EacRSigned, EacRg, EacRgSigned}
+use Rattle.header.specs.Words.{big16, big32, word32}
+use Rattle.header.specs.declared.Known.{Known}
+use Rattle.header.specs.declared.Known.the-variants.{As, Not}
+use Rattle.header.specs.declared.Texture.{Texture}
+use Rattle.header.specs.declared.Header.{Header}
+use Rattle.header.specs.declared.Header.the-variants.{Holds, TooLarge, ShortData, Cut, NoTexture, NoVersion, NoFormat, SizesDisagree, NotFlat, NoPixels}
+
+-- the number of each answer: document 01's where it has one, and from 20 on for files
+abbrev pub numberOf : Header → ℕ
+numberOf (Holds t) = 0
+numberOf TooLarge = 1
+numberOf ShortData = 2
+numberOf Cut = 20
+numberOf NoTexture = 21
+numberOf NoVersion = 22
+numberOf NoFormat = 23
+numberOf SizesDisagree = 24
+numberOf NotFlat = 25
+numberOf NoPixels = 26
+
+-- a row of a list of formats: a number, and the format that it stands for
+pub record Row : Type 0 where
+  pub number : ℕ
+  pub format : Format
+
+abbrev pub row : ℕ → Format → Row
+row n f = record { number = n; format = f }
+
+-- what a number stands for: the first row that has it
+abbrev pub known : List Row → ℕ → Known
+known [] n = Not
+known (r ∷ rows) n = cond (eqb n (r .number)) (As (r .format)) (known rows n)
+
+-- PKM 1.0 has one format
+abbrev pub oldRows : List Row
+oldRows = row 0 Etc1 ∷ []
+
+-- PKM 2.0: the numbers of the tool that defined it. 2 is a form of RGBA that was given up; 9 to 11 are the sRGB forms, whose
+-- blocks are read alike.
+abbrev pub newRows : List Row
+newRows =
+    row 0 Etc1
+    ∷ row 1 Etc2Rgb
+    ∷ row 3 Etc2Rgba8
+    ∷ row 4 Etc2Rgba1
+    ∷ row 5 EacR
+    ∷ row 6 EacRg
+    ∷ row 7 EacRSigned
+    ∷ row 8 EacRgSigned
+    ∷ row 9 Etc2Rgb
+    ∷ row 10 Etc2Rgba8
+    ∷ row 11 Etc2Rgba1
+    ∷ []
+
+-- KTX: OpenGL's numbers. 8D64 in hex is ETC1; 9270 to 9273 are R and RG, unsigned and signed; 9274 to 9279 are RGB, RGBA1
+-- and RGBA8, each with its sRGB form, whose blocks are read alike.
+abbrev pub glRows : List Row
+glRows =
+    row 36196 Etc1
+    ∷ row 37488 EacR
+    ∷ row 37489 EacRSigned
+    ∷ row 37490 EacRg
+    ∷ row 37491 EacRgSigned
+    ∷ row 37492 Etc2Rgb
+    ∷ row 37493 Etc2Rgb
+    ∷ row 37494 Etc2Rgba1
+    ∷ row 37495 Etc2Rgba1
+    ∷ row 37496 Etc2Rgba8
+    ∷ row 37497 Etc2Rgba8
+    ∷ []
+
+unfoldable pub oldPkm : ℕ → Known
+oldPkm n = known oldRows n
+
+unfoldable pub newPkm : ℕ → Known
+newPkm n = known newRows n
+
+unfoldable pub glFormat : ℕ → Known
+glFormat n = known glRows n
+
+-- the bytes of all blocks of a picture
+abbrev pub bytesFor : Format → ℕ → ℕ → ℕ
+bytesFor f w h = blocks (sized w h) * sizeOf f
+
+-- a picture of format f, w by h pixels, whose blocks start at byte start of a file of so many bytes
+unfoldable pub laidOut : Format → ℕ → ℕ → ℕ → ℕ → Header
+laidOut f w h start len =
+    cond (eqb w 0) NoPixels
+    (cond (eqb h 0) NoPixels
+    (cond (tooLarge (sized w h)) TooLarge
+    (cond (ltb len (start + bytesFor f w h)) ShortData
+    (Holds (record { format = f; width = w; height = h; start = start; bytes = bytesFor f w h })))))
+
+-- a side, made up to whole blocks
+abbrev pub padded : ℕ → ℕ
+padded n = (n + 3) / 4 * 4
+
+-- PKM, with what its number stands for: the padded width and height at bytes 8 and 10, the real ones at 12 and 14, blocks
+-- from byte 16 on
+unfoldable pub pkmAs : Known → List ℕ → ℕ → Header
+pkmAs Not d len = NoFormat
+pkmAs (As f) d len =
+    cond (not (eqb (big16 d 8) (padded (big16 d 12)))) SizesDisagree
+    (cond (not (eqb (big16 d 10) (padded (big16 d 14)))) SizesDisagree
+    (laidOut f (big16 d 12) (big16 d 14) 16 len))
+
+-- PKM: "10" or "20" at byte 4, and the format's number at byte 6
+unfoldable pub pkmOf : List ℕ → ℕ → Header
+pkmOf d len =
+    cond (eqb (big16 d 4) 12592) (pkmAs (oldPkm (big16 d 6)) d len)
+    (cond (eqb (big16 d 4) 12848) (pkmAs (newPkm (big16 d 6)) d len)
+    NoVersion)
+
+-- KTX: 04030201 in hex at byte 12, as the file's own order has it
+abbrev pub greatestFirst : List ℕ → Bool
+greatestFirst d = eqb (big32 d 12) 67305985
+
+abbrev pub leastFirst : List ℕ → Bool
+leastFirst d = eqb (big32 d 12) 16909060
+
+-- the size of level 0 stands behind the header's 64 bytes and the key and value data, whose length is at byte 60
+unfoldable pub levelAt : List ℕ → ℕ
+levelAt d = cond (ltb (length d) 64) 0 (64 + word32 (greatestFirst d) d 60)
+
+-- a picture that is laid out well, held to the size of level 0 as the file tells it in four bytes
+unfoldable pub sizeTold : Bool → List ℕ → Header → Header
+sizeTold order level (Holds t) =
+    cond (ltb (length level) 4) Cut
+    (cond (not (eqb (word32 order level 0) (t .bytes))) SizesDisagree
+    (Holds t))
+sizeTold order level TooLarge = TooLarge
+sizeTold order level ShortData = ShortData
+sizeTold order level Cut = Cut
+sizeTold order level NoTexture = NoTexture
+sizeTold order level NoVersion = NoVersion
+sizeTold order level NoFormat = NoFormat
+sizeTold order level SizesDisagree = SizesDisagree
+sizeTold order level NotFlat = NotFlat
+sizeTold order level NoPixels = NoPixels
+
+-- one picture: no depth (byte 44), no array (48), one face (52)
+unfoldable pub isFlat : Bool → List ℕ → Bool
+isFlat order d =
+    not (ltb 1 (word32 order d 44)) && (not (ltb 1 (word32 order d 48)) && eqb (word32 order d 52) 1)
+
+-- KTX, with what its number stands for: width at byte 36, height at byte 40
+unfoldable pub ktxAs : Known → Bool → List ℕ → List ℕ → ℕ → Header
+ktxAs Not order d level len = NoFormat
+ktxAs (As f) order d level len =
+    cond (isFlat order d)
+    (sizeTold order level (laidOut f (word32 order d 36) (word32 order d 40) (68 + word32 order d 60) len))
+    NotFlat
+
+-- KTX in a byte order: the type at byte 16 and the format at byte 24 are 0, as they are of compressed pictures; the format
+-- of the blocks is at byte 28
+unfoldable pub ktxIn : Bool → List ℕ → List ℕ → ℕ → Header
+ktxIn order d level len =
+    cond (not (eqb (word32 order d 16) 0)) NoFormat
+    (cond (not (eqb (word32 order d 24) 0)) NoFormat
+    (ktxAs (glFormat (word32 order d 28)) order d level len))
+
+-- KTX: in either order
+unfoldable pub ktxOf : List ℕ → List ℕ → ℕ → Header
+ktxOf d level len =
+    cond (greatestFirst d) (ktxIn true d level len)
+    (cond (leastFirst d) (ktxIn false d level len)
+    NoVersion)
+
+-- "PKM "
+abbrev pub isPkm : List ℕ → Bool
+isPkm d = eqb (big32 d 0) 1347112224
+
+-- the twelve bytes AB 4B 54 58 20 31 31 BB 0D 0A 1A 0A, in hex
+abbrev pub isKtx : List ℕ → Bool
+isKtx d = eqb (big32 d 0) 2873840728 && (eqb (big32 d 4) 540094907 && eqb (big32 d 8) 218765834)
+
+-- What the first bytes of a file say, with the four bytes at `levelAt` and the file's length.
+unfoldable pub headerOf : List ℕ → List ℕ → ℕ → Header
+headerOf d level len =
+    cond (ltb (length d) 16) Cut
+    (cond (isPkm d) (pkmOf d len)
+    (cond (isKtx d) (cond (ltb (length d) 64) Cut (ktxOf d level len))
+    NoTexture))

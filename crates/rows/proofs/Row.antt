@@ -1,0 +1,33 @@
+-- What a picture reader promises of a row alone, made into what it shows of the whole.
+-- Assumes nothing.
+use mathlib.Core.Path.{_≡_, _∙_, refl, sym, ap, subst}
+use mathlib.Core.Bool.{Bool, true, cond}
+use mathlib.Core.List.{List, [], _∷_}
+use Prim.Native.Nat.{ℕ, _*_}
+use lib.ListN.{length, take}
+use Rattle.rules.specs.Places.{sized, inside, pixelAt, painted}
+use Rattle.rules.specs.Answers.{said, accepts}
+use Rattle.rules.specs.Formats.{sizeOf, showsOf}
+use Rattle.rules.specs.Readers.{ReadsPicture, pictureOf, pictureVerdict}
+use Rattle.rules.specs.declared.Format.{Format}
+use Rattle.rules.specs.declared.Answer.{Answer}
+use Rattle.rules.specs.declared.Answer.the-variants.{Done}
+use Rattle.picture.proofs.Checks.{passed}
+use Rattle.rows.specs.Rows.{high, rowBytes, rowPixels, ReadsRow}
+use Rattle.rows.proofs.Whole.{row-painted}
+
+module _ (f : Format) (bytes : List ℕ) (w h j : ℕ) (image : List ℕ) (answer : Answer) (new : List ℕ) where
+  -- what is accepted is painted, and every check has passed
+  shown : ReadsPicture f bytes w (high h j) image answer new → (d : List ℕ) → bytes ≡ rowBytes (sizeOf f) (sized w h) d j → answer ≡ Done → take (w * high h j) new ≡ rowPixels (showsOf f) (sizeOf f) (sized w h) d j
+  shown r d e a =
+      let v : 0 ∷ [] ≡ pictureVerdict f (sized w (high h j)) bytes image = sym (ap said a) ∙ r .says in
+      ap (take (w * high h j))
+      (r .leaves
+      ∙ ap (λ (z : List ℕ). cond (accepts z) (pictureOf f (sized w (high h j)) bytes image) image) (sym v)
+      ∙ ap (λ (z : List ℕ). pictureOf f (sized w (high h j)) z image) e)
+      ∙ row-painted (showsOf f) (sizeOf f) (sized w h) d j image (passed _ _ _ _ v .roomy)
+
+  pub reads-row : (t : ℕ) → t ≡ high h j → ReadsPicture f bytes w t image answer new → ReadsRow f bytes w h j image answer new
+  reads-row t e r =
+      let q : ReadsPicture f bytes w (high h j) image answer new = subst (λ (z : ℕ). ReadsPicture f bytes w z image answer new) e r in
+      record { reads = q; shows = shown q }

@@ -1,0 +1,42 @@
+-- A picture by its rows of blocks: the bytes of each, the pixels of each, and all of them one after another.
+-- Assumes nothing.
+use mathlib.Core.Path.{_≡_}
+use mathlib.Core.List.{List, [], _++_}
+use Prim.Native.Nat.{ℕ, zero, suc, _+_, _-_, _*_, min}
+use lib.ListN.{take}
+use Rattle.rules.specs.Notation.{build}
+use Rattle.rules.specs.Pixel.{Shows}
+use Rattle.rules.specs.Places.{sized, across, bytesOf, pixelAt}
+use Rattle.rules.specs.Formats.{sizeOf, showsOf}
+use Rattle.rules.specs.Readers.{ReadsPicture}
+use Rattle.rules.specs.declared.Picture.{Picture}
+use Rattle.rules.specs.declared.Format.{Format}
+use Rattle.rules.specs.declared.Answer.{Answer}
+use Rattle.rules.specs.declared.Answer.the-variants.{Done}
+
+-- row j of blocks is so many pixels high: four, or what is left
+abbrev pub high : ℕ → ℕ → ℕ
+high h j = min 4 (h - j * 4)
+
+-- row j of blocks, as a picture of its own
+abbrev pub rowOf : Picture → ℕ → Picture
+rowOf p j = sized (p .width) (high (p .height) j)
+
+-- its bytes, where a block has s
+abbrev pub rowBytes : ℕ → Picture → List ℕ → ℕ → List ℕ
+rowBytes s p d j = bytesOf (across (p .width) * s) d j
+
+-- the elements that it has in the whole picture
+abbrev pub rowPixels : Shows → ℕ → Picture → List ℕ → ℕ → List ℕ
+rowPixels shows s p d j = build (p .width * high (p .height) j) (λ k. pixelAt shows s p d (p .width * (j * 4) + k))
+
+-- what g gives of 0 to n - 1, one after another
+abbrev pub joined : (ℕ → List ℕ) → ℕ → List ℕ
+joined g zero = []
+joined g (suc n) = joined g n ++ g n
+
+-- A reader of row j of blocks: a picture reader of that row alone, which promises as much as any; and where its bytes are
+-- those of row j of some picture and it accepts, what it paints in front is what that row shows in the whole picture.
+pub record ReadsRow (f : Format) (bytes : List ℕ) (w h j : ℕ) (image : List ℕ) (answer : Answer) (new : List ℕ) : Type 0 where
+  pub reads : ReadsPicture f bytes w (high h j) image answer new
+  pub shows : (d : List ℕ) → bytes ≡ rowBytes (sizeOf f) (sized w h) d j → answer ≡ Done → take (w * high h j) new ≡ rowPixels (showsOf f) (sizeOf f) (sized w h) d j

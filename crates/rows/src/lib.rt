@@ -1,0 +1,33 @@
+// A picture in rows of blocks: each row is read from its own bytes, as a picture of its own, and shows what it shows in the
+// whole. So a picture needs the memory of one row. That all rows are the whole, and that the first row which a strict reader
+// refuses names the first block, is in proofs/.
+use rules::Answer;
+use rules::Format;
+ghost use mathlib.Core.Path.{_≡_};
+ghost use Prim.Native.Nat.{_*_, _<_, _≤_};
+ghost use Rattle.rows.specs.Rows.{high as highOf, ReadsRow};
+
+// How many pixels row j of blocks is high.
+pub fn high(height: usize, j: usize) -> usize
+    requires { ⌜ j * 4 < height ⌝ }
+    ensures { λ r. ⌜ (r ≡ highOf height j) × (r ≤ 4) ⌝ }
+{
+    let left = height - j * 4;
+    if left < 4 { left } else { 4 }
+}
+
+// Reads row j of blocks of a picture, from the bytes of that row.
+pub fn read_row(
+    f: Format,
+    bytes: &[u8],
+    width: usize,
+    height: usize,
+    j: usize,
+    image: &mut [u32],
+) -> Answer
+    requires { ⌜ j * 4 < height ⌝ }
+    ensures { λ r. ⌜ ReadsRow f (now (bytes .entry)) width height j (now (image .entry)) r (now (image .exit)) ⌝ }
+{
+    let tall = high(height, j);
+    picture::read(f, bytes, width, tall, image)
+}

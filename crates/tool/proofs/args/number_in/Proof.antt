@@ -1,0 +1,71 @@
+-- `tool::args::number_in` is safe and ends: a number of five digits fits, and the digits that are left grow fewer.
+-- Assumes nothing.
+use Prim.Native.Nat.{_-_, _≤_}
+use lib.ListN.{length}
+use borrow.Author.Needs.{needs}
+use Rattle.tool.proofs.args.number_in.Statement.{statement}
+use Rattle.tool.proofs.args.number_in.Tie as tie
+use Rattle.tool.proofs.args.number_in.Reads as reads
+use Rattle.tool.proofs.args.number_in.Lts as lts
+use Rattle.tool.proofs.args.more.Reads as more-reads
+
+abbrev Inv-loop : tie.InvT-loop
+Inv-loop word number₀ i₀ number i = i ≤ length word
+
+abbrev μ-loop : tie.MeasureT-loop
+μ-loop word number₀ i₀ number i = length word - i
+
+returns : tie.Need-returns Inv-loop μ-loop
+returns c = search needs
+
+loop-holds : tie.Need-loop-holds Inv-loop μ-loop
+loop-holds c = search needs
+
+returns-2 : tie.Need-returns-2 Inv-loop μ-loop
+returns-2 c = search needs
+
+shared-slice-read-more : tie.Need-shared-slice-read-more Inv-loop μ-loop
+shared-slice-read-more c = search needs
+
+more-requires : tie.Need-more-requires Inv-loop μ-loop
+more-requires c κs = search needs
+
+enum-known-next : tie.Need-enum-known-next Inv-loop μ-loop
+enum-known-next c = search needs
+
+enum-told : tie.Need-enum-told Inv-loop μ-loop
+enum-told c = search needs
+
+returns-3 : tie.Need-returns-3 Inv-loop μ-loop
+returns-3 c = search needs
+
+add-i : tie.Need-add-i Inv-loop μ-loop
+add-i c = search needs
+
+loop-less : tie.Need-loop-less Inv-loop μ-loop
+loop-less c = search needs
+
+loop-again : tie.Need-loop-again Inv-loop μ-loop
+loop-again c = search needs
+
+returns-4 : tie.Need-returns-4 Inv-loop μ-loop
+returns-4 c = search needs
+
+pub number-in-spec : {M : Type 1} → statement M
+number-in-spec =
+    tie.close
+    (tie.spec
+    Inv-loop
+    μ-loop
+    returns
+    loop-holds
+    returns-2
+    shared-slice-read-more
+    more-requires
+    enum-known-next
+    enum-told
+    returns-3
+    add-i
+    loop-less
+    loop-again
+    returns-4)

@@ -1,0 +1,26 @@
+-- `tool::source::length_of` is safe: what is cast is neither negative nor too large.
+-- Assumes nothing.
+use native.Mathlib.Omega.{arith}
+use mir.Syntax.{w64}
+use Rattle.laws.proofs.Signed.{clamp-mid}
+use borrow.Author.Needs.{needs}
+use Rattle.tool.proofs.source.length_of.Statement.{statement}
+use Rattle.tool.proofs.source.length_of.Tie as tie
+
+cast-result : tie.Need-cast-result
+cast-result c =
+    let s = c .before .before in
+    let m = clamp-mid w64 1099511627776 (s .args .end) (s .fits .end) (c .before .if1 .left) (c .if2 .left) in
+    (m .0, record { fits = omega (arith, m .1) })
+
+returns : tie.Need-returns
+returns c = search needs
+
+returns-2 : tie.Need-returns-2
+returns-2 c = search needs
+
+returns-3 : tie.Need-returns-3
+returns-3 c = search needs
+
+pub length-of-spec : {M : Type 1} → statement M
+length-of-spec = tie.close (tie.spec returns returns-2 cast-result returns-3)

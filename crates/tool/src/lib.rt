@@ -1,0 +1,85 @@
+// The tool: a texture file to a PNG, row of blocks by row of blocks, and whether an old reader may show it. What the bytes mean
+// is proved in the crates below; here are the files, the arguments and the words.
+mod args;
+mod source;
+
+use header::Header;
+use source::Source;
+
+// Says what a header tells against a picture, and the number of that.
+fn refused(header: Header) -> u64 {
+    let number = words::number_of(header);
+    words::refusal(number);
+    number
+}
+
+// `--info FILE`: format, size and blocks.
+fn info(source: Source) -> u64 {
+    let told = source.header;
+    let Header::Holds(t) = told else {
+        return refused(told);
+    };
+    words::texture(t);
+    0
+}
+
+// `--check FILE`: whether a strict ETC1 reader accepts the picture.
+fn checked(source: Source) -> u64 {
+    let told = source.header;
+    let Header::Holds(t) = told else {
+        return refused(told);
+    };
+    scan::picture(source.fd, t)
+}
+
+// Writes the picture of a source to the PNG that an argument names.
+fn unpacked(source: Source, place: usize) -> u64 {
+    let told = source.header;
+    let Header::Holds(t) = told else {
+        return refused(told);
+    };
+    let mut path = io::buffer();
+    let n = os::arg(place, &mut path);
+    if os::errno() != 0 {
+        words::refusal(32);
+        return 32;
+    }
+    writer::picture(source.fd, t, &path[..n])
+}
+
+// What an argument asks to be done with a file that was opened.
+fn done(what: u8, source: Source) -> u64 {
+    match what {
+        0 => unpacked(source, 2),
+        1 => info(source),
+        2 => checked(source),
+        _ => unpacked(source, 6),
+    }
+}
+
+// Opens what the arguments name, does what they ask, and answers its number.
+fn answered(what: u8) -> u64 {
+    let source = source::named(what);
+    if source.fd < 0 {
+        words::refusal(source.number);
+        return source.number;
+    }
+    let number = done(what, source);
+    libc::close(source.fd);
+    number
+}
+
+// The whole run: the last line of standard output is the number of the answer.
+pub fn run() {
+    let what = args::asked();
+    let number = if what == 4 {
+        words::help();
+        0
+    } else if what == 5 {
+        words::refusal(32);
+        32
+    } else {
+        answered(what)
+    };
+    words::answer(number);
+}

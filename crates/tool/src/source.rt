@@ -1,0 +1,91 @@
+// A file that is read: its descriptor, its length and what its header tells.
+use crate::args::Number;
+use header::Header;
+use header::Known;
+
+// An opened file; where the descriptor is negative, the number of the refusal.
+pub struct Source {
+    pub fd: i32,
+    pub number: u64,
+    pub header: Header,
+}
+
+// No file, and why.
+fn none(number: u64) -> Source {
+    Source {
+        fd: -1,
+        number: number,
+        header: Header::NoTexture,
+    }
+}
+
+// What lseek answered, as a length. No picture needs as much as 2^40 bytes, so a longer file counts as that long.
+fn length_of(end: i64) -> usize {
+    if end < 0 {
+        return 0;
+    }
+    if 1099511627776 < end {
+        return 1099511627776;
+    }
+    end as usize
+}
+
+// The header of an opened file of so many bytes.
+fn header_of(fd: i32, len: usize) -> Header {
+    let mut head = [0u8; 64];
+    let n = io::count(libc::pread(fd, &mut head, 0), &head);
+    let mut level = [0u8; 4];
+    let at = header::level_at(&head[..n]) as i64;
+    let m = io::count(libc::pread(fd, &mut level, at), &level);
+    header::read_header(&head[..n], &level[..m], len)
+}
+
+// What the arguments say of bare blocks in a file of so many bytes.
+fn bare(len: usize) -> Header {
+    let Known::As(format) = crate::args::format_at(2) else {
+        return Header::NoFormat;
+    };
+    let Number::Is(width) = crate::args::number_at(3) else {
+        return Header::SizesDisagree;
+    };
+    let Number::Is(height) = crate::args::number_at(4) else {
+        return Header::SizesDisagree;
+    };
+    header::bare(format, width, height, len)
+}
+
+// Where the file's name stands among the arguments.
+fn place_of(what: u8) -> usize {
+    match what {
+        0 => 1,
+        3 => 5,
+        _ => 2,
+    }
+}
+
+// Opens the file that the arguments name, and reads its header or takes what the arguments say.
+pub fn named(what: u8) -> Source {
+    let mut path = io::buffer();
+    let n = os::arg(place_of(what), &mut path);
+    let fd = os::open_read(&path[..n]);
+    if fd < 0 {
+        os::fail(&path[..n]);
+        return none(30);
+    }
+    let end = libc::lseek(fd, 0, libc::SEEK_END);
+    if end < 0 {
+        libc::close(fd);
+        return none(30);
+    }
+    let len = length_of(end);
+    let told = if what == 3 {
+        bare(len)
+    } else {
+        header_of(fd, len)
+    };
+    Source {
+        fd: fd,
+        number: 0,
+        header: told,
+    }
+}

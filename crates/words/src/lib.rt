@@ -1,0 +1,158 @@
+// The tool's words: results on standard output, refusals on standard error.
+use header::Header;
+use header::Texture;
+use libc::STDERR_FILENO;
+use libc::STDOUT_FILENO;
+use rules::Format;
+ghost use mathlib.Core.Path.{_≡_};
+ghost use Rattle.header.specs.Files.{numberOf};
+
+// The number of what a header tells.
+pub fn number_of(header: Header) -> u64
+    ensures { λ r. ⌜ r ≡ numberOf header ⌝ }
+{
+    match header {
+        Header::Holds(_) => 0,
+        Header::TooLarge => 1,
+        Header::ShortData => 2,
+        Header::Cut => 20,
+        Header::NoTexture => 21,
+        Header::NoVersion => 22,
+        Header::NoFormat => 23,
+        Header::SizesDisagree => 24,
+        Header::NotFlat => 25,
+        Header::NoPixels => 26,
+    }
+}
+
+// Writes a line to standard error.
+fn complain(words: &[u8]) {
+    io::write_all(STDERR_FILENO, words);
+    io::write_all(STDERR_FILENO, b"\n");
+}
+
+// Writes to standard output.
+pub fn tell(words: &[u8]) {
+    io::write_all(STDOUT_FILENO, words);
+}
+
+// Writes a number to standard output.
+pub fn count(n: u64) {
+    io::print_decimal(STDOUT_FILENO, n);
+}
+
+// The sentence of a refusal.
+pub fn refusal(number: u64) {
+    match number {
+        1 => complain(b"The picture is wider or higher than 16,384 pixels."),
+        2 => complain(b"The file has fewer bytes than its blocks need."),
+        20 => complain(b"The file ends before its header does."),
+        21 => complain(b"The file is neither a PKM nor a KTX 1 file."),
+        22 => complain(b"The file has a version or a byte order that nobody defined."),
+        23 => complain(b"The format is none of ETC1, ETC2 RGB, RGBA1, RGBA8, EAC R and RG."),
+        24 => complain(b"The sizes contradict each other."),
+        25 => complain(b"The file holds more than one flat picture: a volume, an array or a cube."),
+        26 => complain(b"The picture has no pixel, and a PNG cannot have none."),
+        27 => complain(
+            b"The picture is no ETC1 or ETC2 RGB picture, so an ETC1 reader has nothing to accept.",
+        ),
+        30 => complain(b"The file cannot be opened or measured."),
+        31 => complain(b"The PNG cannot be written; nothing is left of it."),
+        _ => complain(b"That is not a way to call this program; --help says how to."),
+    }
+}
+
+// The last line of a run.
+pub fn answer(number: u64) {
+    tell(b"answer ");
+    count(number);
+    tell(b"\n");
+}
+
+// The name of a format.
+fn name(f: Format) {
+    match f {
+        Format::Etc1 => tell(b"ETC1"),
+        Format::Etc2Rgb => tell(b"ETC2 RGB"),
+        Format::Etc2Rgba1 => tell(b"ETC2 RGBA1"),
+        Format::Etc2Rgba8 => tell(b"ETC2 RGBA8"),
+        Format::EacR => tell(b"EAC R"),
+        Format::EacRSigned => tell(b"EAC R signed"),
+        Format::EacRg => tell(b"EAC RG"),
+        Format::EacRgSigned => tell(b"EAC RG signed"),
+    }
+}
+
+// Format, size and blocks.
+pub fn texture(t: Texture) {
+    let f = t.format;
+    tell(b"format ");
+    name(f);
+    tell(b"\nsize ");
+    count(t.width as u64);
+    tell(b" x ");
+    count(t.height as u64);
+    tell(b" pixels\nblocks ");
+    count((t.bytes / blocks::size(f)) as u64);
+    tell(b" of ");
+    count(blocks::size(f) as u64);
+    tell(b" bytes, from byte ");
+    count(t.start as u64);
+    tell(b" on\n");
+}
+
+// How far the work is, where somebody looks on: every 64th row of blocks of a large picture.
+pub fn progress(row: usize, rows: usize) {
+    if rows < 256 {
+        return;
+    }
+    if row % 64 != 0 {
+        return;
+    }
+    if libc::isatty(STDERR_FILENO) != 1 {
+        return;
+    }
+    io::write_all(STDERR_FILENO, b"\rrow of blocks ");
+    io::print_decimal(STDERR_FILENO, row as u64);
+    io::write_all(STDERR_FILENO, b" of ");
+    io::print_decimal(STDERR_FILENO, rows as u64);
+}
+
+// How to call the program.
+pub fn help() {
+    tell(b"unpack FILE OUT.png                        a PKM or KTX 1 file to a PNG\n");
+    tell(b"unpack --raw FORMAT WIDTH HEIGHT FILE OUT.png   the same of bare blocks\n");
+    tell(b"unpack --check FILE     whether a strict ETC1 reader accepts the picture\n");
+    tell(b"unpack --info FILE      format, size and blocks\n");
+    tell(b"unpack --help           this\n\n");
+    tell(
+        b"FORMAT is etc1, etc2-rgb, etc2-rgba1, etc2-rgba8, eac-r, eac-r-signed,\neac-rg or eac-rg-signed.\n\n",
+    );
+    tell(b"Results go to standard output, refusals to standard error. The exit status is 0,\n");
+    tell(b"or the number of the refusal: 1 too large, 2 too few bytes, 4 not for a strict\n");
+    tell(b"ETC1 reader, 20 to 27 the file's header, 30 the file, 31 the PNG, 32 the call.\n");
+    tell(b"A refusal leaves no PNG behind.\n");
+}
+
+// The CRC of what was written.
+pub fn digest(crc: u32) {
+    tell(b"written, crc32 ");
+    io::print_hex(STDOUT_FILENO, crc as u64, 8);
+    tell(b"\n");
+}
+
+// That a strict ETC1 reader accepts the picture.
+pub fn accepted() {
+    tell(b"A strict ETC1 reader accepts this picture: no block of it is newer than ETC1.\n");
+}
+
+// The first block that it does not accept, and the first pixel of that block.
+pub fn refused_block(block: usize, column: usize, row: usize) {
+    tell(b"A strict ETC1 reader must not show this picture: block ");
+    count(block as u64);
+    tell(b", at pixel column ");
+    count(column as u64);
+    tell(b" and row ");
+    count(row as u64);
+    tell(b", is an ETC2 block.\n");
+}
