@@ -1,12 +1,11 @@
 -- A byte of steps at once: the steps of a number are those of its low byte, with the rest of it added in.
 -- Assumes nothing.
 use mathlib.Core.Path.{_≡_, _∙_, refl, sym, ap, ap₂}
-use mathlib.Core.Bool.{Bool, cond}
-use mathlib.Core.Logic.{⊎-elim}
+use mathlib.Core.Bool.{cond}
 use Prim.Native.Nat.{ℕ, zero, suc, _+_, _*_, _/_, _%_, _^_, _≤_, _<_}
 use native.Mathlib.Omega.{arith}
 use native.Mathlib.Nat.{mul-one, mod-lt}
-use lib.Bits.{bitXor, differ, xor-step, xor-shr, xor-mod, xor-shifted, xor-comm, shifted-half, shifted-even, xor-zero-l}
+use lib.Bits.{bitXor, differ, xor-step, xor-shr, xor-mod, xor-shifted, xor-comm, shifted-half, shifted-even}
 use lib.Dec.{eqb}
 use lib.Pow.{split}
 use Rattle.checksum.specs.Sums.{polynomial, crcStep, crcSteps}

@@ -1,11 +1,11 @@
 -- What a picture reader promises of a row alone, made into what it shows of the whole.
 -- Assumes nothing.
-use mathlib.Core.Path.{_≡_, _∙_, refl, sym, ap, subst}
-use mathlib.Core.Bool.{Bool, true, cond}
+use mathlib.Core.Path.{_≡_, _∙_, sym, ap, subst}
+use mathlib.Core.Bool.{cond}
 use mathlib.Core.List.{List, [], _∷_}
 use Prim.Native.Nat.{ℕ, _*_}
-use lib.ListN.{length, take}
-use Rattle.rules.specs.Places.{sized, inside, pixelAt, painted}
+use lib.ListN.{take}
+use Rattle.rules.specs.Places.{sized, painted}
 use Rattle.rules.specs.Answers.{said, accepts}
 use Rattle.rules.specs.Formats.{sizeOf, showsOf}
 use Rattle.rules.specs.Readers.{ReadsPicture, pictureOf, pictureVerdict}

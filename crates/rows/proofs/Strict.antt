@@ -1,15 +1,14 @@
 -- Strict ETC1, row by row: where every row before row j is accepted, what row j is refused for is what the whole picture is
 -- refused for; and where every row is accepted, so is the whole.
 -- Assumes nothing.
-use mathlib.Core.Path.{_≡_, _∙_, refl, sym, ap}
-use mathlib.Core.Bool.{Bool, true, false, cond}
+use mathlib.Core.Path.{_≡_, _∙_, sym, ap}
+use mathlib.Core.Bool.{Bool, false}
 use mathlib.Core.List.{List, [], _∷_}
 use Prim.Native.Nat.{ℕ, suc, _+_, _-_, _*_, _/_, _%_, _<_, _≤_}
 use native.Mathlib.Omega.{arith}
-use native.Mathlib.Nat.{div-add-mod', mod-lt, mul-comm, mul-le-mul-right, suc-mul, div-lt-iff-lt-mul, lt-of-mul-lt-mul-right}
+use native.Mathlib.Nat.{div-add-mod', mod-lt, mul-comm, mul-le-mul-right, suc-mul, div-lt-iff-lt-mul}
 use native.Mathlib.Decide.{decLt}
 use borrow.Author.Tests.{lt-ltb, le-ltb}
-use lib.Dec.{ltb}
 use lib.ListN.{getD}
 use Rattle.rules.specs.Places.{across, blocks, bytesOf}
 use Rattle.rules.specs.Answers.{firstOf, guarded}

@@ -1,21 +1,19 @@
 -- A picture read in rows of blocks is the picture, for any format: each row, read from its own bytes as a picture of its own,
 -- has the elements that it has in the whole, and all of them one after another are the whole.
 -- Assumes nothing.
-use mathlib.Core.Path.{_≡_, _∙_, refl, sym, ap}
-use mathlib.Core.Bool.{Bool, true, cond}
-use mathlib.Core.List.{List, [], _∷_, _++_}
-use mathlib.Core.Logic.{⊎-elim}
+use mathlib.Core.Path.{_≡_, _∙_, sym, ap}
+use mathlib.Core.Bool.{Bool, cond}
+use mathlib.Core.List.{List, _++_}
 use Prim.Native.Nat.{ℕ, zero, suc, _+_, _-_, _*_, _/_, _%_, _<_, _≤_, min}
 use native.Mathlib.Omega.{arith}
 use native.Mathlib.Nat.{mul-comm, mul-assoc, add-mul, mul-add, suc-mul, mul-le-mul-right, mul-add-div, add-mul-mod-self-left, div-lt-iff-lt-mul, add-comm, mod-lt, mul-zero, zero-mul, zero-add}
 use native.Mathlib.Decide.{decLt}
 use borrow.Author.Tests.{lt-ltb}
-use lib.Dec.{ltb}
 use lib.ListN.{length, getD, take, drop, length-take, length-drop, length-append, List·getD-append}
 use lib.Seq.{ext-getD, getD-take, getD-drop, getD-append-add}
 use Rattle.rules.specs.Notation.{build}
 use Rattle.rules.specs.Pixel.{Shows}
-use Rattle.rules.specs.Places.{sized, column, row, inside, across, blockAt, bytesOf, pixelAt, painted}
+use Rattle.rules.specs.Places.{column, row, inside, across, blockAt, bytesOf, pixelAt, painted}
 use Rattle.rules.specs.declared.Picture.{Picture}
 use Rattle.laws.proofs.Filled.{is-build, length-build, getD-build}
 use Rattle.laws.proofs.Paint.{length-painted, getD-painted}

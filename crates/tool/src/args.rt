@@ -9,32 +9,49 @@ pub enum Number {
     Not,
 }
 
-// What the first argument asks: 0 a picture, 1 --info, 2 --check, 3 --raw, 4 --help, 5 nothing that is known.
-pub fn asked() -> u8 {
+// What the arguments ask.
+pub enum Asked {
+    Picture,
+    Raw,
+    Check,
+    Info,
+    Help,
+    Nothing,
+}
+
+// What the first argument asks.
+pub fn asked_first() -> Asked {
     let mut first = io::buffer();
     let n = os::arg(1, &mut first);
     if os::errno() != 0 {
-        return 5;
+        return Asked::Nothing;
     }
     let count = os::arg_count();
     meant(&first[..n], count)
 }
 
-// What a word and the number of words ask.
-fn meant(word: &[u8], count: usize) -> u8 {
+// What a word asks, where there are so many words.
+fn meant(word: &[u8], count: usize) -> Asked {
     if check::same(word, b"--help") {
-        return 4;
+        return Asked::Help;
+    }
+    if count == 7 {
+        return if check::same(word, b"--raw") {
+            Asked::Raw
+        } else {
+            Asked::Nothing
+        };
+    }
+    if count != 3 {
+        return Asked::Nothing;
     }
     if check::same(word, b"--info") {
-        return if count == 3 { 1 } else { 5 };
+        return Asked::Info;
     }
     if check::same(word, b"--check") {
-        return if count == 3 { 2 } else { 5 };
+        return Asked::Check;
     }
-    if check::same(word, b"--raw") {
-        return if count == 7 { 3 } else { 5 };
-    }
-    if count == 3 { 0 } else { 5 }
+    Asked::Picture
 }
 
 // The format that a word names.

@@ -3,6 +3,7 @@
 mod args;
 mod source;
 
+use args::Asked;
 use header::Header;
 use source::Source;
 
@@ -47,18 +48,18 @@ fn unpacked(source: Source, place: usize) -> u64 {
     writer::picture(source.fd, t, &path[..n])
 }
 
-// What an argument asks to be done with a file that was opened.
-fn done(what: u8, source: Source) -> u64 {
+// Does what is asked with a file that was opened.
+fn done(what: Asked, source: Source) -> u64 {
     match what {
-        0 => unpacked(source, 2),
-        1 => info(source),
-        2 => checked(source),
-        _ => unpacked(source, 6),
+        Asked::Picture => unpacked(source, 2),
+        Asked::Raw => unpacked(source, 6),
+        Asked::Check => checked(source),
+        _ => info(source),
     }
 }
 
 // Opens what the arguments name, does what they ask, and answers its number.
-fn answered(what: u8) -> u64 {
+fn answered(what: Asked) -> u64 {
     let source = source::named(what);
     if source.fd < 0 {
         words::refusal(source.number);
@@ -69,17 +70,22 @@ fn answered(what: u8) -> u64 {
     number
 }
 
+// The number of the answer to what is asked.
+fn number_for(what: Asked) -> u64 {
+    match what {
+        Asked::Help => {
+            words::help();
+            0
+        }
+        Asked::Nothing => {
+            words::refusal(32);
+            32
+        }
+        _ => answered(what),
+    }
+}
+
 // The whole run: the last line of standard output is the number of the answer.
 pub fn run() {
-    let what = args::asked();
-    let number = if what == 4 {
-        words::help();
-        0
-    } else if what == 5 {
-        words::refusal(32);
-        32
-    } else {
-        answered(what)
-    };
-    words::answer(number);
+    words::answer(number_for(args::asked_first()));
 }

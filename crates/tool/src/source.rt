@@ -1,4 +1,5 @@
 // A file that is read: its descriptor, its length and what its header tells.
+use crate::args::Asked;
 use crate::args::Number;
 use header::Header;
 use header::Known;
@@ -55,16 +56,24 @@ fn bare(len: usize) -> Header {
 }
 
 // Where the file's name stands among the arguments.
-fn place_of(what: u8) -> usize {
+fn place_of(what: Asked) -> usize {
     match what {
-        0 => 1,
-        3 => 5,
+        Asked::Picture => 1,
+        Asked::Raw => 5,
         _ => 2,
     }
 }
 
+// What the file holds: by its header, or for bare blocks by the arguments.
+fn told(what: Asked, fd: i32, len: usize) -> Header {
+    match what {
+        Asked::Raw => bare(len),
+        _ => header_of(fd, len),
+    }
+}
+
 // Opens the file that the arguments name, and reads its header or takes what the arguments say.
-pub fn named(what: u8) -> Source {
+pub fn named(what: Asked) -> Source {
     let mut path = io::buffer();
     let n = os::arg(place_of(what), &mut path);
     let fd = os::open_read(&path[..n]);
@@ -78,14 +87,9 @@ pub fn named(what: u8) -> Source {
         return none(30);
     }
     let len = length_of(end);
-    let told = if what == 3 {
-        bare(len)
-    } else {
-        header_of(fd, len)
-    };
     Source {
         fd: fd,
         number: 0,
-        header: told,
+        header: told(what, fd, len),
     }
 }

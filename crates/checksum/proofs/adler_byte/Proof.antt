@@ -1,13 +1,10 @@
 -- `checksum::adler_byte` meets its contract: the sums are those of the definition, and none wraps.
 -- Assumes nothing.
-use mathlib.Core.Path.{_≡_, ap}
+use mathlib.Core.Path.{ap}
 use Rattle.checksum.specs.Sums.{adlerByte}
 use borrow.Author.Needs.{needs}
 use Rattle.checksum.proofs.adler_byte.Statement.{statement}
 use Rattle.checksum.proofs.adler_byte.Tie as tie
-use Rattle.checksum.proofs.adler_byte.Reads as reads
-use Rattle.checksum.proofs.adler_byte.Lts as lts
-use Rattle.checksum.proofs.wide.Reads as wide-reads
 
 -- src/lib.rt:83:32
 wide-requires : tie.Need-wide-requires

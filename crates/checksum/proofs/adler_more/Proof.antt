@@ -1,6 +1,6 @@
 -- `checksum::adler_more` meets its contract: what is left to fold, from the state so far, comes to the same at each turn.
 -- Assumes nothing.
-use mathlib.Core.Path.{_≡_, _∙_, refl, sym, ap}
+use mathlib.Core.Path.{_≡_, _∙_, refl, sym}
 use Prim.Native.Nat.{_≤_, _-_}
 use native.Mathlib.Omega.{arith}
 use lib.ListN.{length, drop}
@@ -10,9 +10,6 @@ use Rattle.checksum.proofs.Fold.{further, over}
 use borrow.Author.Needs.{needs}
 use Rattle.checksum.proofs.adler_more.Statement.{statement}
 use Rattle.checksum.proofs.adler_more.Tie as tie
-use Rattle.checksum.proofs.adler_more.Reads as reads
-use Rattle.checksum.proofs.adler_more.Lts as lts
-use Rattle.checksum.proofs.adler_byte.Reads as adler-byte-reads
 
 abbrev Inv-loop : tie.InvT-loop
 Inv-loop sum bytes now-at₀ i₀ now-at i = (i ≤ length bytes) × (folded adlerByte now-at (drop i bytes) ≡ folded adlerByte sum bytes)

@@ -1,14 +1,11 @@
 -- `checksum::crc` meets its contract, by that of `crc_more`.
 -- Assumes nothing.
-use mathlib.Core.Path.{_≡_, ap}
+use mathlib.Core.Path.{ap}
 use Prim.Native.Nat.{ℕ}
 use lib.Bits.{bitXor}
 use borrow.Author.Needs.{needs}
 use Rattle.checksum.proofs.crc.Statement.{statement}
 use Rattle.checksum.proofs.crc.Tie as tie
-use Rattle.checksum.proofs.crc.Reads as reads
-use Rattle.checksum.proofs.crc.Lts as lts
-use Rattle.checksum.proofs.crc_more.Reads as crc-more-reads
 
 -- src/lib.rt:76:5
 crc-more-requires : tie.Need-crc-more-requires

@@ -1,6 +1,6 @@
 -- `checksum::crc_byte` meets its contract: the table has what the steps make of the low byte, and the rest is added in.
 -- Assumes nothing.
-use mathlib.Core.Path.{_≡_, _∙_, sym, ap}
+use mathlib.Core.Path.{_∙_, sym, ap}
 use Prim.Native.Nat.{ℕ, _/_, _%_}
 use native.Mathlib.Omega.{arith}
 use native.Mathlib.Nat.{mod-lt}
@@ -11,9 +11,6 @@ use Rattle.checksum.proofs.Bytes.{eight}
 use borrow.Author.Needs.{needs}
 use Rattle.checksum.proofs.crc_byte.Statement.{statement}
 use Rattle.checksum.proofs.crc_byte.Tie as tie
-use Rattle.checksum.proofs.crc_byte.Reads as reads
-use Rattle.checksum.proofs.crc_byte.Lts as lts
-use Rattle.checksum.proofs.wide.Reads as wide-reads
 
 -- src/lib.rt:54:23
 wide-requires : tie.Need-wide-requires

@@ -1,19 +1,10 @@
 -- `header::is_flat` meets its contract: the first number that is too large decides.
 -- Assumes nothing.
-use mathlib.Core.Path.{_≡_, _∙_, refl, sym, ap}
-use mathlib.Core.Bool.{Bool, true, false}
-use Prim.Native.Nat.{ℕ, _+_, _*_, _/_, _≤_}
-use native.Mathlib.Omega.{arith}
-use borrow.Author.Tests.{eq-eqb, ne-eqb, lt-ltb, le-ltb}
-use denote.Ref.{now}
-use Rattle.header.proofs.Picks.{same, other, above, upTo}
+use Rattle.header.proofs.Picks.{above, upTo}
 use Rattle.header.specs.Files.{isFlat}
 use borrow.Author.Needs.{needs}
 use Rattle.header.proofs.is_flat.Statement.{statement}
 use Rattle.header.proofs.is_flat.Tie as tie
-use Rattle.header.proofs.is_flat.Reads as reads
-use Rattle.header.proofs.is_flat.Lts as lts
-use Rattle.header.proofs.word.Reads as word-reads
 
 word-requires : tie.Need-word-requires
 word-requires c κs = search needs

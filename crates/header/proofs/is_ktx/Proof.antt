@@ -1,18 +1,12 @@
 -- `header::is_ktx` meets its contract: the first word that differs decides.
 -- Assumes nothing.
-use mathlib.Core.Path.{_≡_, _∙_, refl, sym, ap}
-use mathlib.Core.Bool.{Bool, true, false}
-use Prim.Native.Nat.{ℕ, _+_, _*_, _/_, _≤_}
-use native.Mathlib.Omega.{arith}
-use borrow.Author.Tests.{eq-eqb, ne-eqb, lt-ltb, le-ltb}
+use mathlib.Core.Path.{ap}
+use Prim.Native.Nat.{ℕ}
 use lib.Dec.{eqb}
-use Rattle.header.proofs.Picks.{same, other, above, upTo}
+use Rattle.header.proofs.Picks.{same, other}
 use borrow.Author.Needs.{needs}
 use Rattle.header.proofs.is_ktx.Statement.{statement}
 use Rattle.header.proofs.is_ktx.Tie as tie
-use Rattle.header.proofs.is_ktx.Reads as reads
-use Rattle.header.proofs.is_ktx.Lts as lts
-use Rattle.header.proofs.big.Reads as big-reads
 
 big-requires : tie.Need-big-requires
 big-requires c κs = search needs

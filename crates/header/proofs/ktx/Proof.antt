@@ -1,20 +1,10 @@
 -- `header::ktx` meets its contract, by the file's order.
 -- Assumes nothing.
-use mathlib.Core.Path.{_≡_, _∙_, refl, sym, ap}
-use mathlib.Core.Bool.{Bool, true, false}
-use Prim.Native.Nat.{ℕ, _+_, _*_, _/_, _≤_}
-use native.Mathlib.Omega.{arith}
-use borrow.Author.Tests.{eq-eqb, ne-eqb, lt-ltb, le-ltb}
-use denote.Ref.{now}
-use Rattle.header.proofs.Picks.{same, other, above, upTo, alike, unlike}
+use Rattle.header.proofs.Picks.{same, other}
 use Rattle.header.specs.Files.{ktxOf}
 use borrow.Author.Needs.{needs}
 use Rattle.header.proofs.ktx.Statement.{statement}
 use Rattle.header.proofs.ktx.Tie as tie
-use Rattle.header.proofs.ktx.Reads as reads
-use Rattle.header.proofs.ktx.Lts as lts
-use Rattle.header.proofs.big.Reads as big-reads
-use Rattle.header.proofs.ktx_in.Reads as ktx-in-reads
 
 big-requires : tie.Need-big-requires
 big-requires c κs = search needs

@@ -1,23 +1,14 @@
 -- `header::ktx_as` meets its contract, by those of what it calls.
 -- Assumes nothing.
-use mathlib.Core.Path.{_≡_, _∙_, refl, sym, ap}
-use mathlib.Core.Bool.{Bool, true, false}
-use Prim.Native.Nat.{ℕ, _+_, _*_, _/_, _≤_}
-use native.Mathlib.Omega.{arith}
-use borrow.Author.Tests.{eq-eqb, ne-eqb, lt-ltb, le-ltb}
+use mathlib.Core.Path.{_∙_, sym, ap}
+use Prim.Native.Nat.{ℕ, _+_}
 use denote.Ref.{now}
 use borrow.Author.Tests.{not-true, not-false}
-use Rattle.header.proofs.Picks.{same, other, above, upTo, alike, unlike, laid}
-use Rattle.header.specs.Files.{ktxAs, laidOut, sizeTold}
+use Rattle.header.proofs.Picks.{laid}
+use Rattle.header.specs.Files.{ktxAs, sizeTold}
 use borrow.Author.Needs.{needs}
 use Rattle.header.proofs.ktx_as.Statement.{statement}
 use Rattle.header.proofs.ktx_as.Tie as tie
-use Rattle.header.proofs.ktx_as.Reads as reads
-use Rattle.header.proofs.ktx_as.Lts as lts
-use Rattle.header.proofs.is_flat.Reads as is-flat-reads
-use Rattle.header.proofs.laid_out.Reads as laid-out-reads
-use Rattle.header.proofs.size_told.Reads as size-told-reads
-use Rattle.header.proofs.word.Reads as word-reads
 
 enum-known-known : tie.Need-enum-known-known
 enum-known-known c = search needs

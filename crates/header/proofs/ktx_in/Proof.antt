@@ -1,21 +1,12 @@
 -- `header::ktx_in` meets its contract: the first number that is not 0 decides.
 -- Assumes nothing.
-use mathlib.Core.Path.{_≡_, _∙_, refl, sym, ap}
-use mathlib.Core.Bool.{Bool, true, false}
-use Prim.Native.Nat.{ℕ, _+_, _*_, _/_, _≤_}
-use native.Mathlib.Omega.{arith}
-use borrow.Author.Tests.{eq-eqb, ne-eqb, lt-ltb, le-ltb}
+use mathlib.Core.Path.{_∙_, ap}
 use denote.Ref.{now}
-use Rattle.header.proofs.Picks.{same, other, above, upTo, alike, unlike}
+use Rattle.header.proofs.Picks.{same, other}
 use Rattle.header.specs.Files.{ktxIn, ktxAs, glFormat}
 use borrow.Author.Needs.{needs}
 use Rattle.header.proofs.ktx_in.Statement.{statement}
 use Rattle.header.proofs.ktx_in.Tie as tie
-use Rattle.header.proofs.ktx_in.Reads as reads
-use Rattle.header.proofs.ktx_in.Lts as lts
-use Rattle.header.proofs.gl_format.Reads as gl-format-reads
-use Rattle.header.proofs.ktx_as.Reads as ktx-as-reads
-use Rattle.header.proofs.word.Reads as word-reads
 
 word-requires : tie.Need-word-requires
 word-requires c κs = search needs

@@ -1,23 +1,14 @@
 -- `header::laid_out` meets its contract: the first check that fails decides, and no product wraps.
 -- Assumes nothing.
-use mathlib.Core.Path.{_≡_, _∙_, refl, sym, ap}
-use mathlib.Core.Bool.{Bool, true, false}
-use Prim.Native.Nat.{ℕ, _+_, _*_, _/_, _≤_}
+use mathlib.Core.Path.{sym}
+use Prim.Native.Nat.{_*_, _≤_}
 use native.Mathlib.Omega.{arith}
 use borrow.Author.Tests.{eq-eqb, ne-eqb, lt-ltb, le-ltb}
-use denote.Ref.{now}
-use Rattle.header.proofs.Picks.{same, other, above, upTo}
 use native.Mathlib.Nat.{mul-le-mul}
-use Rattle.rules.specs.Places.{sized, blocks}
-use Rattle.rules.specs.Formats.{sizeOf}
 use Rattle.header.specs.Files.{laidOut}
 use borrow.Author.Needs.{needs}
 use Rattle.header.proofs.laid_out.Statement.{statement}
 use Rattle.header.proofs.laid_out.Tie as tie
-use Rattle.header.proofs.laid_out.Reads as reads
-use Rattle.header.proofs.laid_out.Lts as lts
-use Rattle.blocks.proofs.size.Reads as size-reads
-use Rattle.picture.proofs.blocks_of.Reads as blocks-of-reads
 
 returns : tie.Need-returns
 unfolding laidOut

@@ -1,12 +1,10 @@
 -- `header::level_at` meets its contract, by the file's order.
 -- Assumes nothing.
-use mathlib.Core.Path.{_≡_, _∙_, refl, sym, ap}
-use mathlib.Core.Bool.{Bool, true, false}
-use Prim.Native.Nat.{ℕ, _+_, _*_, _/_, _≤_}
+use mathlib.Core.Path.{_∙_, ap}
+use Prim.Native.Nat.{ℕ, _+_}
 use native.Mathlib.Omega.{arith}
-use borrow.Author.Tests.{eq-eqb, ne-eqb, lt-ltb, le-ltb}
+use borrow.Author.Tests.{lt-ltb, le-ltb}
 use denote.Ref.{now}
-use Rattle.header.proofs.Picks.{same, other, above, upTo}
 use Rattle.header.specs.Files.{levelAt}
 use Rattle.header.specs.Words.{word32}
 use lib.Dec.{eqb}
@@ -14,10 +12,6 @@ use lib.ListN.{length}
 use borrow.Author.Needs.{needs}
 use Rattle.header.proofs.level_at.Statement.{statement}
 use Rattle.header.proofs.level_at.Tie as tie
-use Rattle.header.proofs.level_at.Reads as reads
-use Rattle.header.proofs.level_at.Lts as lts
-use Rattle.header.proofs.big.Reads as big-reads
-use Rattle.header.proofs.word.Reads as word-reads
 
 returns : tie.Need-returns
 unfolding levelAt

@@ -1,6 +1,6 @@
 -- `header::new_pkm` meets its contract: each arm is the row that has its number, and the last is for a number that no row has.
 -- Assumes nothing.
-use mathlib.Core.Path.{_≡_, refl, sym, ap}
+use mathlib.Core.Path.{sym, ap}
 use borrow.Author.Tests.{ne-eqb}
 use Rattle.header.specs.Files.{newPkm}
 use Rattle.header.proofs.new_pkm.Statement.{statement}

@@ -1,6 +1,6 @@
 -- `header::old_pkm` meets its contract: 0 is the one number that the list has.
 -- Assumes nothing.
-use mathlib.Core.Path.{_≡_, sym, ap}
+use mathlib.Core.Path.{sym, ap}
 use borrow.Author.Tests.{ne-eqb}
 use Rattle.header.specs.Files.{oldPkm}
 use Rattle.header.proofs.old_pkm.Statement.{statement}

@@ -1,22 +1,12 @@
 -- `header::pkm` meets its contract, by the version.
 -- Assumes nothing.
-use mathlib.Core.Path.{_≡_, _∙_, refl, sym, ap}
-use mathlib.Core.Bool.{Bool, true, false}
-use Prim.Native.Nat.{ℕ, _+_, _*_, _/_, _≤_}
-use native.Mathlib.Omega.{arith}
-use borrow.Author.Tests.{eq-eqb, ne-eqb, lt-ltb, le-ltb}
+use mathlib.Core.Path.{_∙_, ap}
 use denote.Ref.{now}
-use Rattle.header.proofs.Picks.{same, other, above, upTo, alike, unlike}
+use Rattle.header.proofs.Picks.{same, other}
 use Rattle.header.specs.Files.{pkmOf, pkmAs, oldPkm, newPkm}
 use borrow.Author.Needs.{needs}
 use Rattle.header.proofs.pkm.Statement.{statement}
 use Rattle.header.proofs.pkm.Tie as tie
-use Rattle.header.proofs.pkm.Reads as reads
-use Rattle.header.proofs.pkm.Lts as lts
-use Rattle.header.proofs.half.Reads as half-reads
-use Rattle.header.proofs.new_pkm.Reads as new-pkm-reads
-use Rattle.header.proofs.old_pkm.Reads as old-pkm-reads
-use Rattle.header.proofs.pkm_as.Reads as pkm-as-reads
 
 half-requires : tie.Need-half-requires
 half-requires c κs = search needs

@@ -1,21 +1,11 @@
 -- `header::pkm_as` meets its contract: the first check that fails decides.
 -- Assumes nothing.
-use mathlib.Core.Path.{_≡_, _∙_, refl, sym, ap}
-use mathlib.Core.Bool.{Bool, true, false}
-use Prim.Native.Nat.{ℕ, _+_, _*_, _/_, _≤_}
-use native.Mathlib.Omega.{arith}
-use borrow.Author.Tests.{eq-eqb, ne-eqb, lt-ltb, le-ltb}
-use denote.Ref.{now}
-use borrow.Author.Tests.{not-true, not-false}
-use Rattle.header.proofs.Picks.{same, other, above, upTo, alike, unlike, laid}
-use Rattle.header.specs.Files.{pkmAs, laidOut, padded}
+use mathlib.Core.Path.{_∙_, refl, ap}
+use Rattle.header.proofs.Picks.{alike, unlike, laid}
+use Rattle.header.specs.Files.{pkmAs, padded}
 use borrow.Author.Needs.{needs}
 use Rattle.header.proofs.pkm_as.Statement.{statement}
 use Rattle.header.proofs.pkm_as.Tie as tie
-use Rattle.header.proofs.pkm_as.Reads as reads
-use Rattle.header.proofs.pkm_as.Lts as lts
-use Rattle.header.proofs.half.Reads as half-reads
-use Rattle.header.proofs.laid_out.Reads as laid-out-reads
 
 enum-known-known : tie.Need-enum-known-known
 enum-known-known c = search needs

@@ -1,23 +1,13 @@
 -- `header::read_header` meets its contract: the first bytes tell the kind of file.
 -- Assumes nothing.
-use mathlib.Core.Path.{_≡_, _∙_, refl, sym, ap}
-use mathlib.Core.Bool.{Bool, true, false}
-use Prim.Native.Nat.{ℕ, _+_, _*_, _/_, _≤_}
-use native.Mathlib.Omega.{arith}
-use borrow.Author.Tests.{eq-eqb, ne-eqb, lt-ltb, le-ltb}
-use denote.Ref.{now}
+use mathlib.Core.Path.{sym}
+use borrow.Author.Tests.{lt-ltb, le-ltb}
 use borrow.Author.Tests.{not-true, not-false}
-use Rattle.header.proofs.Picks.{same, other, above, upTo, alike, unlike, laid}
-use Rattle.header.specs.Files.{headerOf, isKtx}
+use Rattle.header.proofs.Picks.{same, other}
+use Rattle.header.specs.Files.{headerOf}
 use borrow.Author.Needs.{needs}
 use Rattle.header.proofs.read_header.Statement.{statement}
 use Rattle.header.proofs.read_header.Tie as tie
-use Rattle.header.proofs.read_header.Reads as reads
-use Rattle.header.proofs.read_header.Lts as lts
-use Rattle.header.proofs.big.Reads as big-reads
-use Rattle.header.proofs.is_ktx.Reads as is-ktx-reads
-use Rattle.header.proofs.ktx.Reads as ktx-reads
-use Rattle.header.proofs.pkm.Reads as pkm-reads
 
 returns : tie.Need-returns
 unfolding headerOf

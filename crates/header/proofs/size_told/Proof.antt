@@ -1,12 +1,10 @@
 -- `header::size_told` meets its contract: a refusal stays as it is, and a picture's size is held to what the file tells.
 -- Assumes nothing.
-use mathlib.Core.Path.{_≡_, _∙_, refl, sym, ap}
-use mathlib.Core.Bool.{Bool, true, false}
-use Prim.Native.Nat.{ℕ, _+_, _*_, _/_, _≤_}
-use native.Mathlib.Omega.{arith}
-use borrow.Author.Tests.{eq-eqb, ne-eqb, lt-ltb, le-ltb}
-use denote.Ref.{now}
-use Rattle.header.proofs.Picks.{same, other, above, upTo, alike, unlike}
+use mathlib.Core.Path.{_≡_, refl}
+use mathlib.Core.Bool.{Bool}
+use Prim.Native.Nat.{ℕ}
+use borrow.Author.Tests.{lt-ltb, le-ltb}
+use Rattle.header.proofs.Picks.{same, other}
 use mathlib.Core.List.{[], _∷_}
 use mathlib.Core.List.{List}
 use types.Run.{OneOf, miss}
@@ -18,9 +16,6 @@ use Rattle.header.proofs.Header.{the-type}
 use borrow.Author.Needs.{needs}
 use Rattle.header.proofs.size_told.Statement.{statement}
 use Rattle.header.proofs.size_told.Tie as tie
-use Rattle.header.proofs.size_told.Reads as reads
-use Rattle.header.proofs.size_told.Lts as lts
-use Rattle.header.proofs.word.Reads as word-reads
 
 enum-known-header : tie.Need-enum-known-header
 enum-known-header c = search needs

@@ -1,20 +1,12 @@
 -- `header::word` meets its contract, by the file's order.
 -- Assumes nothing.
-use mathlib.Core.Path.{_≡_, _∙_, refl, sym, ap}
-use mathlib.Core.Bool.{Bool, true, false}
-use Prim.Native.Nat.{ℕ, _+_, _*_, _/_, _≤_}
-use native.Mathlib.Omega.{arith}
-use borrow.Author.Tests.{eq-eqb, ne-eqb, lt-ltb, le-ltb}
+use mathlib.Core.Path.{_∙_, sym, ap}
+use mathlib.Core.Bool.{Bool}
 use denote.Ref.{now}
-use Rattle.header.proofs.Picks.{same, other, above, upTo}
 use Rattle.header.specs.Words.{word32}
 use borrow.Author.Needs.{needs}
 use Rattle.header.proofs.word.Statement.{statement}
 use Rattle.header.proofs.word.Tie as tie
-use Rattle.header.proofs.word.Reads as reads
-use Rattle.header.proofs.word.Lts as lts
-use Rattle.header.proofs.big.Reads as big-reads
-use Rattle.header.proofs.little.Reads as little-reads
 
 big-requires : tie.Need-big-requires
 big-requires c κs = search needs

@@ -4,10 +4,6 @@ use Rattle.rows.proofs.Row.{reads-row}
 use borrow.Author.Needs.{needs}
 use Rattle.rows.proofs.read_row.Statement.{statement}
 use Rattle.rows.proofs.read_row.Tie as tie
-use Rattle.rows.proofs.read_row.Reads as reads
-use Rattle.rows.proofs.read_row.Lts as lts
-use Rattle.picture.proofs.read.Reads as read-reads
-use Rattle.rows.proofs.high.Reads as high-reads
 
 high-requires : tie.Need-high-requires
 high-requires c κs = search needs

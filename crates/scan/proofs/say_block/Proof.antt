@@ -6,9 +6,6 @@ use native.Mathlib.Nat.{mul-le-mul}
 use borrow.Author.Needs.{needs}
 use Rattle.scan.proofs.say_block.Statement.{statement}
 use Rattle.scan.proofs.say_block.Tie as tie
-use Rattle.scan.proofs.say_block.Reads as reads
-use Rattle.scan.proofs.say_block.Lts as lts
-use Rattle.words.proofs.refused_block.Reads as refused-block-reads
 
 few : (c : tie.Then1) → c .before .args .j * c .before .args .n ≤ 16777216
 few c =

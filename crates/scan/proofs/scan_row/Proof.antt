@@ -5,10 +5,6 @@ use lib.ListN.{length-take, length-drop, length-append}
 use borrow.Author.Needs.{needs}
 use Rattle.scan.proofs.scan_row.Statement.{statement}
 use Rattle.scan.proofs.scan_row.Tie as tie
-use Rattle.scan.proofs.scan_row.Reads as reads
-use Rattle.scan.proofs.scan_row.Lts as lts
-use Rattle.io.proofs.read_full.Reads as read-full-reads
-use Rattle.picture.proofs.first_out_of_range.Reads as first-out-of-range-reads
 
 mul-size : tie.Need-mul-size
 mul-size c = search needs

@@ -5,13 +5,6 @@ use lib.ListN.{length}
 use borrow.Author.Needs.{needs}
 use Rattle.scan.proofs.scan_rows.Statement.{statement}
 use Rattle.scan.proofs.scan_rows.Tie as tie
-use Rattle.scan.proofs.scan_rows.Reads as reads
-use Rattle.scan.proofs.scan_rows.Lts as lts
-use Rattle.io.proofs.large_buffer.Reads as large-buffer-reads
-use Rattle.scan.proofs.say_block.Reads as say-block-reads
-use Rattle.scan.proofs.scan_row.Reads as scan-row-reads
-use Rattle.words.proofs.accepted.Reads as accepted-reads
-use Rattle.words.proofs.refusal.Reads as refusal-reads
 
 abbrev Inv-loop : tie.InvT-loop
 Inv-loop fd n rows bytes₀ j₀ bytes j = 65536 ≤ length bytes

@@ -5,9 +5,6 @@ use lib.ListN.{length}
 use borrow.Author.Needs.{needs}
 use Rattle.tool.proofs.args.number_in.Statement.{statement}
 use Rattle.tool.proofs.args.number_in.Tie as tie
-use Rattle.tool.proofs.args.number_in.Reads as reads
-use Rattle.tool.proofs.args.number_in.Lts as lts
-use Rattle.tool.proofs.args.more.Reads as more-reads
 
 abbrev Inv-loop : tie.InvT-loop
 Inv-loop word number₀ i₀ number i = i ≤ length word
