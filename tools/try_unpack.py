@@ -1,0 +1,140 @@
+"""Run by tools/try-unpack: runs ./unpack on the examples and on bad files of every kind, and holds what it does to what it should do.
+
+For each example: the PNG is read by PIL, by netpbm's pngtopam and by this script's own few lines over zlib, and all three have
+the same pixels. For each bad file: the exit status is the number of the refusal, a sentence goes to standard error, and nothing
+is left behind. Its last line is 'N passed, M failed'.
+"""
+import os
+import struct
+import subprocess
+import sys
+import tempfile
+import zlib
+
+from PIL import Image
+
+TOP = os.path.dirname(os.path.dirname(os.path.abspath(__file__)))
+TOOL = os.path.join(TOP, "unpack")
+COUNT = {True: 0, False: 0}
+
+
+def note(ok, what):
+    COUNT[ok] += 1
+    if not ok:
+        print("FAILED " + what)
+
+
+def unpack(*words):
+    run = subprocess.run([TOOL] + list(words), capture_output=True)
+    return run.returncode, run.stdout.decode(), run.stderr.decode()
+
+
+def own(path):
+    """The pixels of a PNG of ours: chunks, zlib, no filter."""
+    data, at, stream = open(path, "rb").read(), 8, b""
+    while at < len(data):
+        size, name = struct.unpack(">I4s", data[at:at + 8])
+        body = data[at + 8:at + 8 + size]
+        assert struct.unpack(">I", data[at + 8 + size:at + 12 + size])[0] == zlib.crc32(name + body)
+        if name == b"IHDR":
+            width, height = struct.unpack(">II", body[:8])
+        if name == b"IDAT":
+            stream += body
+        at += 12 + size
+    lines = zlib.decompress(stream)
+    step = 1 + 4 * width
+    return (width, height), b"".join(lines[y * step + 1:(y + 1) * step] for y in range(height))
+
+
+def netpbm(path):
+    pam = subprocess.run(["pngtopam", "-alphapam", path], capture_output=True, check=True).stdout
+    return pam[pam.index(b"ENDHDR\n") + 7:]
+
+
+def examples(room):
+    for name in ("kinds.ktx", "old.pkm", "glow.ktx"):
+        out = os.path.join(room, name + ".png")
+        status, said, _ = unpack(os.path.join(TOP, "examples", name), out)
+        note(status == 0, name + ": exit status")
+        size, pixels = own(out)
+        image = Image.open(out)
+        note(image.size == size and image.mode == "RGBA" and image.tobytes() == pixels, name + ": PIL")
+        if pixels[3::4] != b"\xff" * (len(pixels) // 4):
+            note(netpbm(out) == pixels, name + ": netpbm")
+        else:
+            rgb = subprocess.run(["pngtopam", out], capture_output=True, check=True).stdout[-3 * len(pixels) // 4:]
+            note(rgb == bytes(b for i, b in enumerate(pixels) if i % 4 != 3), name + ": netpbm")
+        note("%08x" % zlib.crc32(open(out, "rb").read()) in said, name + ": the CRC of the file")
+        stored = os.path.join(TOP, "examples", name.split(".")[0] + ".png")
+        note(open(stored, "rb").read() == open(out, "rb").read(), name + ": the stored PNG")
+
+
+def changed(data, at, new):
+    return data[:at] + new + data[at + len(new):]
+
+
+def bad_files():
+    ktx = open(os.path.join(TOP, "examples", "kinds.ktx"), "rb").read()
+    big = open(os.path.join(TOP, "examples", "glow.ktx"), "rb").read()
+    pkm = open(os.path.join(TOP, "examples", "old.pkm"), "rb").read()
+    le, be = "<I", ">I"
+    yield "empty", b"", 20
+    yield "fifteen bytes", pkm[:15], 20
+    yield "KTX cut in its header", ktx[:63], 20
+    yield "no magic", b"\x89PNG" + ktx[4:], 21
+    yield "KTX 2", changed(ktx, 5, b"20"), 21
+    yield "PKM 3.0", changed(pkm, 4, b"30"), 22
+    yield "KTX of no order", changed(ktx, 12, b"\1\2\4\3"), 22
+    yield "PKM 1.0 with ETC2", changed(pkm, 6, b"\0\1"), 23
+    yield "the RGBA that was given up", changed(changed(pkm, 4, b"20"), 6, b"\0\2"), 23
+    yield "KTX of plain pixels", changed(ktx, 16, struct.pack(le, 0x1401)), 23
+    yield "KTX of DXT1", changed(ktx, 28, struct.pack(le, 0x83F0)), 23
+    yield "padded width that lies", changed(pkm, 8, b"\0\x24"), 24
+    yield "level size that lies", changed(ktx, 64, struct.pack(le, 511)), 24
+    yield "a volume", changed(ktx, 44, struct.pack(le, 2)), 25
+    yield "an array", changed(ktx, 48, struct.pack(le, 5)), 25
+    yield "a cube", changed(big, 52, struct.pack(be, 6)), 25
+    yield "no height", changed(ktx, 40, struct.pack(le, 0)), 26
+    yield "too wide", changed(ktx, 36, struct.pack(le, 16385)), 1
+    yield "one byte short", ktx[:-1], 2
+    yield "PKM one byte short", pkm[:-1], 2
+    yield "key and value data past the end", changed(ktx, 60, struct.pack(le, 4294967295)), 2
+
+
+def refusals(room):
+    for what, data, number in bad_files():
+        path, out = os.path.join(room, "bad"), os.path.join(room, "bad.png")
+        with open(path, "wb") as f:
+            f.write(data)
+        status, _, sentence = unpack(path, out)
+        note(status == number, "%s: status %d, not %d" % (what, status, number))
+        note(sentence.strip().endswith("."), what + ": no sentence")
+        note(not os.path.exists(out) and not os.path.exists(out + ".part"), what + ": something is left")
+    old, kinds, glow = (os.path.join(TOP, "examples", n) for n in ("old.pkm", "kinds.ktx", "glow.ktx"))
+    for words, number in (
+        (["--check", old], 0),
+        (["--check", kinds], 4),
+        (["--check", glow], 27),
+        (["--info", glow], 0),
+        (["--help"], 0),
+        ([], 32),
+        (["--check"], 32),
+        (["--raw", "dxt1", "4", "4", old, out], 23),
+        (["--raw", "etc1", "four", "4", old, out], 24),
+        (["--raw", "etc1", "64", "64", old, out], 2),
+        (["--raw", "eac-rg", "8", "8", old, out], 0),
+        ([os.path.join(room, "nothing"), out], 30),
+        ([old, os.path.join(room, "no", "folder.png")], 31),
+    ):
+        note(unpack(*words)[0] == number, " ".join(words) + ": status")
+
+
+def main():
+    with tempfile.TemporaryDirectory() as room:
+        examples(room)
+        refusals(room)
+    print("%d passed, %d failed" % (COUNT[True], COUNT[False]))
+    sys.exit(1 if COUNT[False] else 0)
+
+
+main()
