@@ -1,7 +1,6 @@
 -- "A reader's statement determines the answer and every element of the lent image afterwards, for all inputs, refused ones
 -- included. It is shown that no second outcome could satisfy it." Below: one lemma, applied to the promise of each reader.
 -- Assumes nothing.
-use mathlib.Core.Path.{_≡_}
 use mathlib.Core.Bool.{Bool}
 use mathlib.Core.List.{List}
 use Prim.Native.Nat.{ℕ}
@@ -9,10 +8,7 @@ use Rattle.rules.specs.Readers.{ReadsPicture, ReadsStrict, ReadsBlock, ReadsAlp
 use Rattle.rules.specs.declared.Answer.{Answer}
 use Rattle.rules.specs.declared.Format.{Format}
 use Rattle.laws.proofs.Unique.{no-second-outcome}
-
--- two outcomes, each an answer and an image, are one
-abbrev pub Same : Answer → Answer → List ℕ → List ℕ → Type 0
-Same a b new new' = (a ≡ b) × (new ≡ new')
+use Rattle.claims.proofs.Outcomes.{Same}
 
 module _ (d image : List ℕ) (a b : Answer) (new new' : List ℕ) where
   -- the eight picture readers

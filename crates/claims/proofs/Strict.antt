@@ -4,25 +4,28 @@
 use mathlib.Core.Path.{_≡_, _∙_, refl, sym, ap}
 use mathlib.Core.Bool.{Bool, true, false, cond, true≢false}
 use mathlib.Core.List.{List, [], _∷_}
-use Prim.Native.Nat.{ℕ, _%_, _<_, _≤_}
+use Prim.Native.Nat.{ℕ, _+_, _*_, _/_, _%_, _<_, _≤_}
 use native.Mathlib.Omega.{arith}
 use native.Mathlib.Decide.{decLt}
 use borrow.Author.Tests.{lt-ltb, le-ltb}
+use lib.Dec.{ltb}
 use lib.ListN.{length, getD}
-use Rattle.rules.specs.Places.{sized, inside, blocks, blockAt, bytesOf, column, row, pixelAt}
-use Rattle.rules.specs.Answers.{said, accepts, verdict, firstOf, guarded}
+use Rattle.rules.specs.Places.{sized, across, inside, blocks, blockAt, bytesOf, column, row, pixelAt, Alike, Beside}
+use Rattle.rules.specs.Answers.{said, accepts, tooLarge, verdict, firstOf, guarded}
 use Rattle.rules.specs.Colour.{outOfRange}
 use Rattle.rules.specs.Formats.{sizeOf, showsOf}
 use Rattle.rules.specs.Readers.{pictureOf, strictVerdict, ReadsPicture, ReadsStrict}
 use Rattle.rules.specs.declared.Answer.{Answer}
 use Rattle.rules.specs.declared.Answer.the-variants.{Done, OutOfRange}
 use Rattle.rules.specs.declared.Format.the-variants.{Etc1, Etc2Rgb}
-use Rattle.laws.proofs.First.{First, first}
+use Rattle.laws.proofs.First.{First, first, first-alike}
 use Rattle.laws.proofs.Paint.{getD-painted}
 use Rattle.laws.proofs.Range.{agree}
 use Rattle.laws.proofs.Unique.{answer}
 use Rattle.picture.proofs.Checks.{passed, all-pass}
-use Rattle.claims.proofs.Pictures.{a-refusal-alters-nothing, an-acceptance-paints}
+use Rattle.claims.proofs.Outcomes.{Same, a-refusal-alters-nothing, an-acceptance-paints}
+use Rattle.claims.proofs.Alike.{OnlyInTile}
+use Rattle.claims.proofs.Pictures.{Empty, no-blocks, only-its-own-pixels, each-accepted-pixel, an-empty-picture, own-tile, only-blocks-are-read}
 
 module _ (d : List ℕ) (w h : ℕ) (image : List ℕ) (a : Answer) (new : List ℕ) (p : ReadsStrict d w h image a new) where
   -- "some block of the picture has its difference bit set and a red, green or blue five-bit base plus signed step outside 0
@@ -105,3 +108,43 @@ old-reader-differs-only-there d w h image old new a b p q r t k l e =
     ∙ ap (λ (v : ℕ). cond (inside (sized w h) k) v (getD image k 0)) (etc1-differs-only-out-of-range d w h k e)
     ∙ sym (getD-painted (inside (sized w h)) (pixelAt (showsOf Etc2Rgb) 8 (sized w h) d) image k l)
     ∙ sym (ap (λ (l : List ℕ). getD l k 0) (an-acceptance-paints _ _ image new b q t))
+
+-- What Pictures.antt says of the readers of the formats, of strict ETC1.
+module _ (d : List ℕ) (w h : ℕ) (image : List ℕ) where
+  -- what the reader says once the checks pass
+  abbrev then : List ℕ → List ℕ
+  then d = guarded (λ n. outOfRange (bytesOf 8 d n)) (blocks (sized w h))
+
+  module _ (new : List ℕ) (p : ReadsStrict d w h image Done new) where
+    -- a picture that it has done shows at (x, y) what ETC2 RGB says of block number (y / 4) * ceil(w / 4) + x / 4, in its
+    -- column x % 4 and row y % 4
+    pub every-pixel-of-a-strict-picture : (x y : ℕ) → x < w → y < h → getD new (y * w + x) 0 ≡ showsOf Etc2Rgb (bytesOf 8 d (y / 4 * across w + x / 4)) (x % 4) (y % 4)
+    unfolding sizeOf
+    every-pixel-of-a-strict-picture = each-accepted-pixel (showsOf Etc2Rgb) 8 (sized w h) image (then d) d Done new p refl
+
+    -- and one that differs from it in block n alone differs at most in that block's clipped tile
+    pub one-block-changes-its-own-tile-in-strict : (e new' : List ℕ) (n : ℕ) → Beside 8 (sized w h) n d e → ReadsStrict e w h image Done new' → OnlyInTile (sized w h) n new new'
+    unfolding sizeOf
+    one-block-changes-its-own-tile-in-strict e new' n z q =
+        own-tile (showsOf Etc2Rgb) 8 (sized w h) image (then d) (then e) d e Done Done new new' p q n z refl refl
+
+  module _ (a : Answer) (new : List ℕ) (p : ReadsStrict d w h image a new) where
+    -- no element behind it, nor any element of a refused one, has changed
+    pub strict-changes-nothing-else : (k : ℕ) → k < length image → w * h ≤ k → getD new k 0 ≡ getD image k 0
+    unfolding sizeOf
+    strict-changes-nothing-else = only-its-own-pixels (showsOf Etc2Rgb) 8 (sized w h) image (then d) d a new p
+
+    -- width 0 or height 0, the other at most 16,384, is accepted and changes nothing
+    pub strict-changes-nothing-of-an-empty-picture : Empty (sized w h) → tooLarge (sized w h) ≡ false → Same a Done new image
+    unfolding sizeOf
+    strict-changes-nothing-of-an-empty-picture e t =
+        an-empty-picture (showsOf Etc2Rgb) 8 (sized w h) image (then d) d a new p e t
+        (rw (le-ltb (firstOf (λ n. outOfRange (bytesOf 8 d n)) (blocks (sized w h))) (blocks (sized w h)) (omega (arith, no-blocks (sized w h) e))))
+
+    -- inputs that agree on the blocks of the picture have one outcome
+    pub strict-reads-no-data-beyond-the-last-block : (e : List ℕ) (b : Answer) (new' : List ℕ) → Alike 8 (sized w h) d e → ReadsStrict e w h image b new' → Same a b new new'
+    unfolding sizeOf
+    strict-reads-no-data-beyond-the-last-block e b new' same q =
+        only-blocks-are-read (showsOf Etc2Rgb) 8 (sized w h) image (then d) (then e) d e a b new new' p q (omega arith) same
+        (ap (λ (n : ℕ). cond (ltb n (blocks (sized w h))) (4 ∷ n ∷ []) (0 ∷ []))
+        (first-alike _ _ (blocks (sized w h)) (λ n l. ap outOfRange (same n l))))

@@ -58,3 +58,11 @@ only test n a b p q =
   where
     clash : {t : Bool} → t ≡ true → t ≡ false → ⊥
     clash r s = true≢false (sym r ∙ s)
+
+-- a test that says the same of each of n places finds the same first one
+pub first-alike : (t u : ℕ → Bool) (n : ℕ) → ((m : ℕ) → m < n → t m ≡ u m) → firstOf t n ≡ firstOf u n
+first-alike t u n h =
+    let f = first t n in
+    only u n (firstOf t n) (firstOf u n)
+    (record { within = f .within; found = λ l. sym (h (firstOf t n) l) ∙ f .found l; none = λ k l. sym (h k (omega (arith, f .within))) ∙ f .none k l })
+    (first u n)

@@ -12,4 +12,4 @@ pub mod Word
 pub mod First
 pub mod Unique
 pub mod Outcome
-pub mod Own
+pub mod Reach

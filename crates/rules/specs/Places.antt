@@ -2,7 +2,8 @@
 -- Assumes nothing.
 use mathlib.Core.Bool.{Bool, cond, _&&_}
 use mathlib.Core.List.{List}
-use Prim.Native.Nat.{ℕ, _+_, _*_, _/_, _%_}
+use mathlib.Core.Path.{_≡_}
+use Prim.Native.Nat.{ℕ, _+_, _*_, _/_, _%_, _<_}
 use lib.Dec.{ltb, eqb}
 use lib.ListN.{length, getD, take, drop}
 use Rattle.rules.specs.Notation.{build}
@@ -48,6 +49,14 @@ bytesOf s d n = take s (drop (n * s) d)
 -- "Right and lower tiles are clipped": the tile of block n has those elements of the picture that lie in block n
 abbrev pub inTile : Picture → ℕ → ℕ → Bool
 inTile p n k = inside p k && eqb (blockAt p k) n
+
+-- "Data beyond the last block is not read": of inputs with blocks of s bytes, each block of the picture is the same in both
+abbrev pub Alike : ℕ → Picture → List ℕ → List ℕ → Type 0
+Alike s p d e = (m : ℕ) → m < blocks p → bytesOf s d m ≡ bytesOf s e m
+
+-- "Two pictures of one size .. that differ in one block" (demand 2): each block but block n is the same in both
+abbrev pub Beside : ℕ → Picture → ℕ → List ℕ → List ℕ → Type 0
+Beside s p n d e = (m : ℕ) → m < blocks p → (m ≡ n → ⊥) → bytesOf s d m ≡ bytesOf s e m
 
 -- the sixteen pixels of one block, row by row
 abbrev pub tile : Shows → List ℕ → List ℕ
