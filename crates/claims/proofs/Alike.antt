@@ -5,7 +5,7 @@ use mathlib.Core.Bool.{Bool, true, false, cond, _&&_, true≢false}
 use mathlib.Core.List.{List, [], _∷_, _++_}
 use Prim.Native.Nat.{ℕ, zero, suc, _+_, _-_, _*_, _%_, _<_, _≤_, min}
 use native.Mathlib.Omega.{arith}
-use native.Mathlib.Nat.{zero-mul, suc-mul, mul-le-mul-right}
+use native.Mathlib.Nat.{zero-mul, suc-mul}
 use native.Mathlib.Decide.{decLt}
 use borrow.Author.Tests.{lt-ltb, le-ltb, eq-eqb}
 use lib.Dec.{T, ltb, eqb}
@@ -17,6 +17,10 @@ use Rattle.rules.specs.Answers.{tooLarge, checked}
 use Rattle.rules.specs.declared.Picture.{Picture}
 use Rattle.laws.proofs.Paint.{length-painted, getD-painted, painted-same}
 use Rattle.picture.proofs.Blocks.{block-in, room}
+
+-- the picture of bytes d over an image
+abbrev pub over : Shows → ℕ → Picture → List ℕ → List ℕ → List ℕ
+over shows s pic image d = painted (inside pic) (pixelAt shows s pic d) image
 
 -- ".. differ at most in that block's clipped tile." (demand 2): images that are the same outside the tile of block n
 pub record OnlyInTile (pic : Picture) (n : ℕ) (new new' : List ℕ) : Type 0 where
@@ -46,7 +50,7 @@ module _ (s : ℕ) (pic : Picture) (d e : List ℕ) where
   pixel shows k = ap (λ (l : List ℕ). shows l (column pic k % 4) (row pic k % 4))
 
   -- outside the tile of block n an element is no pixel of the picture, or one of another block
-  pub beside-in-tile : (shows : Shows) (n : ℕ) → Beside s pic n d e → (old : List ℕ) → OnlyInTile pic n (painted (inside pic) (pixelAt shows s pic d) old) (painted (inside pic) (pixelAt shows s pic e) old)
+  pub beside-in-tile : (shows : Shows) (n : ℕ) → Beside s pic n d e → (old : List ℕ) → OnlyInTile pic n (over shows s pic old d) (over shows s pic old e)
   beside-in-tile shows n b old =
       record {
         as-long = length-painted (inside pic) (pixelAt shows s pic d) old ∙ sym (length-painted (inside pic) (pixelAt shows s pic e) old);
@@ -65,7 +69,7 @@ module _ (s : ℕ) (pic : Picture) (d e : List ℕ) where
 
   module _ (same : Alike s pic d e) where
     -- the whole picture, and what the checks say
-    pub picture-alike : (shows : Shows) (old : List ℕ) → painted (inside pic) (pixelAt shows s pic d) old ≡ painted (inside pic) (pixelAt shows s pic e) old
+    pub picture-alike : (shows : Shows) (old : List ℕ) → over shows s pic old d ≡ over shows s pic old e
     picture-alike shows old =
         painted-same (inside pic) (pixelAt shows s pic d) (pixelAt shows s pic e) old
         (λ k i. pixel shows k (same (blockAt pic k) (block-in pic k i)))

@@ -1,7 +1,7 @@
 -- What document 01 claims of the block readers, over the promise that they share: the eight of the formats, the alpha half and the
 -- single channels.
 -- Assumes nothing.
-use mathlib.Core.Path.{_≡_, _∙_, refl, sym, ap}
+use mathlib.Core.Path.{_≡_, _∙_, sym, ap}
 use mathlib.Core.Bool.{Bool, cond}
 use mathlib.Core.List.{List, [], _∷_}
 use Prim.Native.Nat.{ℕ, _+_, _-_, _*_, _/_, _%_, _<_, _≤_, min}
@@ -11,11 +11,11 @@ use borrow.Author.Tests.{le-ltb}
 use lib.Dec.{T, ltb, ltb→lt}
 use lib.ListN.{length, getD, take, drop, length-take}
 use Rattle.rules.specs.Pixel.{Shows}
-use Rattle.rules.specs.Places.{sized, inside, bytesOf, pixelAt}
-use Rattle.rules.specs.Answers.{blockVerdict, verdict, Outcome}
+use Rattle.rules.specs.Places.{sized, bytesOf, pixelAt}
+use Rattle.rules.specs.Answers.{blockVerdict, Outcome}
 use Rattle.rules.specs.Channels.{withAlpha, alphaByte, eacByte, orChannel}
 use Rattle.rules.specs.Formats.{sizeOf, showsOf}
-use Rattle.rules.specs.Readers.{blockPainted, pictureOf, ReadsPicture, ReadsBlock, ReadsAlpha, ReadsChannel}
+use Rattle.rules.specs.Readers.{blockPainted, ReadsPicture, ReadsBlock, ReadsAlpha, ReadsChannel}
 use Rattle.rules.specs.declared.Answer.{Answer}
 use Rattle.rules.specs.declared.Format.{Format}
 use Rattle.laws.proofs.Paint.{painted-same}
@@ -121,8 +121,9 @@ module _ (d image : List ℕ) (a : Answer) (new : List ℕ) where
     pub bytes-behind-an-alpha-half-are-not-read : take 8 d ≡ take 8 e → ReadsAlpha d image a new → ReadsAlpha e image b new' → Same a b new new'
     bytes-behind-an-alpha-half-are-not-read same p = not-read alpha d image a new p e b new' same
 
-    pub bytes-behind-a-channel-are-not-read : (signed : Bool) (channel : ℕ) → take 8 d ≡ take 8 e → ReadsChannel signed d channel image a new → ReadsChannel signed e channel image b new' → Same a b new new'
-    bytes-behind-a-channel-are-not-read signed channel same p = not-read (single signed channel) d image a new p e b new' same
+    module _ (signed : Bool) (channel : ℕ) where
+      pub bytes-behind-a-channel-are-not-read : take 8 d ≡ take 8 e → ReadsChannel signed d channel image a new → ReadsChannel signed e channel image b new' → Same a b new new'
+      bytes-behind-a-channel-are-not-read same p = not-read (single signed channel) d image a new p e b new' same
 
 -- a place of sixteen, in a picture of 4 by 4: its block is number 0
 small : (k : ℕ) → k < 16 → (k / 4 / 4 * 1 + k % 4 / 4 ≡ 0) × (k % 4 % 4 ≡ k % 4) × (k / 4 % 4 ≡ k / 4)

@@ -14,7 +14,7 @@ use lib.Dec.{T, ltb, ltb→lt}
 use lib.ListN.{length, getD}
 use lib.Seq.{ext-getD}
 use Rattle.rules.specs.Pixel.{Shows}
-use Rattle.rules.specs.Places.{sized, across, blocks, inside, element, row, blockOf, bytesOf, pixelAt, painted, Alike, Beside}
+use Rattle.rules.specs.Places.{sized, across, blocks, inside, element, row, blockOf, bytesOf, pixelAt, Alike, Beside}
 use Rattle.rules.specs.Answers.{accepts, tooLarge, checked, Outcome, said}
 use Rattle.rules.specs.Formats.{sizeOf, showsOf}
 use Rattle.rules.specs.Readers.{ReadsPicture}
@@ -28,7 +28,7 @@ use Rattle.place.proofs.Grid.{column-at, row-at, inside-at}
 use Rattle.picture.proofs.Checks.{passed}
 use Rattle.laws.proofs.Reach.{some-bytes}
 use Rattle.claims.proofs.Outcomes.{Same, same-outcome, an-acceptance-paints, the-length-stays, the-rest-stays}
-use Rattle.claims.proofs.Alike.{OnlyInTile, beside-in-tile, picture-alike, checked-alike, behind}
+use Rattle.claims.proofs.Alike.{over, OnlyInTile, beside-in-tile, picture-alike, checked-alike, behind}
 
 holds : (t : Bool) → T t → t ≡ true
 holds true h = refl
@@ -52,13 +52,9 @@ no-pixels : (pic : Picture) → Empty pic → pic .width * pic .height ≡ 0
 no-pixels pic = ⊎-elim (λ e. rw e (zero-mul (pic .height))) (λ e. rw e (mul-zero (pic .width)))
 
 module _ (shows : Shows) (s : ℕ) (pic : Picture) (image : List ℕ) where
-  -- the picture of bytes d over the image
-  abbrev pub over : List ℕ → List ℕ
-  over d = painted (inside pic) (pixelAt shows s pic d) image
-
   -- the promise of a picture reader that, once the checks pass, says `then`
   abbrev pub Reads : List ℕ → List ℕ → Answer → List ℕ → Type 0
-  Reads then d a new = Outcome (checked s pic (length d) (length image) then) (over d) a image new
+  Reads then d a new = Outcome (checked s pic (length d) (length image) then) (over shows s pic image d) a image new
 
   module _ (then d : List ℕ) (a : Answer) (new : List ℕ) (p : Reads then d a new) where
     -- "An accepted picture alters only its own width times height pixels." (demand 1)
@@ -77,7 +73,7 @@ module _ (shows : Shows) (s : ℕ) (pic : Picture) (image : List ℕ) where
         let ok = passed s pic (length d) (length image) (pass big short cramped then (sym (ap accepts (p .says)) ∙ r)) in
         let within : at < length image =
         omega (arith, ltb→lt at (pic .width * pic .height) (inside-at pic x y i j), ok .roomy) in
-        ap (λ (l : List ℕ). getD l at 0) (an-acceptance-paints _ (over d) image new a p r)
+        ap (λ (l : List ℕ). getD l at 0) (an-acceptance-paints _ _ image new a p r)
         ∙ getD-painted (inside pic) (pixelAt shows s pic d) image at within
         ∙ ap (λ (t : Bool). cond t (pixelAt shows s pic d at) (getD image at 0)) (holds (inside pic at) (inside-at pic x y i j))
         ∙ ap (λ (c : ℕ). shows (bytesOf s d (blockOf pic c (row pic at))) (c % 4) (row pic at % 4)) (column-at pic x y i)
@@ -100,13 +96,13 @@ module _ (shows : Shows) (s : ℕ) (pic : Picture) (image : List ℕ) where
     -- block's clipped tile." (demand 2)
     pub own-tile : (n : ℕ) → Beside s pic n d e → accepts (said a) ≡ true → accepts (said b) ≡ true → OnlyInTile pic n new new'
     own-tile n z r t =
-        subst (λ (l : List ℕ). OnlyInTile pic n l new') (sym (an-acceptance-paints _ (over d) image new a p r))
-        (subst (λ (l : List ℕ). OnlyInTile pic n (over d) l) (sym (an-acceptance-paints _ (over e) image new' b q t)) (beside-in-tile s pic d e shows n z image))
+        subst (λ (l : List ℕ). OnlyInTile pic n l new') (sym (an-acceptance-paints _ _ image new a p r))
+        (subst (λ (l : List ℕ). OnlyInTile pic n (over shows s pic image d) l) (sym (an-acceptance-paints _ _ image new' b q t)) (beside-in-tile s pic d e shows n z image))
 
     -- "Data beyond the last block is not read": the blocks alone decide
     pub only-blocks-are-read : 0 < s → Alike s pic d e → then ≡ then' → Same a b new new'
     only-blocks-are-read o same t =
-        same-outcome _ _ (over d) (over e) image a b new new' (checked-alike s pic d e same o (length image) then then' t) (picture-alike s pic d e same shows image) p q
+        same-outcome _ _ _ _ image a b new new' (checked-alike s pic d e same o (length image) then then' t) (picture-alike s pic d e same shows image) p q
 
 -- The same for a user, with nothing left to look up.
 module _ (f : Format) (d : List ℕ) (w h : ℕ) (image : List ℕ) where

@@ -14,11 +14,11 @@ use Rattle.rules.specs.Places.{sized, across, inside, blocks, blockAt, bytesOf,
 use Rattle.rules.specs.Answers.{said, accepts, tooLarge, verdict, firstOf, guarded}
 use Rattle.rules.specs.Colour.{outOfRange}
 use Rattle.rules.specs.Formats.{sizeOf, showsOf}
-use Rattle.rules.specs.Readers.{pictureOf, strictVerdict, ReadsPicture, ReadsStrict}
+use Rattle.rules.specs.Readers.{pictureOf, ReadsPicture, ReadsStrict}
 use Rattle.rules.specs.declared.Answer.{Answer}
 use Rattle.rules.specs.declared.Answer.the-variants.{Done, OutOfRange}
 use Rattle.rules.specs.declared.Format.the-variants.{Etc1, Etc2Rgb}
-use Rattle.laws.proofs.First.{First, first, first-alike}
+use Rattle.laws.proofs.First.{first, first-alike}
 use Rattle.laws.proofs.Paint.{getD-painted}
 use Rattle.laws.proofs.Range.{agree}
 use Rattle.laws.proofs.Unique.{answer}
