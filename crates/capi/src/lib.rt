@@ -4,6 +4,7 @@ use rules::Answer;
 use rules::Format;
 ghost use mathlib.Core.Path.{_≡_};
 ghost use mathlib.Core.Bool.{true, false};
+ghost use Rattle.rules.specs.Places.{sized};
 ghost use Rattle.rules.specs.Readers.{ReadsPicture, ReadsStrict, ReadsBlock, ReadsAlpha, ReadsChannel};
 ghost use Rattle.capi.specs.Told.{Told, numberOf, blockOr};
 
@@ -15,7 +16,7 @@ pub extern "C" fn yalivucu_decode_etc1(
     height: usize,
     image: &mut [u32],
 ) -> u32
-    ensures { λ r. ⌜ Told (λ a. ReadsPicture Format.Etc1 (now («data» .entry)) width height (now (image .entry)) a (now (image .exit))) r ⌝ }
+    ensures { λ r. ⌜ Told (λ a. ReadsPicture Format.Etc1 (now («data» .entry)) (sized width height) (now (image .entry)) a (now (image .exit))) r ⌝ }
 {
     etc::number(etc::decode_etc1(data, width, height, image))
 }
@@ -28,7 +29,7 @@ pub extern "C" fn yalivucu_decode_etc2_rgb(
     height: usize,
     image: &mut [u32],
 ) -> u32
-    ensures { λ r. ⌜ Told (λ a. ReadsPicture Format.Etc2Rgb (now («data» .entry)) width height (now (image .entry)) a (now (image .exit))) r ⌝ }
+    ensures { λ r. ⌜ Told (λ a. ReadsPicture Format.Etc2Rgb (now («data» .entry)) (sized width height) (now (image .entry)) a (now (image .exit))) r ⌝ }
 {
     etc::number(etc::decode_etc2_rgb(data, width, height, image))
 }
@@ -41,7 +42,7 @@ pub extern "C" fn yalivucu_decode_etc2_rgba1(
     height: usize,
     image: &mut [u32],
 ) -> u32
-    ensures { λ r. ⌜ Told (λ a. ReadsPicture Format.Etc2Rgba1 (now («data» .entry)) width height (now (image .entry)) a (now (image .exit))) r ⌝ }
+    ensures { λ r. ⌜ Told (λ a. ReadsPicture Format.Etc2Rgba1 (now («data» .entry)) (sized width height) (now (image .entry)) a (now (image .exit))) r ⌝ }
 {
     etc::number(etc::decode_etc2_rgba1(data, width, height, image))
 }
@@ -54,7 +55,7 @@ pub extern "C" fn yalivucu_decode_etc2_rgba8(
     height: usize,
     image: &mut [u32],
 ) -> u32
-    ensures { λ r. ⌜ Told (λ a. ReadsPicture Format.Etc2Rgba8 (now («data» .entry)) width height (now (image .entry)) a (now (image .exit))) r ⌝ }
+    ensures { λ r. ⌜ Told (λ a. ReadsPicture Format.Etc2Rgba8 (now («data» .entry)) (sized width height) (now (image .entry)) a (now (image .exit))) r ⌝ }
 {
     etc::number(etc::decode_etc2_rgba8(data, width, height, image))
 }
@@ -67,7 +68,7 @@ pub extern "C" fn yalivucu_decode_eacr(
     height: usize,
     image: &mut [u32],
 ) -> u32
-    ensures { λ r. ⌜ Told (λ a. ReadsPicture Format.EacR (now («data» .entry)) width height (now (image .entry)) a (now (image .exit))) r ⌝ }
+    ensures { λ r. ⌜ Told (λ a. ReadsPicture Format.EacR (now («data» .entry)) (sized width height) (now (image .entry)) a (now (image .exit))) r ⌝ }
 {
     etc::number(etc::decode_eacr(data, width, height, image))
 }
@@ -80,7 +81,7 @@ pub extern "C" fn yalivucu_decode_eacr_signed(
     height: usize,
     image: &mut [u32],
 ) -> u32
-    ensures { λ r. ⌜ Told (λ a. ReadsPicture Format.EacRSigned (now («data» .entry)) width height (now (image .entry)) a (now (image .exit))) r ⌝ }
+    ensures { λ r. ⌜ Told (λ a. ReadsPicture Format.EacRSigned (now («data» .entry)) (sized width height) (now (image .entry)) a (now (image .exit))) r ⌝ }
 {
     etc::number(etc::decode_eacr_signed(data, width, height, image))
 }
@@ -93,7 +94,7 @@ pub extern "C" fn yalivucu_decode_eacrg(
     height: usize,
     image: &mut [u32],
 ) -> u32
-    ensures { λ r. ⌜ Told (λ a. ReadsPicture Format.EacRg (now («data» .entry)) width height (now (image .entry)) a (now (image .exit))) r ⌝ }
+    ensures { λ r. ⌜ Told (λ a. ReadsPicture Format.EacRg (now («data» .entry)) (sized width height) (now (image .entry)) a (now (image .exit))) r ⌝ }
 {
     etc::number(etc::decode_eacrg(data, width, height, image))
 }
@@ -106,7 +107,7 @@ pub extern "C" fn yalivucu_decode_eacrg_signed(
     height: usize,
     image: &mut [u32],
 ) -> u32
-    ensures { λ r. ⌜ Told (λ a. ReadsPicture Format.EacRgSigned (now («data» .entry)) width height (now (image .entry)) a (now (image .exit))) r ⌝ }
+    ensures { λ r. ⌜ Told (λ a. ReadsPicture Format.EacRgSigned (now («data» .entry)) (sized width height) (now (image .entry)) a (now (image .exit))) r ⌝ }
 {
     etc::number(etc::decode_eacrg_signed(data, width, height, image))
 }
@@ -120,7 +121,7 @@ pub extern "C" fn yalivucu_decode_etc1_strict(
     image: &mut [u32],
     block: &mut usize,
 ) -> u32
-    ensures { λ r. ⌜ Told (λ a. ReadsStrict (now («data» .entry)) width height (now (image .entry)) a (now (image .exit)) × (now (block .exit) ≡ blockOr a (now (block .entry)))) r ⌝ }
+    ensures { λ r. ⌜ Told (λ a. ReadsStrict (now («data» .entry)) (sized width height) (now (image .entry)) a (now (image .exit)) × (now (block .exit) ≡ blockOr a (now (block .entry)))) r ⌝ }
 {
     let answer = etc::decode_etc1_strict(data, width, height, image);
     let Answer::OutOfRange(n) = answer else {

@@ -12,15 +12,15 @@ use lib.Dec.{T, ltb, eqb}
 use lib.ListN.{length, getD, take, drop, length-take, length-drop}
 use lib.Seq.{take-append-le, drop-append-le}
 use Rattle.rules.specs.Pixel.{Shows}
-use Rattle.rules.specs.Places.{inside, inTile, blocks, blockAt, bytesOf, column, row, pixelAt, painted, Alike, Beside}
-use Rattle.rules.specs.Answers.{tooLarge, checked}
+use Rattle.rules.specs.Places.{inside, inTile, needed, blocks, blockAt, bytesOf, column, row, pixelAt, pictureBy, Alike, Beside}
+use Rattle.rules.specs.Answers.{limit, refusal, sidesCheck, imageCheck, pictureChecks, judged}
 use Rattle.rules.specs.declared.Picture.{Picture}
 use Rattle.laws.proofs.Paint.{length-painted, getD-painted, painted-same}
 use Rattle.picture.proofs.Blocks.{block-in, room}
 
 -- the picture of bytes d over an image
 abbrev pub over : Shows → ℕ → Picture → List ℕ → List ℕ → List ℕ
-over shows s pic image d = painted (inside pic) (pixelAt shows s pic d) image
+over shows s pic image d = pictureBy shows (bytesOf s d) pic image
 
 -- ".. differ at most in that block's clipped tile." (demand 2): images that are the same outside the tile of block n
 pub record OnlyInTile (pic : Picture) (n : ℕ) (new new' : List ℕ) : Type 0 where
@@ -74,10 +74,13 @@ module _ (s : ℕ) (pic : Picture) (d e : List ℕ) where
         painted-same (inside pic) (pixelAt shows s pic d) (pixelAt shows s pic e) old
         (λ k i. pixel shows k (same (blockAt pic k) (block-in pic k i)))
 
-    pub checked-alike : 0 < s → (elements : ℕ) (then then' : List ℕ) → then ≡ then' → checked s pic (length d) elements then ≡ checked s pic (length e) elements then'
-    checked-alike p elements then then' q =
-        ap (λ (t : Bool). cond (tooLarge pic) (1 ∷ []) (cond t (2 ∷ []) (cond (ltb elements (pic .width * pic .height)) (3 ∷ []) then))) (enough-alike s d e p (blocks pic) same)
-        ∙ ap (λ (l : List ℕ). checked s pic (length e) elements l) q
+    pub enough-either : 0 < s → ltb (length d) (blocks pic * s) ≡ ltb (length e) (blocks pic * s)
+    enough-either p = enough-alike s d e p (blocks pic) same
+
+    pub verdict-alike : 0 < s → (elements : ℕ) (then then' : List ℕ) → then ≡ then' → judged (pictureChecks s pic (length d) elements) then ≡ judged (pictureChecks s pic (length e) elements) then'
+    verdict-alike p elements then then' q =
+        ap (λ (t : Bool). judged (sidesCheck limit pic ∷ refusal 2 t ∷ imageCheck (needed pic) elements ∷ []) then) (enough-either p)
+        ∙ ap (judged (pictureChecks s pic (length e) elements)) q
 
 -- bytes put behind the last block change no block
 pub behind : (s : ℕ) (pic : Picture) (d more : List ℕ) → blocks pic * s ≤ length d → Alike s pic d (d ++ more)

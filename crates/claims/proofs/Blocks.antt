@@ -2,7 +2,7 @@
 -- single channels.
 -- Assumes nothing.
 use mathlib.Core.Path.{_≡_, _∙_, sym, ap}
-use mathlib.Core.Bool.{Bool, cond}
+use mathlib.Core.Bool.{Bool}
 use mathlib.Core.List.{List, [], _∷_}
 use Prim.Native.Nat.{ℕ, _+_, _-_, _*_, _/_, _%_, _<_, _≤_, min}
 use native.Mathlib.Omega.{arith}
@@ -12,10 +12,10 @@ use lib.Dec.{T, ltb, ltb→lt}
 use lib.ListN.{length, getD, take, drop, length-take}
 use Rattle.rules.specs.Pixel.{Shows}
 use Rattle.rules.specs.Places.{sized, bytesOf, pixelAt}
-use Rattle.rules.specs.Answers.{blockVerdict, Outcome}
+use Rattle.rules.specs.Answers.{Check, refusal, imageCheck, channelCheck, blockChecks, judged, verdict, Outcome}
 use Rattle.rules.specs.Channels.{withAlpha, alphaByte, eacByte, orChannel}
 use Rattle.rules.specs.Formats.{sizeOf, showsOf}
-use Rattle.rules.specs.Readers.{blockPainted, ReadsPicture, ReadsBlock, ReadsAlpha, ReadsChannel}
+use Rattle.rules.specs.Readers.{blockVerdict, blockPainted, ReadsPicture, ReadsBlock, ReadsAlpha, ReadsChannel}
 use Rattle.rules.specs.declared.Answer.{Answer}
 use Rattle.rules.specs.declared.Format.{Format}
 use Rattle.laws.proofs.Paint.{painted-same}
@@ -29,14 +29,14 @@ pub record FirstSixteen (image new : List ℕ) : Type 0 where
   pub rest : (k : ℕ) → k < length image → 16 ≤ k → getD new k 0 ≡ getD image k 0
 
 -- What tells one block reader from another: a rule for pixels that reads the bytes of one block and no others, how what it says of
--- pixel k joins the image, and what is said in place of the verdict on the lengths.
+-- pixel k joins the image, and what is checked before the lengths.
 record Reader : Type 0 where
   rule : Shows
   size : ℕ
   some : 0 < size
   own : (d : List ℕ) (x y : ℕ) → rule d x y ≡ rule (take size d) x y
   join : List ℕ → ℕ → ℕ → ℕ
-  says : List ℕ → List ℕ
+  before : List Check
 
 -- the readers of the formats, of the alpha half, and of a channel
 abbrev block : Format → Reader
@@ -47,7 +47,7 @@ block f =
       some = some-bytes f;
       own = reads-its-block f;
       join = λ image k v. v;
-      says = λ lengths. lengths;
+      before = [];
     }
 
 abbrev alpha : Reader
@@ -58,7 +58,7 @@ alpha =
       some = omega arith;
       own = alpha-reads-eight;
       join = λ image k v. withAlpha (getD image k 0) v;
-      says = λ lengths. lengths;
+      before = [];
     }
 
 abbrev single : Bool → ℕ → Reader
@@ -69,13 +69,13 @@ single signed channel =
       some = omega arith;
       own = channel-reads-eight signed;
       join = λ image k v. orChannel channel (getD image k 0) v;
-      says = λ lengths. cond (ltb 3 channel) (5 ∷ []) lengths;
+      before = channelCheck channel ∷ [];
     }
 
 -- the promise that all of them share
 abbrev Reads : Reader → List ℕ → List ℕ → Answer → List ℕ → Type 0
 Reads r d image a new =
-    Outcome (r .says (blockVerdict (r .size) (length d) (length image)))
+    Outcome (judged (r .before) (blockVerdict (r .size) d image))
     (blockPainted (λ k. r .join image k (r .rule d (k % 4) (k / 4))) image)
     a
     image
@@ -95,7 +95,7 @@ module _ (r : Reader) (d image : List ℕ) (a : Answer) (new : List ℕ) (p : Re
       let pixel : (x y : ℕ) → r .rule d x y ≡ r .rule e x y =
       λ x y. r .own d x y ∙ ap (λ (l : List ℕ). r .rule l x y) same ∙ sym (r .own e x y) in
       same-outcome _ _ _ _ image a b new new'
-      (ap (λ (t : Bool). r .says (cond t (2 ∷ []) (cond (ltb (length image) 16) (3 ∷ []) (0 ∷ []))))
+      (ap (λ (t : Bool). judged (r .before) (verdict (refusal 2 t ∷ imageCheck 16 (length image) ∷ [])))
       (ends-alike (r .size) 0 (r .size) (length d) (length e) (r .some) (omega arith) lengths))
       (painted-same (λ k. ltb k 16) _ _ image (λ k t. ap (r .join image k) (pixel (k % 4) (k / 4))))
       p
@@ -140,8 +140,8 @@ module _ (f : Format) (d image : List ℕ) (a b : Answer) (new new' : List ℕ) 
       ∙ ap (λ (x : ℕ). showsOf f (bytesOf (sizeOf f) d (k / 4 / 4 * 1 + k % 4 / 4)) x (k / 4)) (sym (n .1))
       ∙ ap (λ (y : ℕ). showsOf f (bytesOf (sizeOf f) d (k / 4 / 4 * 1 + k % 4 / 4)) (k % 4 % 4) y) (sym (n .2))
 
-  pub a-block-is-a-picture-of-4-by-4 : ReadsBlock f d image a new → ReadsPicture f d 4 4 image b new' → Same a b new new'
+  pub a-block-is-a-picture-of-4-by-4 : ReadsBlock f d image a new → ReadsPicture f d (sized 4 4) image b new' → Same a b new new'
   a-block-is-a-picture-of-4-by-4 =
       same-outcome _ _ _ _ image a b new new'
-      (ap (λ (bytes : ℕ). cond (ltb (length d) bytes) (2 ∷ []) (cond (ltb (length image) 16) (3 ∷ []) (0 ∷ []))) (sym (one-mul (sizeOf f))))
+      (ap (λ (bytes : ℕ). verdict (blockChecks bytes (length d) (length image))) (sym (one-mul (sizeOf f))))
       (painted-same (λ k. ltb k 16) _ _ image pixel)

@@ -7,17 +7,18 @@ use Prim.Native.Nat.{ℕ}
 use Rattle.rules.specs.Readers.{ReadsPicture, ReadsStrict, ReadsBlock, ReadsAlpha, ReadsChannel}
 use Rattle.rules.specs.declared.Answer.{Answer}
 use Rattle.rules.specs.declared.Format.{Format}
+use Rattle.rules.specs.declared.Picture.{Picture}
 use Rattle.laws.proofs.Unique.{no-second-outcome}
 use Rattle.claims.proofs.Outcomes.{Same}
 
 module _ (d image : List ℕ) (a b : Answer) (new new' : List ℕ) where
   -- the eight picture readers
-  pub picture-determined : (f : Format) (w h : ℕ) → ReadsPicture f d w h image a new → ReadsPicture f d w h image b new' → Same a b new new'
-  picture-determined f w h p q = no-second-outcome _ _ image a b new new' p q
+  pub picture-determined : (f : Format) (pic : Picture) → ReadsPicture f d pic image a new → ReadsPicture f d pic image b new' → Same a b new new'
+  picture-determined f pic p q = no-second-outcome _ _ image a b new new' p q
 
   -- strict ETC1
-  pub strict-determined : (w h : ℕ) → ReadsStrict d w h image a new → ReadsStrict d w h image b new' → Same a b new new'
-  strict-determined w h p q = no-second-outcome _ _ image a b new new' p q
+  pub strict-determined : (pic : Picture) → ReadsStrict d pic image a new → ReadsStrict d pic image b new' → Same a b new new'
+  strict-determined pic p q = no-second-outcome _ _ image a b new new' p q
 
   -- the eight block readers of the formats
   pub block-determined : (f : Format) → ReadsBlock f d image a new → ReadsBlock f d image b new' → Same a b new new'

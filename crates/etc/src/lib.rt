@@ -4,9 +4,11 @@
 // number (strict only); 5 a channel above 3. A refusal changes nothing.
 use rules::Answer;
 use rules::Format;
+use rules::Picture;
 ghost use mathlib.Core.Path.{_≡_};
 ghost use mathlib.Core.Bool.{true, false};
 ghost use lib.ListN.{getD};
+ghost use Rattle.rules.specs.Places.{sized};
 ghost use Rattle.rules.specs.Answers.{said};
 ghost use Rattle.rules.specs.Readers.{ReadsPicture, ReadsStrict, ReadsBlock, ReadsAlpha, ReadsChannel};
 
@@ -24,68 +26,85 @@ pub fn number(answer: Answer) -> u32
     }
 }
 
+// Reads a picture of any format, by its width and height.
+fn read(f: Format, data: &[u8], width: usize, height: usize, image: &mut [u32]) -> Answer
+    ensures { λ r. ⌜ ReadsPicture f (now («data» .entry)) (sized width height) (now (image .entry)) r (now (image .exit)) ⌝ }
+{
+    let pic = Picture {
+        width: width,
+        height: height,
+    };
+    picture::read(f, data, pic, image)
+}
+
 // Reads an ETC1 picture.
 pub fn decode_etc1(data: &[u8], width: usize, height: usize, image: &mut [u32]) -> Answer
-    ensures { λ r. ⌜ ReadsPicture Format.Etc1 (now («data» .entry)) width height (now (image .entry)) r (now (image .exit)) ⌝ }
+    ensures { λ r. ⌜ ReadsPicture Format.Etc1 (now («data» .entry)) (sized width height) (now (image .entry)) r (now (image .exit)) ⌝ }
 {
-    picture::read(Format::Etc1, data, width, height, image)
+    read(Format::Etc1, data, width, height, image)
 }
 
 // Reads an ETC2 RGB picture.
 pub fn decode_etc2_rgb(data: &[u8], width: usize, height: usize, image: &mut [u32]) -> Answer
-    ensures { λ r. ⌜ ReadsPicture Format.Etc2Rgb (now («data» .entry)) width height (now (image .entry)) r (now (image .exit)) ⌝ }
+    ensures { λ r. ⌜ ReadsPicture Format.Etc2Rgb (now («data» .entry)) (sized width height) (now (image .entry)) r (now (image .exit)) ⌝ }
 {
-    picture::read(Format::Etc2Rgb, data, width, height, image)
+    read(Format::Etc2Rgb, data, width, height, image)
 }
 
 // Reads an ETC2 RGBA1 picture.
 pub fn decode_etc2_rgba1(data: &[u8], width: usize, height: usize, image: &mut [u32]) -> Answer
-    ensures { λ r. ⌜ ReadsPicture Format.Etc2Rgba1 (now («data» .entry)) width height (now (image .entry)) r (now (image .exit)) ⌝ }
+    ensures { λ r. ⌜ ReadsPicture Format.Etc2Rgba1 (now («data» .entry)) (sized width height) (now (image .entry)) r (now (image .exit)) ⌝ }
 {
-    picture::read(Format::Etc2Rgba1, data, width, height, image)
+    read(Format::Etc2Rgba1, data, width, height, image)
 }
 
 // Reads an ETC2 RGBA8 picture.
 pub fn decode_etc2_rgba8(data: &[u8], width: usize, height: usize, image: &mut [u32]) -> Answer
-    ensures { λ r. ⌜ ReadsPicture Format.Etc2Rgba8 (now («data» .entry)) width height (now (image .entry)) r (now (image .exit)) ⌝ }
+    ensures { λ r. ⌜ ReadsPicture Format.Etc2Rgba8 (now («data» .entry)) (sized width height) (now (image .entry)) r (now (image .exit)) ⌝ }
 {
-    picture::read(Format::Etc2Rgba8, data, width, height, image)
+    read(Format::Etc2Rgba8, data, width, height, image)
 }
 
 // Reads an EAC R picture.
 pub fn decode_eacr(data: &[u8], width: usize, height: usize, image: &mut [u32]) -> Answer
-    ensures { λ r. ⌜ ReadsPicture Format.EacR (now («data» .entry)) width height (now (image .entry)) r (now (image .exit)) ⌝ }
+    ensures { λ r. ⌜ ReadsPicture Format.EacR (now («data» .entry)) (sized width height) (now (image .entry)) r (now (image .exit)) ⌝ }
 {
-    picture::read(Format::EacR, data, width, height, image)
+    read(Format::EacR, data, width, height, image)
 }
 
 // Reads a signed EAC R picture.
 pub fn decode_eacr_signed(data: &[u8], width: usize, height: usize, image: &mut [u32]) -> Answer
-    ensures { λ r. ⌜ ReadsPicture Format.EacRSigned (now («data» .entry)) width height (now (image .entry)) r (now (image .exit)) ⌝ }
+    ensures { λ r. ⌜ ReadsPicture Format.EacRSigned (now («data» .entry)) (sized width height)
+        (now (image .entry)) r (now (image .exit)) ⌝ }
 {
-    picture::read(Format::EacRSigned, data, width, height, image)
+    read(Format::EacRSigned, data, width, height, image)
 }
 
 // Reads an EAC RG picture.
 pub fn decode_eacrg(data: &[u8], width: usize, height: usize, image: &mut [u32]) -> Answer
-    ensures { λ r. ⌜ ReadsPicture Format.EacRg (now («data» .entry)) width height (now (image .entry)) r (now (image .exit)) ⌝ }
+    ensures { λ r. ⌜ ReadsPicture Format.EacRg (now («data» .entry)) (sized width height) (now (image .entry)) r (now (image .exit)) ⌝ }
 {
-    picture::read(Format::EacRg, data, width, height, image)
+    read(Format::EacRg, data, width, height, image)
 }
 
 // Reads a signed EAC RG picture.
 pub fn decode_eacrg_signed(data: &[u8], width: usize, height: usize, image: &mut [u32]) -> Answer
-    ensures { λ r. ⌜ ReadsPicture Format.EacRgSigned (now («data» .entry)) width height (now (image .entry)) r (now (image .exit)) ⌝ }
+    ensures { λ r. ⌜ ReadsPicture Format.EacRgSigned (now («data» .entry)) (sized width height)
+        (now (image .entry)) r (now (image .exit)) ⌝ }
 {
-    picture::read(Format::EacRgSigned, data, width, height, image)
+    read(Format::EacRgSigned, data, width, height, image)
 }
 
 // Reads an ETC1 picture that holds no block out of range, and refuses any other with the number of the first such block. Each
 // pixel that it paints is the one that the ETC2 RGB rule gives.
 pub fn decode_etc1_strict(data: &[u8], width: usize, height: usize, image: &mut [u32]) -> Answer
-    ensures { λ r. ⌜ ReadsStrict (now («data» .entry)) width height (now (image .entry)) r (now (image .exit)) ⌝ }
+    ensures { λ r. ⌜ ReadsStrict (now («data» .entry)) (sized width height) (now (image .entry)) r (now (image .exit)) ⌝ }
 {
-    picture::read_strict(data, width, height, image)
+    let pic = Picture {
+        width: width,
+        height: height,
+    };
+    picture::read_strict(data, pic, image)
 }
 
 // Reads an ETC1 block of 8 bytes into the elements 0 to 15.

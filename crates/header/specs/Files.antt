@@ -94,12 +94,16 @@ glFormat n = known glRows n
 abbrev pub bytesFor : Format → ℕ → ℕ → ℕ
 bytesFor f w h = blocks (sized w h) * sizeOf f
 
+-- the largest side that the tool takes
+abbrev pub fileLimit : ℕ
+fileLimit = 16384
+
 -- a picture of format f, w by h pixels, whose blocks start at byte start of a file of so many bytes
 unfoldable pub laidOut : Format → ℕ → ℕ → ℕ → ℕ → Header
 laidOut f w h start len =
     cond (eqb w 0) NoPixels
     (cond (eqb h 0) NoPixels
-    (cond (tooLarge (sized w h)) TooLarge
+    (cond (tooLarge fileLimit (sized w h)) TooLarge
     (cond (ltb len (start + bytesFor f w h)) ShortData
     (Holds (record { format = f; width = w; height = h; start = start; bytes = bytesFor f w h })))))
 

@@ -13,3 +13,5 @@ pub mod First
 pub mod Unique
 pub mod Outcome
 pub mod Reach
+pub mod Judged
+pub mod Guards

@@ -1,26 +1,35 @@
 -- No second outcome satisfies a reader's promise. The promise is `Outcome`, whatever the verdict and the picture, so this one
--- lemma serves every reader.
+-- lemma serves every reader. What is known of each answer by itself stands here alone: it is looked up in the list of answers.
 -- Assumes nothing.
 use mathlib.Core.Path.{_≡_, _∙_, refl, sym, ap}
+use mathlib.Core.Bool.{Bool, true, false, cond}
 use mathlib.Core.List.{List, [], _∷_}
-use Prim.Native.Nat.{ℕ, zero, suc}
-use Rattle.rules.specs.Answers.{said, Outcome}
+use Prim.Native.Nat.{ℕ}
+use lib.Dec.{eqb}
+use lib.ListN.{length, getD}
+use borrow.Author.Tests.{eqb-true}
+use types.Run.{OneOf, miss}
+use denote.Enum.Declared
+use Rattle.rules.specs.Notation.{build}
+use Rattle.rules.specs.Answers.{said, accepts, Outcome}
 use Rattle.rules.specs.declared.Answer.{Answer}
 use Rattle.rules.specs.declared.Answer.the-variants.{Done, TooLarge, ShortData, ShortImage, OutOfRange, NoChannel}
+use Rattle.rules.proofs.Answer.{the-type}
 
--- the answer that says a number and its values
-answerOf : List ℕ → Answer
-answerOf [] = Done
-answerOf (zero ∷ l) = Done
-answerOf (suc zero ∷ l) = TooLarge
-answerOf (suc (suc zero) ∷ l) = ShortData
-answerOf (suc (suc (suc zero)) ∷ l) = ShortImage
-answerOf (suc (suc (suc (suc zero))) ∷ []) = Done
-answerOf (suc (suc (suc (suc zero))) ∷ (n ∷ l)) = OutOfRange n
-answerOf (suc (suc (suc (suc (suc n)))) ∷ l) = NoChannel
+-- every answer, with the value that some of them return
+abbrev answers : List (ℕ → Answer)
+answers =
+    (λ n. Done) ∷ (λ n. TooLarge) ∷ (λ n. ShortData) ∷ (λ n. ShortImage) ∷ (λ n. OutOfRange n) ∷ (λ n. NoChannel) ∷ []
+
+-- the answer that says a number and a value: the first of them with that number
+abbrev find : List (ℕ → Answer) → ℕ → ℕ → Answer
+find [] n v = Done
+find (a ∷ rest) n v = cond (eqb (getD (said (a 0)) 0 0) n) (a v) (find rest n v)
+
+abbrev answerOf : List ℕ → Answer
+answerOf l = find answers (getD l 0 0) (getD l 1 0)
 
 answered : (a : Answer) → answerOf (said a) ≡ a
-unfolding answerOf
 answered Done = refl
 answered TooLarge = refl
 answered ShortData = refl
@@ -31,6 +40,27 @@ answered NoChannel = refl
 -- the answer is fixed by what it says on paper
 pub answer : (a b : Answer) → said a ≡ said b → a ≡ b
 answer a b e = sym (answered a) ∙ ap answerOf e ∙ answered b
+
+-- the only answer with number 0 is Done
+pub only-done : (a : Answer) → accepts (said a) ≡ true → a ≡ Done
+only-done a e = sym (answered a) ∙ ap (λ (n : ℕ). find answers n (getD (said a) 1 0)) (eqb-true (getD (said a) 0 0) 0 e)
+
+-- the tags of all answers but one
+abbrev without : ℕ → List ℕ → List ℕ
+without k [] = []
+without k (t ∷ ts) = cond (eqb t k) (without k ts) (t ∷ without k ts)
+
+abbrev pub others : ℕ → List ℕ
+others k = without k (build (length (the-type .parts)) (λ t. t))
+
+-- so every answer but Done is a refusal
+pub refusal : (a : Answer) → OneOf (others 0) (Declared.tagOf the-type a) → accepts (said a) ≡ false
+refusal a t = decide (accepts (said a)) refl
+  where
+    decide : (b : Bool) → accepts (said a) ≡ b → b ≡ false
+    decide true e =
+        absurd (miss (others 0) 0 tt (rw (only-done a e) at t))
+    decide false e = refl
 
 -- and so the whole outcome is
 pub no-second-outcome : (verdict after old : List ℕ) (a b : Answer) (new new' : List ℕ) → Outcome verdict after a old new → Outcome verdict after b old new' → (a ≡ b) × (new ≡ new')

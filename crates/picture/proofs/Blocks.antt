@@ -1,15 +1,16 @@
--- The blocks of a picture one after another, for any format: `shows` is what a block's bytes show, and s is their number.
+-- The blocks of a picture one after another, for any format: `shows` is what a block's bytes show, and g n are the bytes of
+-- block n.
 -- Assumes nothing.
 use mathlib.Core.Path.{_≡_, _∙_, sym, ap}
 use mathlib.Core.List.{List}
 use mathlib.Core.Logic.{_⊎_, inl, inr, ⊎-elim}
 use Prim.Native.Nat.{ℕ, suc, _+_, _*_, _/_, _%_, _<_, _≤_}
 use native.Mathlib.Omega.{arith}
-use native.Mathlib.Nat.{eq-or-lt-of-le, div-add-mod', mod-lt, mul-comm, mul-le-mul, mul-le-mul-right, lt-of-mul-lt-mul-right, suc-mul}
+use native.Mathlib.Nat.{eq-or-lt-of-le, div-add-mod', mod-lt, mul-comm, mul-le-mul, mul-le-mul-right, lt-of-mul-lt-mul-right, sub-zero, suc-mul}
 use lib.Dec.{T}
 use lib.ListN.{getD}
 use Rattle.rules.specs.Pixel.{Shows}
-use Rattle.rules.specs.Places.{column, row, inside, across, blocks, blockAt, bytesOf, tile, pixelAt, painted}
+use Rattle.rules.specs.Places.{column, row, inside, across, blocks, blockAt, bytesOf, bytesFrom, tile, pixelBy, pictureBy}
 use Rattle.rules.specs.declared.Picture.{Picture}
 use Rattle.laws.specs.Painted.{Painted}
 use Rattle.laws.proofs.Paint.{none, said, also, is-painted}
@@ -75,32 +76,40 @@ module _ (pic : Picture) where
   block-in k i =
       omega (
         arith,
-        before (across (pic .width)) (column pic k / 4) (row pic k / 4) (across (pic .height)) (covered (column pic k) (pic .width) (column-in pic k i)) (covered (row pic k) (pic .height) (row-in pic k i)),
+        before (across (pic .width)) (column pic k / 4) (row pic k / 4) (across (pic .height))
+            (covered (column pic k) (pic .width) (column-in pic k i))
+            (covered (row pic k) (pic .height) (row-in pic k i)),
         mul-comm (across (pic .width)) (across (pic .height)),
       )
 
-  module _ (shows : Shows) (s : ℕ) (d : List ℕ) where
+  module _ (shows : Shows) (g : ℕ → List ℕ) where
     -- what the tile of its block has for a pixel
-    own : (b k : ℕ) (t : List ℕ) → t ≡ tile shows (bytesOf s d b) → blockAt pic k ≡ b → getD t (numberIn pic k) 0 ≡ pixelAt shows s pic d k
+    own : (b k : ℕ) (t : List ℕ) → t ≡ tile shows (g b) → blockAt pic k ≡ b → getD t (numberIn pic k) 0 ≡ pixelBy shows g pic k
     own b k t q e =
         let m = placed (column pic k) (row pic k) in
-        let l = bytesOf s d b in
+        let l = g b in
         ap (λ (z : List ℕ). getD z (numberIn pic k) 0) q
         ∙ getD-build (λ j. shows l (j % 4) (j / 4)) 0 16 (numberIn pic k) (m .2)
         ∙ ap (λ (z : ℕ). shows l z (numberIn pic k / 4)) (m .0)
         ∙ ap (λ (z : ℕ). shows l (column pic k % 4) z) (m .1)
-        ∙ ap (λ (z : ℕ). shows (bytesOf s d z) (column pic k % 4) (row pic k % 4)) (sym e)
+        ∙ ap (λ (z : ℕ). shows (g z) (column pic k % 4) (row pic k % 4)) (sym e)
 
     -- no block yet
-    pub start : (first : ℕ) (l : List ℕ) → Painted (InRun pic first first) (pixelAt shows s pic d) l l
+    pub start : (first : ℕ) (l : List ℕ) → Painted (InRun pic first first) (pixelBy shows g pic) l l
     start first l = none _ _ l (λ k z. omega (arith, z .from, z .to))
 
     -- one block more
-    pub next : (first b bx by : ℕ) (t old mid new : List ℕ) → first ≤ b → Stands (across (pic .width)) b bx by → Painted (InRun pic first b) (pixelAt shows s pic d) old mid → t ≡ tile shows (bytesOf s d b) → Painted (InTile pic bx by) (λ k. getD t (numberIn pic k) 0) mid new → Painted (InRun pic first (b + 1)) (pixelAt shows s pic d) old new
+    pub next : (first b bx by : ℕ) (t old mid new : List ℕ)
+        → first ≤ b
+        → Stands (across (pic .width)) b bx by
+        → Painted (InRun pic first b) (pixelBy shows g pic) old mid
+        → t ≡ tile shows (g b)
+        → Painted (InTile pic bx by) (λ k. getD t (numberIn pic k) 0) mid new
+        → Painted (InRun pic first (b + 1)) (pixelBy shows g pic) old new
     next first b bx by t old mid new h st a q r =
         let at = there b bx by st in
-        also (InRun pic first b) (InTile pic bx by) (InRun pic first (b + 1)) (pixelAt shows s pic d) old mid new a
-        (said _ _ (λ k. getD t (numberIn pic k) 0) (pixelAt shows s pic d) mid new r (λ k z. z) (λ k z. z) (λ k z. own b k t q (at k z)))
+        also (InRun pic first b) (InTile pic bx by) (InRun pic first (b + 1)) (pixelBy shows g pic) old mid new a
+        (said _ _ (λ k. getD t (numberIn pic k) 0) (pixelBy shows g pic) mid new r (λ k z. z) (λ k z. z) (λ k z. own b k t q (at k z)))
         (λ k z. record { within = z .within; from = z .from; to = omega (arith, z .to) })
         (λ k z. record { within = z .within; from = omega (arith, at k z); to = omega (arith, at k z) })
         (λ k z.
@@ -109,9 +118,16 @@ module _ (pic : Picture) where
         (eq-or-lt-of-le {n = blockAt pic k} {m = b} (omega (arith, z .to))))
 
     -- all blocks are the picture
-    pub all : (old new : List ℕ) → Painted (InRun pic 0 (blocks pic)) (pixelAt shows s pic d) old new → new ≡ painted (inside pic) (pixelAt shows s pic d) old
+    pub all : (old new : List ℕ) → Painted (InRun pic 0 (blocks pic)) (pixelBy shows g pic) old new → new ≡ pictureBy shows g pic old
     all old new a =
-        is-painted (InRun pic 0 (blocks pic)) (inside pic) (pixelAt shows s pic d) old new
+        is-painted (InRun pic 0 (blocks pic)) (inside pic) (pixelBy shows g pic) old new
         (λ k i. record { within = i; from = omega arith; to = block-in k i })
         (λ k z. z .within)
         a
+
+  -- and so they are where the data begins with block 0
+  pub whole : (shows : Shows) (s : ℕ) (d old new : List ℕ) → Painted (InRun pic 0 (blocks pic)) (pixelBy shows (bytesFrom s 0 d) pic) old new → new ≡ pictureBy shows (bytesOf s d) pic old
+  whole shows s d old new a =
+      all shows (bytesOf s d) old new
+      (said _ _ (pixelBy shows (bytesFrom s 0 d) pic) (pixelBy shows (bytesOf s d) pic) old new a (λ k z. z) (λ k z. z)
+      (λ k z. ap (λ (n : ℕ). shows (bytesOf s d n) (column pic k % 4) (row pic k % 4)) (sub-zero (blockAt pic k))))

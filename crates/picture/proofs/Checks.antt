@@ -1,91 +1,53 @@
--- The checks in their order, and what a reader owes when one of them fails and when all pass. A reader may have more to
--- check after these: `then` is what it says once they pass.
+-- A check that fails and one that passes, and what holds where every check of a picture passes.
 -- Assumes nothing.
 use mathlib.Core.Path.{_≡_, _∙_, refl, sym, ap}
 use mathlib.Core.Bool.{Bool, true, false, cond, _||_, true≢false}
 use mathlib.Core.List.{List, [], _∷_}
-use Prim.Native.Nat.{ℕ, suc, _*_, _≤_, _<_}
-use native.Mathlib.Omega.{arith}
-use borrow.Author.Tests.{lt-ltb, le-ltb, ltb-false}
+use Prim.Native.Nat.{ℕ, _*_, _≤_}
+use borrow.Author.Tests.{ltb-false}
 use lib.Dec.{ltb}
-use lib.ListN.{getD}
-use Rattle.rules.specs.Places.{blocks}
-use Rattle.rules.specs.Answers.{said, accepts, limit, checked, verdict, Outcome}
-use Rattle.rules.specs.declared.Picture.{Picture}
+use Rattle.rules.specs.Places.{needed, blocks}
+use Rattle.rules.specs.Answers.{said, accepts, limit, tooLarge, Check, judged, pictureChecks, left, Outcome}
 use Rattle.rules.specs.declared.Answer.{Answer}
-use Rattle.rules.specs.declared.Answer.the-variants.{Done}
-use Rattle.laws.proofs.Outcome.{unchanged, done}
+use Rattle.rules.specs.declared.Picture.{Picture}
+use Rattle.laws.proofs.Judged as judged-laws
 use Rattle.picture.specs.Run.{Passed}
 
--- the order of the checks, by their tests
-order : Bool → Bool → Bool → Bool → List ℕ → List ℕ
-order w h b e then = cond (w || h) (1 ∷ []) (cond b (2 ∷ []) (cond e (3 ∷ []) then))
+-- a check that fails is the answer, and one that passes leaves it to the others
+pub fails : (c : Check) (cs : List Check) (then : List ℕ) → c .fails ≡ true → c .number ∷ [] ≡ judged (c ∷ cs) then
+fails c cs then e = ap (λ (t : Bool). cond t (c .number ∷ []) (judged cs then)) (sym e)
 
-nonzero : (n : ℕ) → 0 ∷ [] ≡ suc n ∷ [] → ⊥
-nonzero n p = omega (arith, ap (λ (l : List ℕ). getD l 0 0) p)
+pub passes : (c : Check) (cs : List Check) (then v : List ℕ) → c .fails ≡ false → v ≡ judged cs then → v ≡ judged (c ∷ cs) then
+passes c cs then v e f = f ∙ ap (λ (t : Bool). cond t (c .number ∷ []) (judged cs then)) (sym e)
 
-clear : (w h b e : Bool) → 0 ∷ [] ≡ order w h b e (0 ∷ []) → (w ≡ false) × (h ≡ false) × (b ≡ false) × (e ≡ false)
-unfolding order
-clear true h b e p = absurd (nonzero 0 p)
-clear false true b e p = absurd (nonzero 0 p)
-clear false false true e p = absurd (nonzero 1 p)
-clear false false false true p = absurd (nonzero 2 p)
-clear false false false false p = (refl, refl, refl, refl)
+-- a promise of one verdict is that of another that is the same
+pub as-said : (v w after old new : List ℕ) (a : Answer) → v ≡ w → Outcome v after a old new → Outcome w after a old new
+as-said v w after old new a e o =
+    record { says = o .says ∙ e; leaves = o .leaves ∙ ap (λ (z : List ℕ). left z after old) e }
 
--- a check that fails is not followed by another
-halted : (w h b e : Bool) (then : List ℕ) → accepts (order w h b e (0 ∷ [])) ≡ false → order w h b e (0 ∷ []) ≡ order w h b e then
-unfolding order
-halted true h b e then p = refl
-halted false true b e then p = refl
-halted false false true e then p = refl
-halted false false false true then p = refl
-halted false false false false then p = absurd (true≢false p)
+neither : (a b : Bool) → (a || b) ≡ false → (a ≡ false) × (b ≡ false)
+neither true b e = absurd (true≢false e)
+neither false b e = (refl, e)
 
-module _ (s : ℕ) (pic : Picture) (bytes elements : ℕ) where
-  -- each check, where it is the first to fail
-  pub too-wide : limit < pic .width → 1 ∷ [] ≡ verdict s pic bytes elements
-  too-wide h = rw (lt-ltb limit (pic .width) h)
+-- a picture that is not too large
+pub within : (most : ℕ) (pic : Picture) → tooLarge most pic ≡ false → (pic .width ≤ most) × (pic .height ≤ most)
+within most pic e =
+    let t = neither (ltb most (pic .width)) (ltb most (pic .height)) e in
+    (ltb-false most (pic .width) (t .0), ltb-false most (pic .height) (t .1))
 
-  pub too-high : pic .width ≤ limit → limit < pic .height → 1 ∷ [] ≡ verdict s pic bytes elements
-  too-high w h = rw (le-ltb limit (pic .width) w, lt-ltb limit (pic .height) h)
-
-  pub short-data : pic .width ≤ limit → pic .height ≤ limit → ltb bytes (blocks pic * s) ≡ true → 2 ∷ [] ≡ verdict s pic bytes elements
-  short-data w h b = rw (le-ltb limit (pic .width) w, le-ltb limit (pic .height) h, b)
-
-  pub short-image : pic .width ≤ limit → pic .height ≤ limit → ltb bytes (blocks pic * s) ≡ false → ltb elements (pic .width * pic .height) ≡ true → 3 ∷ [] ≡ verdict s pic bytes elements
-  short-image w h b e = rw (le-ltb limit (pic .width) w, le-ltb limit (pic .height) h, b, e)
-
-  -- and where all pass; and back
-  pub all-pass : Passed s pic bytes elements → (then : List ℕ) → then ≡ checked s pic bytes elements then
-  all-pass p then =
-      rw (
-        le-ltb limit (pic .width) (p .narrow),
-        le-ltb limit (pic .height) (p .low),
-        le-ltb bytes (blocks pic * s) (p .enough),
-        le-ltb elements (pic .width * pic .height) (p .roomy),
-      )
-
-  pub passed : 0 ∷ [] ≡ verdict s pic bytes elements → Passed s pic bytes elements
-  unfolding order
+module _ (s : ℕ) (pic : Picture) (bytes elements : ℕ) (then : List ℕ) where
+  -- where the verdict accepts, whatever was checked then
+  pub passed : accepts (judged (pictureChecks s pic bytes elements) then) ≡ true → Passed s pic bytes elements
   passed e =
-      let t =
-      clear (ltb limit (pic .width)) (ltb limit (pic .height)) (ltb bytes (blocks pic * s)) (ltb elements (pic .width * pic .height)) e in
+      let k = judged-laws.passed (pictureChecks s pic bytes elements) then tt e in
+      let t = within limit pic (k .first) in
       record {
-        narrow = ltb-false limit (pic .width) (t .0);
-        low = ltb-false limit (pic .height) (t .1);
-        enough = ltb-false bytes (blocks pic * s) (t .2);
-        roomy = ltb-false elements (pic .width * pic .height) (t .3);
+        narrow = t .0;
+        low = t .1;
+        enough = ltb-false bytes (blocks pic * s) (k .rest .first);
+        roomy = ltb-false elements (needed pic) (k .rest .rest .first);
       }
 
-  module _ (then after old : List ℕ) where
-    -- a reader that refuses at one of these checks
-    pub stops : (a : Answer) → said a ≡ verdict s pic bytes elements → accepts (said a) ≡ false → Outcome (checked s pic bytes elements then) after a old old
-    unfolding order
-    stops a e r =
-        let f =
-        halted (ltb limit (pic .width)) (ltb limit (pic .height)) (ltb bytes (blocks pic * s)) (ltb elements (pic .width * pic .height)) then (sym (ap accepts e) ∙ r) in
-        unchanged (checked s pic bytes elements then) after old a (e ∙ f) r
-
-    -- one that passes them and has nothing more to refuse
-    pub ends : (new : List ℕ) → Passed s pic bytes elements → then ≡ 0 ∷ [] → new ≡ after → Outcome (checked s pic bytes elements then) after Done old new
-    ends new p e f = done (checked s pic bytes elements then) after old new (sym e ∙ all-pass p then) f
+  -- and so where an answer does, that says it
+  pub passed-by : (a : Answer) → said a ≡ judged (pictureChecks s pic bytes elements) then → accepts (said a) ≡ true → Passed s pic bytes elements
+  passed-by a e h = passed (sym (ap accepts e) ∙ h)

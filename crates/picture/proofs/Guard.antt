@@ -1,36 +1,41 @@
--- A reader that looks for a block that it must not read, before it paints: the scan, the refusal that names the first such
--- block, and what is painted where there is none. All of it is over the test of a block's number, so that it serves any guard.
+-- A reader that looks for a block that it must not read, before it paints: the scan, and what is painted where it finds none. All
+-- of it is over the guard, or over its number and its test of a block's number.
 -- Assumes nothing.
 use mathlib.Core.Path.{_≡_, _∙_, refl, sym, ap}
-use mathlib.Core.Bool.{Bool, true, false}
+use mathlib.Core.Bool.{Bool, true, false, cond}
 use mathlib.Core.List.{List, [], _∷_}
 use Prim.Native.Nat.{ℕ, _+_, _-_, _*_, _%_, _<_, _≤_}
 use native.Mathlib.Omega.{arith}
-use borrow.Author.Tests.{lt-ltb, le-ltb}
+use native.Mathlib.Decide.{decLt}
 use borrow.Author.Count.{below-none, below-more}
 use lib.ListN.{take, drop}
+use lib.Dec.{T as So}
 use types.Run.{OneOf, miss}
 use denote.Enum.Declared
-use Rattle.rules.specs.Pixel.{Shows}
-use Rattle.rules.specs.Places.{inside, blocks, blockAt, bytesOf, column, row, pixelAt, painted}
-use Rattle.rules.specs.Answers.{checked, firstOf, guarded, Outcome}
+use Rattle.rules.specs.Places.{blocks, blockAt, bytesOf, column, row, inside, pixelBy, pictureBy}
+use Rattle.rules.specs.Answers.{said, accepts, left, Check, firstOf, guarded, Outcome}
 use Rattle.rules.specs.Colour.{kindOf, outOfRange}
-use Rattle.rules.specs.declared.Picture.{Picture}
+use Rattle.rules.specs.Formats.{sizeOf, showsOf}
+use Rattle.rules.specs.Guards.{Guard, badAt, guardVerdict}
+use Rattle.rules.specs.Readers.{pictureOf, ReadsGuarded}
+use Rattle.rules.specs.declared.Answer.{Answer}
 use Rattle.rules.specs.declared.Answer.the-variants.{OutOfRange}
+use Rattle.rules.proofs.Answer.{the-type as the-answer}
+use Rattle.rules.specs.declared.Picture.{Picture}
 use Rattle.rules.specs.declared.Kind.{Kind}
 use Rattle.rules.specs.declared.Kind.the-variants.{Individual, Differential, T, H, Planar}
 use Rattle.rules.proofs.Kind.{the-type}
 use Rattle.laws.specs.Kinds.{strange}
 use Rattle.laws.proofs.First.{first, only}
-use Rattle.laws.proofs.Outcome.{unchanged}
+use Rattle.laws.proofs.Guards.{Sound, finds, finds-none, accepted}
+use Rattle.laws.proofs.Judged.{numbered, all-pass, passed}
 use Rattle.laws.proofs.Paint.{painted-same}
 use Rattle.laws.proofs.Parts.{part}
 use Rattle.laws.proofs.Range.{exactly}
-use Rattle.picture.specs.Run.{Passed}
+use Rattle.laws.proofs.Unique.{answer, others}
 use Rattle.picture.proofs.Blocks.{block-in}
-use Rattle.picture.proofs.Checks.{all-pass}
 
-module _ (test : ℕ → Bool) (n : ℕ) where
+module _ (number : ℕ) (test : ℕ → Bool) (n : ℕ) where
   -- what holds before turn b of a scan of n blocks
   abbrev pub Scanned : ℕ → Type 0
   Scanned b = (b ≤ n) × ((k : ℕ) → k < b → test k ≡ false)
@@ -41,38 +46,59 @@ module _ (test : ℕ → Bool) (n : ℕ) where
   pub goes-on : (b : ℕ) → Scanned b → b < n → test b ≡ false → Scanned (b + 1)
   goes-on b s h t = (omega arith, below-more _ b (s .1) t)
 
-  -- the scan stops at a block, or comes to the end
-  pub found : (b : ℕ) → Scanned b → b < n → test b ≡ true → b ≡ firstOf test n
-  found b s h t = only test n b (firstOf test n) (record { within = s .0; found = λ q. t; none = s .1 }) (first test n)
+  -- the scan stops at a block, and the refusal names it; or it comes to the end, and there is nothing to refuse
+  pub found : (b : ℕ) → Scanned b → b < n → test b ≡ true → number ∷ b ∷ [] ≡ guarded number test n
+  found b s h t =
+      let e : b ≡ firstOf test n =
+      only test n b (firstOf test n) (record { within = s .0; found = λ q. t; none = s .1 }) (first test n) in
+      ap (λ (z : ℕ). number ∷ z ∷ []) e ∙ sym (finds number test n (omega (arith, e)))
 
-  pub ended : (b : ℕ) → Scanned b → n ≤ b → n ≡ firstOf test n
+  pub ended : (b : ℕ) → Scanned b → n ≤ b → 0 ∷ [] ≡ guarded number test n
   ended b s h =
+      let e : n ≡ firstOf test n =
       only test n n (firstOf test n)
       (record { within = omega arith; found = λ q. absurd (omega arith); none = λ k q. s .1 k (omega arith) })
-      (first test n)
+      (first test n) in
+      sym (finds-none number test n (omega (arith, e)))
 
-  -- a block was found: the refusal names it
-  pub refuses : (s : ℕ) (pic : Picture) (bytes elements f : ℕ) (after old : List ℕ) → Passed s pic bytes elements → f ≡ firstOf test n → f < n → Outcome (checked s pic bytes elements (guarded test n)) after (OutOfRange f) old old
-  refuses s pic bytes elements f after old p e h =
-      unchanged (checked s pic bytes elements (guarded test n)) after old (OutOfRange f)
-      (ap (λ (z : ℕ). 4 ∷ z ∷ []) e ∙ named ∙ all-pass s pic bytes elements p (guarded test n))
-      refl
+-- an answer that names no block out of range: there is none
+pub unnamed : (test : ℕ → Bool) (n : ℕ) (a : Answer) → said a ≡ guarded 4 test n → OneOf (others 4) (Declared.tagOf the-answer a) → n ≡ firstOf test n
+unnamed test n a p t =
+    elim (decLt (firstOf test n) n) [
+      | yes h ↦
+          let e : a ≡ OutOfRange (firstOf test n) = answer a (OutOfRange (firstOf test n)) (p ∙ finds 4 test n h) in
+          absurd (miss (others 4) 4 tt (rw e at t))
+      | no h ↦ omega (arith, h, first test n .within)
+    ]
+
+-- where a guard finds no block, a picture painted by its own rule is painted by the rule that is shown
+module _ (g : Guard) (sound : Sound g) (pic : Picture) (d old : List ℕ) where
+  pub agree : blocks pic ≤ firstOf (badAt g d) (blocks pic) → pictureOf (g .own) pic d old ≡ pictureOf (g .shown) pic d old
+  agree h =
+      painted-same (inside pic) (pixelBy (showsOf (g .own)) (bytesOf (sizeOf (g .own)) d) pic) (pixelBy (showsOf (g .shown)) (bytesOf (sizeOf (g .own)) d) pic) old
+      (λ k i.
+      sound .agree (bytesOf (sizeOf (g .own)) d (blockAt pic k)) (column pic k % 4) (row pic k % 4)
+      (first (badAt g d) (blocks pic) .none (blockAt pic k) (omega (arith, block-in pic k i))))
+      ∙ ap (λ (s : ℕ). pictureBy (showsOf (g .shown)) (bytesOf s d) pic old) (sound .one-size)
+
+  -- so a reader that says the verdict and paints by its own rule reads as the guard promises
+  pub reads : (cs : List Check) → So (numbered cs) → (v new : List ℕ) (a : Answer)
+      → v ≡ guardVerdict g cs pic d
+      → Outcome v (pictureOf (g .own) pic d old) a old new
+      → ReadsGuarded g cs d pic old a new
+  reads checks n v new a e o =
+      record {
+        says = o .says ∙ e;
+        leaves = o .leaves ∙ ap (λ (z : List ℕ). left z (pictureOf (g .own) pic d old) old) e ∙ choose (accepts (guardVerdict g checks pic d)) refl;
+      }
     where
-      named : 4 ∷ firstOf test n ∷ [] ≡ guarded test n
-      named = rw (lt-ltb (firstOf test n) n (omega arith))
-
-  -- none was found: there is nothing more to refuse
-  pub nothing-found : n ≤ firstOf test n → guarded test n ≡ 0 ∷ []
-  nothing-found h = rw (le-ltb (firstOf test n) n h)
-
--- and a picture painted by one rule is then painted by another that agrees on every block that passes the test
-pub agree : (test : ℕ → Bool) (shows other : Shows) (s : ℕ) (pic : Picture) (d old new : List ℕ) → ((n x y : ℕ) → test n ≡ false → shows (bytesOf s d n) x y ≡ other (bytesOf s d n) x y) → blocks pic ≤ firstOf test (blocks pic) → new ≡ painted (inside pic) (pixelAt shows s pic d) old → new ≡ painted (inside pic) (pixelAt other s pic d) old
-agree test shows other s pic d old new e h p =
-    p
-    ∙ painted-same (inside pic) (pixelAt shows s pic d) (pixelAt other s pic d) old
-    (λ k i.
-    e (blockAt pic k) (column pic k % 4) (row pic k % 4)
-    (first test (blocks pic) .none (blockAt pic k) (omega (arith, block-in pic k i))))
+      choose : (t : Bool) → accepts (guardVerdict g checks pic d) ≡ t → cond t (pictureOf (g .own) pic d old) old ≡ cond t (pictureOf (g .shown) pic d old) old
+      choose true h =
+          let then = guarded (g .number) (badAt g d) (blocks pic) in
+          agree
+          (accepted (g .number) (badAt g d) (blocks pic) (sound .is-refusal)
+          (sym (ap accepts (all-pass checks then (passed checks then n h))) ∙ h))
+      choose false h = refl
 
 -- the test of the strict reader, by the kind of a block
 tame : (k : Kind) → OneOf (0 ∷ 1 ∷ []) (Declared.tagOf the-type k) → strange k ≡ false
@@ -90,11 +116,11 @@ wild H t = refl
 wild Planar t = refl
 
 module _ (d : List ℕ) (b : ℕ) (k : Kind) (e : k ≡ kindOf (take (b * 8 + 8 - b * 8) (drop (b * 8) d))) where
-  judged : outOfRange (bytesOf 8 d b) ≡ strange k
-  judged = exactly (bytesOf 8 d b) ∙ ap (λ (l : List ℕ). strange (kindOf l)) (sym (part 8 b d)) ∙ sym (ap strange e)
+  by-kind : outOfRange (bytesOf 8 d b) ≡ strange k
+  by-kind = exactly (bytesOf 8 d b) ∙ ap (λ (l : List ℕ). strange (kindOf l)) (sym (part 8 b d)) ∙ sym (ap strange e)
 
   pub in-range : OneOf (0 ∷ 1 ∷ []) (Declared.tagOf the-type k) → outOfRange (bytesOf 8 d b) ≡ false
-  in-range t = judged ∙ tame k t
+  in-range t = by-kind ∙ tame k t
 
   pub out-of-range : OneOf (2 ∷ 3 ∷ 4 ∷ []) (Declared.tagOf the-type k) → outOfRange (bytesOf 8 d b) ≡ true
-  out-of-range t = judged ∙ wild k t
+  out-of-range t = by-kind ∙ wild k t

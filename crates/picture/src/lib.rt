@@ -5,16 +5,18 @@ use rules::Format;
 use rules::Kind;
 use rules::Picture;
 ghost use mathlib.Core.Path.{_≡_};
-ghost use Prim.Native.Nat.{ℕ, _+_, _*_, _<_, _≤_};
+ghost use mathlib.Core.Bool.{true};
+ghost use Prim.Native.Nat.{ℕ, _+_, _-_, _*_, _<_, _≤_};
+ghost use lib.Dec.{ltb};
 ghost use lib.ListN.{length};
-ghost use Rattle.rules.specs.Places.{blocks, bytesOf, pixelAt};
-ghost use Rattle.rules.specs.Answers.{said, limit, verdict, firstOf};
+ghost use Rattle.rules.specs.Places.{needed, blocks, bytesOf};
+ghost use Rattle.rules.specs.Answers.{said, accepts, limit, tooLarge, pictureChecks, verdict, firstOf, guarded};
 ghost use Rattle.rules.specs.Colour.{outOfRange};
-ghost use Rattle.rules.specs.Formats.{sizeOf, showsOf};
+ghost use Rattle.rules.specs.Formats.{sizeOf};
+ghost use Rattle.rules.specs.Guards.{inRange, guardVerdict};
 ghost use Rattle.rules.specs.Readers.{pictureOf, ReadsPicture, ReadsStrict};
-ghost use Rattle.laws.specs.Painted.{Painted};
 ghost use Rattle.place.specs.Tile.{Room};
-ghost use Rattle.picture.specs.Run.{InRun, Passed, Stands};
+ghost use Rattle.picture.specs.Run.{Passed, Stands, PaintsRun, Obeys};
 
 // The column and the row in which a block stands.
 struct Spot {
@@ -30,23 +32,45 @@ pub fn blocks_of(pic: Picture) -> usize
     (pic.width + 3) / 4 * ((pic.height + 3) / 4)
 }
 
+// Check 1, over the limit: a side above it.
+pub fn too_large(most: usize, pic: Picture) -> bool
+    ensures { λ r. ⌜ r ≡ tooLarge most pic ⌝ }
+{
+    let wide = most < pic.width;
+    let high = most < pic.height;
+    wide | high
+}
+
+// Check 2: fewer bytes than the blocks of a picture have, which is not too large.
+pub fn short_data(size: usize, pic: Picture, bytes: usize) -> bool
+    requires { ⌜ (size ≤ 16) × (pic .width ≤ limit) × (pic .height ≤ limit) ⌝ }
+    ensures { λ r. ⌜ r ≡ ltb bytes (blocks pic * size) ⌝ }
+{
+    bytes < blocks_of(pic) * size
+}
+
+// Check 3: fewer elements than a picture needs, which is not too large.
+pub fn short_image(pic: Picture, elements: usize) -> bool
+    requires { ⌜ (pic .width ≤ limit) × (pic .height ≤ limit) ⌝ }
+    ensures { λ r. ⌜ r ≡ ltb elements (needed pic) ⌝ }
+{
+    elements < pic.width * pic.height
+}
+
 // The checks that all picture readers share, of any block size up to 16, whatever the numbers.
 pub fn verify(size: usize, pic: Picture, bytes: usize, elements: usize) -> Answer
     requires { ⌜ size ≤ 16 ⌝ }
-    ensures { λ r. ⌜ said r ≡ verdict size pic bytes elements ⌝ }
+    ensures { λ r. ⌜ said r ≡ verdict (pictureChecks size pic bytes elements) ⌝ }
 {
-    if 16384 < pic.width {
+    if too_large(16384, pic) {
         return Answer::TooLarge;
     }
-    if 16384 < pic.height {
-        return Answer::TooLarge;
-    }
-    let short_data = bytes < blocks_of(pic) * size;
-    let short_image = elements < pic.width * pic.height;
-    if short_data {
+    let lacks_data = short_data(size, pic, bytes);
+    let lacks_room = short_image(pic, elements);
+    if lacks_data {
         return Answer::ShortData;
     }
-    if short_image {
+    if lacks_room {
         return Answer::ShortImage;
     }
     Answer::Done
@@ -71,11 +95,12 @@ fn next_spot(spot: Spot, n: usize) -> Spot
     }
 }
 
-// Paints the blocks from number first to last - 1: every pixel of them, and no other element.
-fn paint(f: Format, data: &[u8], pic: Picture, first: usize, last: usize, image: &mut [u32])
+// Paints the blocks from number first to last - 1, of which the data begins with the first: every pixel of them, and no other
+// element.
+pub fn paint(f: Format, data: &[u8], pic: Picture, first: usize, last: usize, image: &mut [u32])
     requires { ⌜ (pic .width ≤ limit) × (pic .height ≤ limit) × (first ≤ last) × (last ≤ blocks pic) ⌝ }
-    requires { ⌜ Room pic (length (now image)) × (last * sizeOf f ≤ length (now «data»)) ⌝ }
-    ensures { λ _. ⌜ Painted (InRun pic first last) (pixelAt (showsOf f) (sizeOf f) pic (now («data» .entry))) (now (image .entry)) (now (image .exit)) ⌝ }
+    requires { ⌜ Room pic (length (now image)) × ((last - first) * sizeOf f ≤ length (now «data»)) ⌝ }
+    ensures { λ _. ⌜ PaintsRun f (now («data» .entry)) pic first last (now (image .entry)) (now (image .exit)) ⌝ }
 {
     let n = (pic.width + 3) / 4;
     if n == 0 {
@@ -87,7 +112,7 @@ fn paint(f: Format, data: &[u8], pic: Picture, first: usize, last: usize, image:
     };
     let mut b = first;
     while b < last {
-        let tile = blocks::block_at(f, data, b);
+        let tile = blocks::block_at(f, data, b - first);
         place::place(tile, spot.bx, spot.by, pic, image);
         spot = next_spot(spot, n);
         b += 1;
@@ -102,19 +127,47 @@ fn paint_all(f: Format, data: &[u8], pic: Picture, image: &mut [u32])
     paint(f, data, pic, 0, blocks_of(pic), image);
 }
 
-// Reads a picture of any format: the answer and every element of the image, for all inputs.
-pub fn read(f: Format, data: &[u8], width: usize, height: usize, image: &mut [u32]) -> Answer
-    ensures { λ r. ⌜ ReadsPicture f (now («data» .entry)) width height (now (image .entry)) r (now (image .exit)) ⌝ }
+// Paints a picture where the answer to all checks is Done, and hands the answer on.
+pub fn paint_if_done(
+    answer: Answer,
+    f: Format,
+    data: &[u8],
+    pic: Picture,
+    image: &mut [u32],
+) -> Answer
+    requires { ⌜ (accepts (said answer) ≡ true → Passed (sizeOf f) pic (length (now «data»)) (length (now image))) ⌝ }
+    ensures { λ r. ⌜ Obeys answer f (now («data» .entry)) pic (now (image .entry)) r (now (image .exit)) ⌝ }
 {
-    let pic = Picture {
-        width: width,
-        height: height,
-    };
-    let answer = verify(blocks::size(f), pic, data.len(), image.len());
     let Answer::Done = answer else {
         return answer;
     };
     paint_all(f, data, pic, image);
+    Answer::Done
+}
+
+// Reads a picture of any format: the answer and every element of the image, for all inputs.
+pub fn read(f: Format, data: &[u8], pic: Picture, image: &mut [u32]) -> Answer
+    ensures { λ r. ⌜ ReadsPicture f (now («data» .entry)) pic (now (image .entry)) r (now (image .exit)) ⌝ }
+{
+    let answer = verify(blocks::size(f), pic, data.len(), image.len());
+    paint_if_done(answer, f, data, pic, image)
+}
+
+// Check 4, of the first n blocks: the first that has a sum out of range is the refusal.
+pub fn out_of_range(data: &[u8], n: usize) -> Answer
+    requires { ⌜ n * 8 ≤ length (now «data») ⌝ }
+    ensures { λ r. ⌜ said r ≡ guarded 4 (λ (i : ℕ). outOfRange (bytesOf 8 (now («data» .entry)) i)) n ⌝ }
+{
+    let mut b: usize = 0;
+    while b < n {
+        let at = b * 8;
+        let end = at + 8;
+        let kind = kinds::kind_of(&data[at..end]);
+        let (Kind::Individual | Kind::Differential) = kind else {
+            return Answer::OutOfRange(b);
+        };
+        b += 1;
+    }
     Answer::Done
 }
 
@@ -123,37 +176,29 @@ pub fn first_out_of_range(data: &[u8], n: usize) -> usize
     requires { ⌜ n * 8 ≤ length (now «data») ⌝ }
     ensures { λ r. ⌜ r ≡ firstOf (λ (i : ℕ). outOfRange (bytesOf 8 (now («data» .entry)) i)) n ⌝ }
 {
-    let mut b: usize = 0;
-    while b < n {
-        let at = b * 8;
-        let end = at + 8;
-        let kind = kinds::kind_of(&data[at..end]);
-        let (Kind::Individual | Kind::Differential) = kind else {
-            return b;
-        };
-        b += 1;
-    }
-    n
+    let answer = out_of_range(data, n);
+    let Answer::OutOfRange(b) = answer else {
+        return n;
+    };
+    b
+}
+
+// The answer of the strict reader: the checks, then every block, before one is painted.
+fn strict_answer(d: &[u8], pic: Picture, elements: usize) -> Answer
+    ensures { λ r. ⌜ said r ≡ guardVerdict inRange (pictureChecks 8 pic (length (now (d .entry))) elements) pic (now (d .entry)) ⌝ }
+{
+    let answer = verify(8, pic, d.len(), elements);
+    let Answer::Done = answer else {
+        return answer;
+    };
+    out_of_range(d, blocks_of(pic))
 }
 
 // Reads an ETC1 picture, or refuses it for a sum out of range and names the first such block: the answer and every element
 // of the image, for all inputs.
-pub fn read_strict(data: &[u8], width: usize, height: usize, image: &mut [u32]) -> Answer
-    ensures { λ r. ⌜ ReadsStrict (now («data» .entry)) width height (now (image .entry)) r (now (image .exit)) ⌝ }
+pub fn read_strict(data: &[u8], pic: Picture, image: &mut [u32]) -> Answer
+    ensures { λ r. ⌜ ReadsStrict (now («data» .entry)) pic (now (image .entry)) r (now (image .exit)) ⌝ }
 {
-    let pic = Picture {
-        width: width,
-        height: height,
-    };
-    let answer = verify(8, pic, data.len(), image.len());
-    let Answer::Done = answer else {
-        return answer;
-    };
-    let n = blocks_of(pic);
-    let first = first_out_of_range(data, n);
-    if first < n {
-        return Answer::OutOfRange(first);
-    }
-    paint_all(Format::Etc1, data, pic, image);
-    Answer::Done
+    let answer = strict_answer(data, pic, image.len());
+    paint_if_done(answer, Format::Etc1, data, pic, image)
 }

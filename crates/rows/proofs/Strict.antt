@@ -27,23 +27,23 @@ module _ (test : ℕ → Bool) (n : ℕ) where
   abbrev at : ℕ
   at = firstOf test n
 
-  pub refused : (i : ℕ) → guarded test n ≡ 4 ∷ i ∷ [] → (i ≡ at) × (i < n)
+  pub refused : (i : ℕ) → guarded 4 test n ≡ 4 ∷ i ∷ [] → (i ≡ at) × (i < n)
   refused i e =
       elim (decLt at n) [
         | yes h ↦
-            let g : guarded test n ≡ 4 ∷ at ∷ [] = rw (lt-ltb at n h) in
+            let g : guarded 4 test n ≡ 4 ∷ at ∷ [] = rw (lt-ltb at n h) in
             let z : at ≡ i = ap (λ (l : List ℕ). getD l 1 0) (sym g ∙ e) in
             (sym z, omega arith)
         | no h ↦
-            let g : guarded test n ≡ 0 ∷ [] = rw (le-ltb at n (omega (arith, h))) in
+            let g : guarded 4 test n ≡ 0 ∷ [] = rw (le-ltb at n (omega (arith, h))) in
             absurd (zero-four (ap (λ (l : List ℕ). getD l 0 0) (sym g ∙ e)))
       ]
 
-  pub accepted : guarded test n ≡ 0 ∷ [] → (k : ℕ) → k < n → test k ≡ false
+  pub accepted : guarded 4 test n ≡ 0 ∷ [] → (k : ℕ) → k < n → test k ≡ false
   accepted e k h =
       elim (decLt at n) [
         | yes i ↦
-            let g : guarded test n ≡ 4 ∷ at ∷ [] = rw (lt-ltb at n i) in
+            let g : guarded 4 test n ≡ 4 ∷ at ∷ [] = rw (lt-ltb at n i) in
             absurd (zero-four (ap (λ (l : List ℕ). getD l 0 0) (sym e ∙ g)))
         | no i ↦ first test n .none k (omega (arith, i))
       ]
@@ -63,7 +63,7 @@ module _ (p : Picture) (d : List ℕ) where
   own j i h = ap outOfRange (block n 8 i j d h)
 
   -- no block before row j, where every row before it is accepted
-  clear : (j : ℕ) → ((r : ℕ) → r < j → guarded (rowTest r) n ≡ 0 ∷ []) → (k : ℕ) → k < j * n → test k ≡ false
+  clear : (j : ℕ) → ((r : ℕ) → r < j → guarded 4 (rowTest r) n ≡ 0 ∷ []) → (k : ℕ) → k < j * n → test k ≡ false
   clear j a k h =
       let w : 0 < n = positive in
       let r : k / n < j = div-lt-iff-lt-mul w .1 h in
@@ -75,7 +75,7 @@ module _ (p : Picture) (d : List ℕ) where
       positive = wide n j k h
 
   -- the first row that is refused tells the block: so many rows of blocks before it, and its own number in its row
-  pub first-block : (j i : ℕ) → j < across (p .height) → ((r : ℕ) → r < j → guarded (rowTest r) n ≡ 0 ∷ []) → guarded (rowTest j) n ≡ 4 ∷ i ∷ [] → guarded test (blocks p) ≡ 4 ∷ (j * n + i) ∷ []
+  pub first-block : (j i : ℕ) → j < across (p .height) → ((r : ℕ) → r < j → guarded 4 (rowTest r) n ≡ 0 ∷ []) → guarded 4 (rowTest j) n ≡ 4 ∷ i ∷ [] → guarded 4 test (blocks p) ≡ 4 ∷ (j * n + i) ∷ []
   first-block j i h a e =
       let q = refused (rowTest j) n i e in
       let f = first (rowTest j) n in
@@ -106,7 +106,7 @@ module _ (p : Picture) (d : List ℕ) where
           ap test z ∙ sym (own j (k - j * n) (omega (arith, q .1))) ∙ f .none (k - j * n) (omega (arith, q .0, b))
 
   -- and where every row is accepted, there is nothing to refuse
-  pub none : ((r : ℕ) → r < across (p .height) → guarded (rowTest r) n ≡ 0 ∷ []) → guarded test (blocks p) ≡ 0 ∷ []
+  pub none : ((r : ℕ) → r < across (p .height) → guarded 4 (rowTest r) n ≡ 0 ∷ []) → guarded 4 test (blocks p) ≡ 0 ∷ []
   none a =
       let e : blocks p ≡ across (p .height) * n = mul-comm n (across (p .height)) in
       let place : blocks p ≡ firstOf test (blocks p) =

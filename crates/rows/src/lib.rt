@@ -3,6 +3,7 @@
 // refuses names the first block, is in proofs/.
 use rules::Answer;
 use rules::Format;
+use rules::Picture;
 ghost use mathlib.Core.Path.{_≡_};
 ghost use Prim.Native.Nat.{_*_, _<_, _≤_};
 ghost use Rattle.rows.specs.Rows.{high as highOf, ReadsRow};
@@ -29,5 +30,9 @@ pub fn read_row(
     ensures { λ r. ⌜ ReadsRow f (now (bytes .entry)) width height j (now (image .entry)) r (now (image .exit)) ⌝ }
 {
     let tall = high(height, j);
-    picture::read(f, bytes, width, tall, image)
+    let row = Picture {
+        width: width,
+        height: tall,
+    };
+    picture::read(f, bytes, row, image)
 }

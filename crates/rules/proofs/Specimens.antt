@@ -8,12 +8,12 @@ use Prim.Native.Nat.{ℕ, zero, suc, _+_, _*_}
 use lib.Dec.{T, eqb}
 use lib.ListN.{length, getD, replicate}
 use Rattle.rules.specs.Places.{sized, painted}
-use Rattle.rules.specs.Answers.{left, firstOf, blockVerdict, channelVerdict}
+use Rattle.rules.specs.Answers.{left, firstOf}
 use Rattle.rules.specs.Colour.{differential, wrapped, kindBySums, outOfRange}
 use Rattle.rules.specs.Modes.{tBases, tDistance, hBases, hDistance, planarBases, planarChannel, indexed, rgbPixel, rgba1Pixel, etc1Pixel}
 use Rattle.rules.specs.Channels.{alphaStep, alphaByte, rgba8Pixel, eacValue, eacByte, redPixel, redGreenPixel}
 use Rattle.rules.specs.Formats.{sizeOf, showsOf}
-use Rattle.rules.specs.Readers.{pictureOf, pictureVerdict, strictVerdict, alphaPainted, channelPainted}
+use Rattle.rules.specs.Readers.{pictureOf, pictureVerdict, strictVerdict, blockVerdict, alphaPainted, channelVerdict, channelPainted}
 use Rattle.rules.specs.declared.Format.{Format}
 use Rattle.rules.specs.declared.Format.the-variants.{Etc1, Etc2Rgb, Etc2Rgba1, Etc2Rgba8, EacR, EacRSigned, EacRg, EacRgSigned}
 
@@ -27,8 +27,8 @@ data Reader : Type 0 where
 says : Reader → List ℕ → List ℕ → List ℕ
 says (picture f) d image = pictureVerdict f (sized 4 4) d image
 says strict d image = strictVerdict (sized 4 4) d image
-says alphaHalf d image = blockVerdict 8 (length d) (length image)
-says (channel s c) d image = channelVerdict c (length d) (length image)
+says alphaHalf d image = blockVerdict 8 d image
+says (channel s c) d image = channelVerdict c d image
 
 paints : Reader → List ℕ → List ℕ → List ℕ
 paints (picture f) d image = pictureOf f (sized 4 4) d image

@@ -1,12 +1,12 @@
 -- The answers, what each says on paper, and the order of the checks.
 -- Assumes nothing.
-use mathlib.Core.Bool.{Bool, true, false, cond, _||_}
+use mathlib.Core.Bool.{Bool, cond, _||_}
 use mathlib.Core.List.{List, [], _∷_}
 use mathlib.Core.Path.{_≡_}
 use Prim.Native.Nat.{ℕ, zero, suc, _*_}
 use lib.Dec.{ltb, eqb}
 use lib.ListN.{getD}
-use Rattle.rules.specs.Places.{blocks}
+use Rattle.rules.specs.Places.{needed, blocks}
 use Rattle.rules.specs.declared.Picture.{Picture}
 use Rattle.rules.specs.declared.Answer.{Answer}
 use Rattle.rules.specs.declared.Answer.the-variants.{Done, TooLarge, ShortData, ShortImage, OutOfRange, NoChannel}
@@ -24,41 +24,66 @@ said NoChannel = 5 ∷ []
 abbrev pub accepts : List ℕ → Bool
 accepts verdict = eqb (getD verdict 0 0) 0
 
--- "width or height above 16,384"
+-- A row of that table as a check: the refusal's number, and whether it fails, "given exactly when".
+pub record Check : Type 0 where
+  pub number : ℕ
+  pub fails : Bool
+
+abbrev pub refusal : ℕ → Bool → Check
+refusal n due = record { number = n; fails = due }
+
+-- "Pictures check 1, 2, 3, 4 in that order": the first check that fails is the answer, and where none does, what comes then
+abbrev pub judged : List Check → List ℕ → List ℕ
+judged [] then = then
+judged (c ∷ cs) then = cond (c .fails) (c .number ∷ []) (judged cs then)
+
+-- "width or height above 16,384": the readers' limit, and the check over any limit
 abbrev pub limit : ℕ
 limit = 16384
 
-abbrev pub tooLarge : Picture → Bool
-tooLarge p = ltb limit (p .width) || ltb limit (p .height)
+abbrev pub tooLarge : ℕ → Picture → Bool
+tooLarge most p = ltb most (p .width) || ltb most (p .height)
 
--- "Pictures check 1, 2, 3, 4 in that order": 1, 2 and 3, of a picture in blocks of s bytes, given so many bytes and an
--- image of so many elements; and then what is still to be checked
-abbrev pub checked : ℕ → Picture → ℕ → ℕ → List ℕ → List ℕ
-checked s p bytes elements then =
-    cond (tooLarge p) (1 ∷ [])
-    (cond (ltb bytes (blocks p * s)) (2 ∷ [])
-    (cond (ltb elements (p .width * p .height)) (3 ∷ [])
-    then))
+abbrev pub sidesCheck : ℕ → Picture → Check
+sidesCheck most p = refusal 1 (tooLarge most p)
 
--- the verdict of a picture reader
-abbrev pub verdict : ℕ → Picture → ℕ → ℕ → List ℕ
-verdict s p bytes elements = checked s p bytes elements (0 ∷ [])
+-- "fewer bytes than blocks * block size": than are needed
+abbrev pub dataCheck : ℕ → ℕ → Check
+dataCheck needed bytes = refusal 2 (ltb bytes needed)
+
+-- "fewer image elements than width * height": likewise
+abbrev pub imageCheck : ℕ → ℕ → Check
+imageCheck needed elements = refusal 3 (ltb elements needed)
+
+-- "channel above 3"
+abbrev pub channelCheck : ℕ → Check
+channelCheck channel = refusal 5 (ltb 3 channel)
+
+-- "Pictures check 1, 2, 3, 4 in that order": 1, 2 and 3, of a picture in blocks of s bytes, given so many bytes and an image of
+-- so many elements
+abbrev pub pictureChecks : ℕ → Picture → ℕ → ℕ → List Check
+pictureChecks s p bytes elements =
+    sidesCheck limit p ∷ dataCheck (blocks p * s) bytes ∷ imageCheck (needed p) elements ∷ []
+
+-- the verdict of a reader that has nothing more to check
+abbrev pub verdict : List Check → List ℕ
+verdict checks = judged checks (0 ∷ [])
 
 -- the first of the places 0 .. n - 1 at which a test holds, or n where there is none
 unfoldable pub firstOf : (ℕ → Bool) → ℕ → ℕ
 firstOf test zero = zero
 firstOf test (suc n) = cond (ltb (firstOf test n) n) (firstOf test n) (cond (test n) n (suc n))
 
--- check 4, over the test that a block must not meet: "number of the first such block, from 0"
-abbrev pub guarded : (ℕ → Bool) → ℕ → List ℕ
-guarded test n = cond (ltb (firstOf test n) n) (4 ∷ firstOf test n ∷ []) (0 ∷ [])
+-- check 4, over its number and the test that a block must not meet: "number of the first such block, from 0"
+abbrev pub guarded : ℕ → (ℕ → Bool) → ℕ → List ℕ
+guarded number test n = cond (ltb (firstOf test n) n) (number ∷ firstOf test n ∷ []) (0 ∷ [])
 
 -- "block readers check 5, then 2 (fewer than 8 or 16 bytes), then 3 (fewer than 16 elements)"
-abbrev pub blockVerdict : ℕ → ℕ → ℕ → List ℕ
-blockVerdict s bytes elements = cond (ltb bytes s) (2 ∷ []) (cond (ltb elements 16) (3 ∷ []) (0 ∷ []))
+abbrev pub blockChecks : ℕ → ℕ → ℕ → List Check
+blockChecks s bytes elements = dataCheck s bytes ∷ imageCheck 16 elements ∷ []
 
-abbrev pub channelVerdict : ℕ → ℕ → ℕ → List ℕ
-channelVerdict channel bytes elements = cond (ltb 3 channel) (5 ∷ []) (blockVerdict 8 bytes elements)
+abbrev pub channelChecks : ℕ → ℕ → ℕ → List Check
+channelChecks channel bytes elements = channelCheck channel ∷ blockChecks 8 bytes elements
 
 -- "On 1 to 5 no element changes": what is left of an image that `after` would have painted
 abbrev pub left : List ℕ → List ℕ → List ℕ → List ℕ

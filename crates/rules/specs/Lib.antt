@@ -13,4 +13,5 @@ pub mod Modes
 pub mod Channels
 -- the eight formats, and what every reader owes its caller
 pub mod Formats
+pub mod Guards
 pub mod Readers

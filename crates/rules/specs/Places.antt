@@ -3,7 +3,7 @@
 use mathlib.Core.Bool.{Bool, cond, _&&_}
 use mathlib.Core.List.{List}
 use mathlib.Core.Path.{_≡_}
-use Prim.Native.Nat.{ℕ, _+_, _*_, _/_, _%_, _<_}
+use Prim.Native.Nat.{ℕ, _+_, _-_, _*_, _/_, _%_, _<_}
 use lib.Dec.{ltb, eqb}
 use lib.ListN.{length, getD, take, drop}
 use Rattle.rules.specs.Notation.{build}
@@ -24,9 +24,13 @@ column p k = k % p .width
 abbrev pub row : Picture → ℕ → ℕ
 row p k = k / p .width
 
+-- the image elements that a picture needs, "width * height"
+abbrev pub needed : Picture → ℕ
+needed p = p .width * p .height
+
 -- "elements from width * height on keep their value": the others are the picture's own
 abbrev pub inside : Picture → ℕ → Bool
-inside p k = ltb k (p .width * p .height)
+inside p k = ltb k (needed p)
 
 -- "There are ceil(width/4) * ceil(height/4) blocks."
 abbrev pub across : ℕ → ℕ
@@ -46,6 +50,10 @@ blockAt p k = blockOf p (column p k) (row p k)
 abbrev pub bytesOf : ℕ → List ℕ → ℕ → List ℕ
 bytesOf s d n = take s (drop (n * s) d)
 
+-- and where the list begins with block first
+abbrev pub bytesFrom : ℕ → ℕ → List ℕ → ℕ → List ℕ
+bytesFrom s first d n = bytesOf s d (n - first)
+
 -- "Right and lower tiles are clipped": the tile of block n has those elements of the picture that lie in block n
 abbrev pub inTile : Picture → ℕ → ℕ → Bool
 inTile p n k = inside p k && eqb (blockAt p k) n
@@ -62,10 +70,18 @@ Beside s p n d e = (m : ℕ) → m < blocks p → (m ≡ n → ⊥) → bytesOf 
 abbrev pub tile : Shows → List ℕ → List ℕ
 tile shows d = build 16 (λ k. shows d (k % 4) (k / 4))
 
--- the pixel at element k: what its own block shows at its own place, for blocks of s bytes
+-- the pixel at element k: what its own block shows at its own place, where g n are the bytes of block n
+abbrev pub pixelBy : Shows → (ℕ → List ℕ) → Picture → ℕ → ℕ
+pixelBy shows g p k = shows (g (blockAt p k)) (column p k % 4) (row p k % 4)
+
+-- and so for the blocks of s bytes of a list
 abbrev pub pixelAt : Shows → ℕ → Picture → List ℕ → ℕ → ℕ
-pixelAt shows s p d k = shows (bytesOf s d (blockAt p k)) (column p k % 4) (row p k % 4)
+pixelAt shows s p d k = pixelBy shows (bytesOf s d) p k
 
 -- the list old, with v k at each place k that P marks, and as it was at every other
 unfoldable pub painted : (ℕ → Bool) → (ℕ → ℕ) → List ℕ → List ℕ
 painted P v old = build (length old) (λ k. cond (P k) (v k) (getD old k 0))
+
+-- an image with a picture painted over it, where g n are the bytes of block n
+abbrev pub pictureBy : Shows → (ℕ → List ℕ) → Picture → List ℕ → List ℕ
+pictureBy shows g p image = painted (inside p) (pixelBy shows g p) image

@@ -3,13 +3,12 @@
 use rules::Answer;
 use rules::Format;
 ghost use mathlib.Core.Path.{_≡_};
-ghost use lib.ListN.{length};
-ghost use Rattle.rules.specs.Answers.{said, blockVerdict, channelVerdict};
+ghost use Rattle.rules.specs.Answers.{said, verdict, blockChecks};
 ghost use Rattle.rules.specs.Readers.{ReadsBlock, ReadsAlpha, ReadsChannel};
 
 // The checks that all block readers share, whatever the numbers.
 fn verify(size: usize, bytes: usize, elements: usize) -> Answer
-    ensures { λ r. ⌜ said r ≡ blockVerdict size bytes elements ⌝ }
+    ensures { λ r. ⌜ said r ≡ verdict (blockChecks size bytes elements) ⌝ }
 {
     if bytes < size {
         return Answer::ShortData;

@@ -1,27 +1,19 @@
 -- `capi::yalivucu_decode_etc1_strict` meets its contract: an answer that names a block has it written, and any other names none.
 -- Assumes nothing.
-use mathlib.Core.Path.{_≡_, refl, sym, ap}
-use mathlib.Core.List.{[], _∷_}
-use Prim.Native.Nat.{ℕ}
-use types.Run.{OneOf, miss}
-use denote.Enum.Declared
+use mathlib.Core.Path.{refl, sym, ap}
+use types.Run.{miss}
 use denote.Ref.{now}
+use Rattle.rules.specs.Places.{sized, blocks}
+use Rattle.rules.specs.Guards.{inRange, badAt}
+use Rattle.rules.specs.Readers.{strictChecks}
 use Rattle.rules.specs.declared.Answer.{Answer}
-use Rattle.rules.specs.declared.Answer.the-variants.{Done, TooLarge, ShortData, ShortImage, OutOfRange, NoChannel}
-use Rattle.rules.proofs.Answer.{the-type}
+use Rattle.rules.specs.declared.Answer.the-variants.{OutOfRange}
+use Rattle.laws.proofs.Unique.{others}
 use Rattle.capi.specs.Told.{numberOf, blockOr}
+use Rattle.capi.proofs.Block.{unnamed}
 use borrow.Author.Needs.{needs}
 use Rattle.capi.proofs.yalivucu_decode_etc1_strict.Statement.{statement}
 use Rattle.capi.proofs.yalivucu_decode_etc1_strict.Tie as tie
-
--- every answer but OutOfRange leaves what stood there
-unnamed : (a : Answer) (stood : ℕ) → OneOf (0 ∷ 1 ∷ 2 ∷ 3 ∷ 5 ∷ []) (Declared.tagOf the-type a) → stood ≡ blockOr a stood
-unnamed Done s t = refl
-unnamed TooLarge s t = refl
-unnamed ShortData s t = refl
-unnamed ShortImage s t = refl
-unnamed (OutOfRange n) s t = absurd (miss (0 ∷ 1 ∷ 2 ∷ 3 ∷ 5 ∷ []) 4 tt t)
-unnamed NoChannel s t = refl
 
 decode-etc1-strict-requires : tie.Need-decode-etc1-strict-requires
 decode-etc1-strict-requires c κs = search needs
@@ -37,8 +29,21 @@ same-length c = search needs
 
 returns : tie.Need-returns
 returns c =
-    let r = c .before .before .before .before .decode-etc1-strict in
-    record { answer = r .result; reads = (r .ensures, unnamed (r .result) _ (c .before .match .keys2)); says = c .number .ensures }
+    let k = c .before .before .before .before in
+    let r = k .decode-etc1-strict in
+    let a = k .before .before .before .before .args in
+    let d = now (a .«data») in
+    let pic = sized (a .width) (a .height) in
+    record {
+      answer = r .result;
+      reads = (
+        r .ensures,
+        unnamed 4 OutOfRange (λ i. refl) (strictChecks pic d (now (a .image))) tt (badAt inRange d) (blocks pic) (r .result) (r .ensures .says)
+            (λ i e. miss (others 4) 4 tt (rw e at (c .before .match .keys2)))
+            (now (a .block)),
+      );
+      says = c .number .ensures;
+    }
 
 same-length-2 : tie.Need-same-length-2
 same-length-2 c = search needs

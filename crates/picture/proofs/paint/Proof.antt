@@ -5,7 +5,7 @@ use Prim.Native.Nat.{_-_, _<_, _≤_}
 use native.Mathlib.Omega.{arith}
 use lib.ListN.{length}
 use denote.Ref.{now}
-use Rattle.rules.specs.Places.{across, pixelAt}
+use Rattle.rules.specs.Places.{across, bytesFrom, pixelBy}
 use Rattle.rules.specs.Formats.{sizeOf, showsOf}
 use Rattle.laws.specs.Painted.{Painted}
 use Rattle.laws.proofs.Paint.{none}
@@ -21,7 +21,7 @@ Inv-loop f «data» pic first last image₀ n spot₀ b₀ image spot b =
     (first ≤ b)
     × (b ≤ last)
     × Stands (across (pic .width)) b (spot .bx) (spot .by)
-    × Painted (InRun pic first b) (pixelAt (showsOf f) (sizeOf f) pic «data») image₀ image
+    × Painted (InRun pic first b) (pixelBy (showsOf f) (bytesFrom (sizeOf f) first «data») pic) image₀ image
 
 abbrev μ-loop : tie.MeasureT-loop
 μ-loop f «data» pic first last image₀ n spot₀ b₀ image spot b = last - b
@@ -47,7 +47,7 @@ loop-holds c =
       search needs,
       s .pre .0 .2,
       stands (across (a .pic .width)) (a .first) (omega (arith, c .if1 .left)),
-      start (a .pic) (showsOf (a .f)) (sizeOf (a .f)) (now (a .«data»)) (a .first) (now (a .image)),
+      start (a .pic) (showsOf (a .f)) (bytesFrom (sizeOf (a .f)) (a .first) (now (a .«data»))) (a .first) (now (a .image)),
     )
 
 -- what is known where the function begins
@@ -61,10 +61,15 @@ low c =
     let l = c .before .loop in
     omega (arith, high (across (s .args .pic .width)) (across (s .args .pic .height)) (l .b) (l .spot .bx) (l .spot .by) (l .inv .2) (omega (arith, c .loop-test .taken, s .pre .0 .3)), s .pre .0 .1)
 
+sub-block-at : tie.Need-sub-block-at Inv-loop μ-loop
+sub-block-at c = search needs
+
 block-at-requires : tie.Need-block-at-requires Inv-loop μ-loop
 block-at-requires c κs =
     let s = start-of c in
-    room (sizeOf (s .args .f)) (s .args .last) (c .before .loop .b) (length (now (s .args .«data»))) (c .loop-test .taken) (s .pre .1 .1)
+    let l = c .before .loop in
+    let a = s .args in
+    room (sizeOf (a .f)) (a .last - a .first) (l .b - a .first) (length (now (a .«data»))) (omega (arith, c .loop-test .taken, l .inv .0)) (s .pre .1 .1)
 
 place-requires : tie.Need-place-requires Inv-loop μ-loop
 place-requires c κs =
@@ -91,7 +96,8 @@ loop-again c =
       omega (arith, l .inv .0),
       omega (arith, t .loop-test .taken),
       c .next-spot .ensures (l .b) (l .inv .2),
-      next (a .pic) (showsOf (a .f)) (sizeOf (a .f)) (now (a .«data»)) (a .first) (l .b) (l .spot .bx) (l .spot .by) (p .before .block-at .result) (now (a .image)) (l .image) _ (l .inv .0) (l .inv .2) (l .inv .3) (p .before .block-at .ensures) (c .before .before .before .place .ensures),
+      next (a .pic) (showsOf (a .f)) (bytesFrom (sizeOf (a .f)) (a .first) (now (a .«data»))) (a .first) (l .b) (l .spot .bx) (l .spot .by)
+          (p .before .block-at .result) (now (a .image)) (l .image) _ (l .inv .0) (l .inv .2) (l .inv .3) (p .before .block-at .ensures) (c .before .before .before .place .ensures),
     )
 
 same-length : tie.Need-same-length Inv-loop μ-loop
@@ -113,6 +119,7 @@ paint-spec =
     rem-t11
     div-t13
     loop-holds
+    sub-block-at
     block-at-requires
     place-requires
     next-spot-requires

@@ -1,10 +1,11 @@
 -- `picture::paint_all` meets its contract: the blocks from 0 to the last are the picture.
 -- Assumes nothing.
+use native.Mathlib.Nat.{sub-zero}
 use native.Mathlib.Omega.{arith}
 use denote.Ref.{now}
 use Rattle.rules.specs.Formats.{sizeOf, showsOf}
 use Rattle.place.proofs.Grid.{roomy}
-use Rattle.picture.proofs.Blocks.{all}
+use Rattle.picture.proofs.Blocks.{whole}
 use borrow.Author.Needs.{needs}
 use Rattle.picture.proofs.paint_all.Statement.{statement}
 use Rattle.picture.proofs.paint_all.Tie as tie
@@ -18,7 +19,7 @@ paint-requires c κs =
     let s = b .before .before .before in
     let n = b .blocks-of in (
       (s .pre .narrow, s .pre .low, omega arith, omega (arith, n .ensures .0)),
-      (roomy (s .args .pic) _ (s .pre .roomy), rw (n .ensures .0) (s .pre .enough)),
+      (roomy (s .args .pic) _ (s .pre .roomy), rw (n .ensures .0, sub-zero) (s .pre .enough)),
     )
 
 same-length : tie.Need-same-length
@@ -29,7 +30,7 @@ returns c =
     let p = c .before .before in
     let b = p .before .before in
     let a = b .before .before .before .args in
-    all (a .pic) (showsOf (a .f)) (sizeOf (a .f)) (now (a .«data»)) (now (a .image)) _
+    whole (a .pic) (showsOf (a .f)) (sizeOf (a .f)) (now (a .«data»)) (now (a .image)) _
     (rw (b .blocks-of .ensures .0) at (p .paint .ensures))
 
 pub paint-all-spec : {M : Type 1} → statement M

@@ -1,91 +1,90 @@
--- `picture::verify` meets its contract: each answer is that of the first check that fails, and no product wraps.
+-- `picture::verify` meets its contract: each answer is that of the first check that fails.
 -- Assumes nothing.
-use mathlib.Core.Path.{_≡_, _∙_, sym, ap}
-use mathlib.Core.Bool.{Bool}
+use mathlib.Core.Path.{_≡_, _∙_, refl, sym}
+use mathlib.Core.Bool.{false}
+use mathlib.Core.List.{List, [], _∷_}
 use Prim.Native.Nat.{ℕ, _*_, _≤_}
-use native.Mathlib.Omega.{arith}
-use native.Mathlib.Nat.{mul-le-mul}
-use borrow.Author.Tests.{ltb-false}
-use lib.Dec.{ltb}
-use Rattle.rules.specs.Places.{blocks}
-use Rattle.picture.proofs.Blocks.{few}
-use Rattle.picture.proofs.Checks.{too-wide, too-high, short-data, short-image, all-pass}
+use Rattle.rules.specs.Places.{needed, blocks}
+use Rattle.rules.specs.Answers.{Check, limit, verdict, sidesCheck, dataCheck, imageCheck}
+use Rattle.picture.proofs.Checks.{fails, passes, within}
 use borrow.Author.Needs.{needs}
 use Rattle.picture.proofs.verify.Statement.{statement}
 use Rattle.picture.proofs.verify.Tie as tie
 
+-- the three checks
+abbrev sides : tie.Start → Check
+sides s = sidesCheck limit (s .args .pic)
+
+abbrev bytes : tie.Start → Check
+bytes s = dataCheck (blocks (s .args .pic) * s .args .size) (s .args .bytes)
+
+abbrev elements : tie.Start → Check
+elements s = imageCheck (needed (s .args .pic)) (s .args .elements)
+
+too-large-requires : tie.Need-too-large-requires
+too-large-requires c κs = search needs
+
 returns : tie.Need-returns
 returns c =
-    let a = c .before .before .args in
-    too-wide (a .size) (a .pic) (a .bytes) (a .elements) (c .if1 .taken)
+    let s = c .before .before in
+    fails (sides s) (bytes s ∷ elements s ∷ []) (0 ∷ []) (sym (c .before .too-large .ensures) ∙ c .if1 .taken)
+
+-- what is known once the sides have passed
+clear : (c : tie.Else1) → sides (c .before .before) .fails ≡ false
+clear c = sym (c .before .too-large .ensures) ∙ c .if1 .left
+
+small : (c : tie.Else1) → (c .before .before .args .pic .width ≤ limit) × (c .before .before .args .pic .height ≤ limit)
+small c = within limit (c .before .before .args .pic) (clear c)
+
+short-data-requires : tie.Need-short-data-requires
+short-data-requires c κs = (c .before .before .pre, small c .0, small c .1)
+
+short-image-requires : tie.Need-short-image-requires
+short-image-requires c κs = small (c .before)
+
+abbrev start : tie.After-short-image → tie.Start
+start c = c .before .before .before .before
+
+-- the answer is left to the other two
+after : (c : tie.After-short-image) (v : List ℕ) → v ≡ verdict (bytes (start c) ∷ elements (start c) ∷ []) → v ≡ verdict (sides (start c) ∷ bytes (start c) ∷ elements (start c) ∷ [])
+after c v e =
+    let s = start c in
+    passes (sides s) (bytes s ∷ elements s ∷ []) (0 ∷ []) v (clear (c .before .before)) e
 
 returns-2 : tie.Need-returns-2
 returns-2 c =
-    let a = c .before .before .before .before .args in
-    too-high (a .size) (a .pic) (a .bytes) (a .elements) (c .before .before .if1 .left) (c .if2 .taken)
+    let i = c .before in
+    let s = start i in
+    after i (2 ∷ []) (fails (bytes s) (elements s ∷ []) (0 ∷ []) (sym (i .before .short-data .ensures) ∙ c .if2 .taken))
 
-blocks-of-requires : tie.Need-blocks-of-requires
-blocks-of-requires c κs = search needs
-
-mul-short-data : tie.Need-mul-short-data
-mul-short-data c =
-    let h : c .blocks-of .result * c .before .before .before .before .before .args .size ≤ 4294967296 =
-    mul-le-mul (c .blocks-of .ensures .1) (c .before .before .before .before .before .pre) in
-    omega arith
-
--- what is known where both sides are within the limit
-abbrev start : tie.After-blocks-of → tie.Start
-start b = b .before .before .before .before .before
-
-narrow : (b : tie.After-blocks-of) → start b .args .pic .width ≤ 16384
-narrow b = b .before .before .before .if1 .left
-
-low : (b : tie.After-blocks-of) → start b .args .pic .height ≤ 16384
-low b = b .before .if2 .left
-
--- the test of the data, with the number of blocks for what `blocks_of` returns
-data-test : (b : tie.After-blocks-of) (t : Bool) → ltb (start b .args .bytes) (b .blocks-of .result * start b .args .size) ≡ t → ltb (start b .args .bytes) (blocks (start b .args .pic) * start b .args .size) ≡ t
-data-test b t e = ap (λ (z : ℕ). ltb (start b .args .bytes) (z * start b .args .size)) (sym (b .blocks-of .ensures .0)) ∙ e
-
-mul-short-image : tie.Need-mul-short-image
-mul-short-image c =
-    let b = c .before in
-    omega (arith, few (start b .args .pic .width) (start b .args .pic .height) (narrow b) (low b))
+-- enough bytes
+enough : (c : tie.Else2) → bytes (c .before .before .before .before .before) .fails ≡ false
+enough c = sym (c .before .before .short-data .ensures) ∙ c .if2 .left
 
 returns-3 : tie.Need-returns-3
 returns-3 c =
-    let b = c .before .before in
-    let a = start b .args in
-    short-data (a .size) (a .pic) (a .bytes) (a .elements) (narrow b) (low b) (data-test b _ (c .if3 .taken))
+    let i = c .before .before in
+    let s = start i in
+    after i (3 ∷ [])
+    (passes (bytes s) (elements s ∷ []) (0 ∷ []) (3 ∷ []) (enough (c .before))
+    (fails (elements s) [] (0 ∷ []) (sym (i .short-image .ensures) ∙ c .if3 .taken)))
 
 returns-4 : tie.Need-returns-4
 returns-4 c =
-    let b = c .before .before .before in
-    let a = start b .args in
-    short-image (a .size) (a .pic) (a .bytes) (a .elements) (narrow b) (low b) (data-test b _ (c .before .if3 .left)) (c .if4 .taken)
-
-returns-5 : tie.Need-returns-5
-returns-5 c =
-    let b = c .before .before .before in
-    let a = start b .args in
-    all-pass (a .size) (a .pic) (a .bytes) (a .elements)
-    (record {
-      narrow = narrow b;
-      low = low b;
-      enough = ltb-false (a .bytes) (blocks (a .pic) * a .size) (data-test b _ (c .before .if3 .left));
-      roomy = ltb-false (a .elements) (a .pic .width * a .pic .height) (c .if4 .left);
-    })
-    _
+    let i = c .before .before in
+    let s = start i in
+    after i (0 ∷ [])
+    (passes (bytes s) (elements s ∷ []) (0 ∷ []) (0 ∷ []) (enough (c .before))
+    (passes (elements s) [] (0 ∷ []) (0 ∷ []) (sym (i .short-image .ensures) ∙ c .if3 .left) refl))
 
 pub verify-spec : {M : Type 1} → statement M
 verify-spec =
     tie.close
     (tie.spec
+    too-large-requires
     returns
+    short-data-requires
+    short-image-requires
     returns-2
-    blocks-of-requires
-    mul-short-data
-    mul-short-image
     returns-3
-    returns-4
-    returns-5)
+    returns-4)

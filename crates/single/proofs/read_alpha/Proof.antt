@@ -1,10 +1,11 @@
 -- It refuses where a check fails, and else joins the alpha half to what stood there.
 -- Assumes nothing.
-use mathlib.Core.Path.{_≡_, _∙_, sym, ap}
-use Prim.Native.Nat.{_/_, _%_, _≤_}
+use mathlib.Core.Path.{_∙_, ap}
+use Prim.Native.Nat.{_/_, _%_}
 use lib.ListN.{length, getD}
 use denote.Ref.{now}
-use Rattle.laws.proofs.Outcome.{refusal, unchanged, done}
+use Rattle.laws.proofs.Outcome.{unchanged, done}
+use Rattle.laws.proofs.Unique.{refusal}
 use Rattle.single.proofs.Block.{Passed, passed, sixteen}
 use mathlib.Core.List.{List}
 use Prim.Native.Nat.{ℕ}

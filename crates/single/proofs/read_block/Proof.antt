@@ -1,10 +1,11 @@
 -- It refuses where a check fails, and else writes the sixteen pixels.
 -- Assumes nothing.
-use mathlib.Core.Path.{_≡_, _∙_, sym, ap}
-use Prim.Native.Nat.{_/_, _%_, _≤_}
-use lib.ListN.{length, getD}
+use mathlib.Core.Path.{_∙_}
+use Prim.Native.Nat.{_/_, _%_}
+use lib.ListN.{length}
 use denote.Ref.{now}
-use Rattle.laws.proofs.Outcome.{refusal, unchanged, done}
+use Rattle.laws.proofs.Outcome.{unchanged, done}
+use Rattle.laws.proofs.Unique.{refusal}
 use Rattle.single.proofs.Block.{Passed, passed, sixteen}
 use Rattle.rules.specs.Formats.{sizeOf, showsOf}
 use borrow.Author.Needs.{needs}

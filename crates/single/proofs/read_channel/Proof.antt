@@ -1,18 +1,18 @@
 -- The channel is checked first; then it is as the alpha half is.
 -- Assumes nothing.
-use mathlib.Core.Path.{_≡_, _∙_, sym, ap}
-use Prim.Native.Nat.{_/_, _%_, _≤_}
+use mathlib.Core.Path.{_≡_, _∙_, ap}
+use Prim.Native.Nat.{_/_, _%_}
 use lib.ListN.{length, getD}
 use denote.Ref.{now}
-use Rattle.rules.specs.Answers.{blockVerdict}
-use Rattle.laws.proofs.Outcome.{refusal, unchanged, done}
+use Rattle.laws.proofs.Outcome.{unchanged, done}
+use Rattle.laws.proofs.Unique.{refusal}
 use Rattle.single.proofs.Block.{Passed, passed, sixteen}
 use mathlib.Core.List.{List}
 use Prim.Native.Nat.{ℕ}
 use mathlib.Core.Path.{refl}
 use borrow.Author.Tests.{lt-ltb}
 use Rattle.rules.specs.Notation.{build}
-use Rattle.rules.specs.Answers.{channelVerdict}
+use Rattle.rules.specs.Readers.{blockVerdict, channelVerdict}
 use Rattle.rules.specs.Channels.{orChannel, eacByte}
 use Rattle.rules.specs.declared.Answer.the-variants.{NoChannel}
 use Rattle.single.proofs.Block.{channel-checked}
@@ -28,7 +28,7 @@ clear : (c : tie.After-enum-told) → Passed 8 (length (now (start (c .before .b
 clear c = passed _ _ _ _ (c .before .before .verify .ensures) (c .enum-told .given .1)
 
 -- the channel is one of four, so these are the checks that are left
-four : (c : tie.After-verify) → blockVerdict 8 (length (now (start c .args .«data»))) (length (now (start c .args .image))) ≡ channelVerdict (start c .args .channel) (length (now (start c .args .«data»))) (length (now (start c .args .image)))
+four : (c : tie.After-verify) → blockVerdict 8 (now (start c .args .«data»)) (now (start c .args .image)) ≡ channelVerdict (start c .args .channel) (now (start c .args .«data»)) (now (start c .args .image))
 four c = channel-checked (start c .args .channel) (length (now (start c .args .«data»))) (length (now (start c .args .image))) (c .before .if1 .left)
 
 returns : tie.Need-returns
