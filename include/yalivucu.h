@@ -67,6 +67,19 @@ uint32_t yalivucu_decode_eacrg_signed(const uint8_t *data, size_t data_len, size
  * and points into neither data nor image. */
 uint32_t yalivucu_decode_etc1_strict(const uint8_t *data, size_t data_len, size_t width, size_t height, uint32_t *image, size_t image_len, size_t *block);
 
+/* The same with its whole answer as one value, so that there is no pointer to be wrong about:
+ * block is the first block out of range where answer is 4, and 0 with any other answer. */
+struct yalivucu_strict {
+    uint32_t answer;
+    size_t block;
+};
+static inline struct yalivucu_strict yalivucu_etc1_strict(const uint8_t *data, size_t data_len, size_t width, size_t height, uint32_t *image, size_t image_len)
+{
+    struct yalivucu_strict told = {0, 0};
+    told.answer = yalivucu_decode_etc1_strict(data, data_len, width, height, image, image_len, &told.block);
+    return told;
+}
+
 /* One block of 8 bytes, into out[0] to out[15]. */
 uint32_t yalivucu_decode_etc1_block(const uint8_t *data, size_t data_len, uint32_t *out, size_t out_len);
 uint32_t yalivucu_decode_etc2_rgb_block(const uint8_t *data, size_t data_len, uint32_t *out, size_t out_len);

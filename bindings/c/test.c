@@ -76,6 +76,13 @@ static void strict(void)
     same("strict, refused", yalivucu_decode_etc1_strict(data, 16, 5, 1, image, 6, &block), YALIVUCU_OUT_OF_RANGE);
     same("strict, block", (uint32_t)block, 1);
     untouched("strict, refused", 0);
+    struct yalivucu_strict told = yalivucu_etc1_strict(data, 16, 5, 1, image, 6);
+    same("strict as a value, refused", told.answer, YALIVUCU_OUT_OF_RANGE);
+    same("strict as a value, block", (uint32_t)told.block, 1);
+    told = yalivucu_etc1_strict(data, 15, 5, 1, image, 6);
+    same("strict as a value, short", told.answer, YALIVUCU_SHORT_DATA);
+    same("strict as a value, no block", (uint32_t)told.block, 0);
+    untouched("strict as a value", 0);
 }
 
 static void blocks(void)
