@@ -1,8 +1,7 @@
 -- `scan::scan_rows` meets its contract: whenever the loop's test is reached, a strict reader has nothing to say of the rows that
 -- were read.
 -- Assumes nothing.
-use mathlib.Core.List.{List}
-use Prim.Native.Nat.{ℕ, _-_, _*_, _≤_}
+use Prim.Native.Nat.{_-_, _≤_}
 use native.Mathlib.Omega.{arith}
 use lib.ListN.{length}
 use Rattle.laws.proofs.Outcome.{refusal}
