@@ -41,6 +41,15 @@ fn header_of(fd: i32, len: usize) -> Header {
     header::read_header(&head[..n], &level[..m], len)
 }
 
+// Goes to a byte of a file.
+pub fn seek(fd: i32, start: usize) -> bool {
+    if 8589934592 < start {
+        return false;
+    }
+    let at = start as i64;
+    libc::lseek(fd, at, libc::SEEK_SET) == at
+}
+
 // What the arguments say of bare blocks in a file of so many bytes.
 fn bare(len: usize) -> Header {
     let Known::As(format) = crate::args::format_at(2) else {
