@@ -4,7 +4,7 @@ ghost use Prim.Native.Nat.{_+_, _*_, _/_, _%_, _≤_, _<_};
 ghost use lib.IntN.{pos, _+ℤ_, _*ℤ_};
 ghost use lib.ListN.{length, getD};
 ghost use lib.Signed.{mag};
-ghost use Rattle.rules.specs.Notation.{build, byte, bits, clamp as clampTo};
+ghost use Rattle.rules.specs.Notation.{build, bits, clamp as clampTo};
 ghost use Rattle.rules.specs.Channels.{indexWord, alphaStep, alphaByte, withAlpha};
 
 // A byte in the index word's type.

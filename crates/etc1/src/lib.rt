@@ -1,6 +1,5 @@
 // The ETC1 block of src/etc/etc1.rs: two base colours, eight colours, sixteen pixels.
 ghost use mathlib.Core.Path.{_≡_};
-ghost use mathlib.Core.Bool.{cond};
 ghost use mathlib.Core.List.{[]};
 ghost use Prim.Native.Nat.{_*_, _≤_, _<_};
 ghost use lib.ListN.{length, getD};

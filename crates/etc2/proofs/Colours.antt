@@ -1,9 +1,9 @@
 -- From eight colours to the pixels of RGB and RGBA1.
 -- Assumes nothing.
-use mathlib.Core.Path.{_≡_, _∙_, refl, sym, ap}
+use mathlib.Core.Path.{_≡_, _∙_, refl, ap}
 use mathlib.Core.Bool.{Bool, true, false, cond}
 use mathlib.Core.List.{List, [], _∷_}
-use Prim.Native.Nat.{ℕ, zero, suc, _+_, _*_, _/_, _%_, _<_}
+use Prim.Native.Nat.{ℕ, zero, suc, _/_, _%_, _<_}
 use native.Mathlib.Omega.{arith}
 use types.Run.{OneOf, miss}
 use denote.Enum.Declared
@@ -12,7 +12,7 @@ use lib.ListN.{getD}
 use Rattle.rules.specs.Notation.{build}
 use Rattle.rules.specs.Places.{tile}
 use Rattle.rules.specs.Colour.{individual, wrapping, differential, code, half, index, halfColours, stepsOf}
-use Rattle.rules.specs.Modes.{isPlanar, indexed, coloursOf, clearSteps, planarPixel, planarBases}
+use Rattle.rules.specs.Modes.{isPlanar, indexed, coloursOf, clearSteps}
 use Rattle.rules.specs.declared.Kind.{Kind}
 use Rattle.rules.specs.declared.Kind.the-variants.{Individual, Differential, T, H, Planar}
 use Rattle.rules.proofs.Kind.{the-type}

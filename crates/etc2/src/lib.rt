@@ -3,7 +3,7 @@ use rules::Kind;
 ghost use mathlib.Core.Path.{_≡_};
 ghost use mathlib.Core.Bool.{true, cond};
 ghost use mathlib.Core.List.{[], _∷_};
-ghost use Prim.Native.Nat.{ℕ, _≤_};
+ghost use Prim.Native.Nat.{_≤_};
 ghost use lib.ListN.{length, getD};
 ghost use Rattle.rules.specs.Places.{tile};
 ghost use Rattle.rules.specs.Colour.{wrapping, differential};
@@ -11,7 +11,7 @@ ghost use Rattle.rules.specs.Modes.{rgbPixel, rgba1Pixel};
 ghost use Rattle.rules.specs.Channels.{rgba8Pixel};
 ghost use Rattle.shade.specs.Pick.{eight};
 ghost use Rattle.etc1.specs.Halves.{stepsWhere};
-ghost use Rattle.etc2.specs.Colours.{madeColours, punched as punchedOf, colourPixel};
+ghost use Rattle.etc2.specs.Colours.{madeColours, colourPixel};
 
 // The eight colours of a block. Planar has none, and gets eight that are not used.
 fn colours_of(d: &[u8], kind: Kind, opaque: bool) -> [u32; 8]

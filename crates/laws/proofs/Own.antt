@@ -5,18 +5,18 @@ use mathlib.Core.Path.{_≡_, _∙_, refl, sym, ap}
 use mathlib.Core.Bool.{Bool, true, false, cond, _&&_, true≢false}
 use mathlib.Core.List.{List}
 use mathlib.Core.Logic.{_⊎_, inl, inr, ⊎-elim}
-use Prim.Native.Nat.{ℕ, suc, _+_, _*_, _/_, _%_, _<_, _≤_}
+use Prim.Native.Nat.{ℕ, suc, _+_, _*_, _%_, _<_, _≤_}
 use native.Mathlib.Omega.{arith}
 use native.Mathlib.Nat.{mul-le-mul-right, suc-mul}
-use native.Mathlib.Decide.{decLt, ℕ-discrete}
-use borrow.Author.Tests.{eq-eqb, ne-eqb}
-use lib.Dec.{T, eqb, eqb→eq, eqb-refl}
-use lib.ListN.{length, getD, take, drop, length-take, length-drop}
+use native.Mathlib.Decide.{decLt}
+use borrow.Author.Tests.{eq-eqb}
+use lib.Dec.{eqb}
+use lib.ListN.{length, getD, drop, length-take, length-drop}
 use lib.Seq.{ext-getD, getD-take, getD-drop}
 use Rattle.rules.specs.Pixel.{Shows}
 use Rattle.rules.specs.Places.{inside, inTile, blockAt, bytesOf, column, row, pixelAt, painted}
 use Rattle.rules.specs.declared.Picture.{Picture}
-use Rattle.laws.proofs.Paint.{length-painted, getD-painted}
+use Rattle.laws.proofs.Paint.{getD-painted}
 
 -- two lists of one length that agree outside block n, where a block has s bytes
 pub record Beside (s n : ℕ) (d e : List ℕ) : Type 0 where

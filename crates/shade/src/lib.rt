@@ -6,10 +6,9 @@ ghost use Prim.Native.Nat.{ℕ, _+_, _*_, _/_, _%_, _≤_, _<_};
 ghost use lib.IntN.{pos, _+ℤ_};
 ghost use lib.ListN.{length, getD};
 ghost use lib.Signed.{mag};
-ghost use Rattle.rules.specs.Notation.{build, clamp, byte};
-ghost use Rattle.rules.specs.Colour.{shaded, halfColours, flipped};
-ghost use Rattle.consts.specs.Tables.{fourSteps};
-ghost use Rattle.shade.specs.Pick.{highWord, lowWord, halfAt, eight, taken};
+ghost use Rattle.rules.specs.Notation.{build, clamp};
+ghost use Rattle.rules.specs.Colour.{shaded};
+ghost use Rattle.shade.specs.Pick.{highWord, lowWord, halfAt, taken};
 
 // A channel with a step, clamped to a byte.
 fn stepped(channel: u8, step: i16) -> u32

@@ -1,7 +1,6 @@
 -- `place::fill` meets its contract: turn k paints element k.
 -- Assumes nothing.
-use Prim.Native.Nat.{ℕ, _+_, _-_}
-use native.Mathlib.Omega.{arith}
+use Prim.Native.Nat.{_+_, _-_}
 use lib.ListN.{length, getD}
 use denote.Ref.{now}
 use Rattle.place.proofs.Tile.{Begun, begin, go-on, ended}
