@@ -40,7 +40,9 @@ made steps H d h fair = refl
 made steps Planar d h fair = refl
 
 -- eight colours, of which two are transparent where the block is not opaque
-pub punch : (opaque : Bool) (f : ℕ → List ℕ) (c p : List ℕ) → c ≡ eight f → p ≡ cond opaque c (getD c 0 0 ∷ getD c 1 0 ∷ 0 ∷ getD c 3 0 ∷ getD c 4 0 ∷ getD c 5 0 ∷ 0 ∷ getD c 7 0 ∷ []) → p ≡ eight (λ h. punched opaque (f h))
+pub punch : (opaque : Bool) (f : ℕ → List ℕ) (c p : List ℕ) → c ≡ eight f
+    → p ≡ cond opaque c (getD c 0 0 ∷ getD c 1 0 ∷ 0 ∷ getD c 3 0 ∷ getD c 4 0 ∷ getD c 5 0 ∷ 0 ∷ getD c 7 0 ∷ [])
+    → p ≡ eight (λ h. punched opaque (f h))
 punch true f c p e q = q ∙ e
 punch false f c p e q = q ∙ rw e
 

@@ -25,7 +25,8 @@ said P Q v u old new p to from e =
     record { hit = λ k q. p .hit k (to k q) ∙ e k q; miss = λ k n. p .miss k (λ z. n (from k z)); same = p .same }
 
 -- one element more
-pub one : (P Q : ℕ → Type 0) (v : ℕ → ℕ) (old new : List ℕ) (j a : ℕ) → Painted P v old new → j < length new → Q j → a ≡ v j → ((k : ℕ) → P k → Q k) → ((k : ℕ) → Q k → (P k × (k ≡ j → ⊥)) ⊎ (k ≡ j)) → Painted Q v old (set new j a)
+pub one : (P Q : ℕ → Type 0) (v : ℕ → ℕ) (old new : List ℕ) (j a : ℕ) → Painted P v old new → j < length new → Q j → a ≡ v j → ((k : ℕ) → P k → Q k)
+    → ((k : ℕ) → Q k → (P k × (k ≡ j → ⊥)) ⊎ (k ≡ j)) → Painted Q v old (set new j a)
 one P Q v old new j a p h q e up down =
     record {
       hit =
@@ -38,7 +39,8 @@ one P Q v old new j a p h q e up down =
     }
 
 -- one part, and then another
-pub also : (P Q R : ℕ → Type 0) (v : ℕ → ℕ) (old mid new : List ℕ) → Painted P v old mid → Painted Q v mid new → ((k : ℕ) → P k → R k) → ((k : ℕ) → Q k → R k) → ((k : ℕ) → R k → (P k × (Q k → ⊥)) ⊎ Q k) → Painted R v old new
+pub also : (P Q R : ℕ → Type 0) (v : ℕ → ℕ) (old mid new : List ℕ) → Painted P v old mid → Painted Q v mid new → ((k : ℕ) → P k → R k)
+    → ((k : ℕ) → Q k → R k) → ((k : ℕ) → R k → (P k × (Q k → ⊥)) ⊎ Q k) → Painted R v old new
 also P Q R v old mid new p q f g h =
     record {
       hit = λ k r. ⊎-elim (λ w. q .miss k (w .1) ∙ p .hit k (w .0)) (λ w. q .hit k w) (h k r);

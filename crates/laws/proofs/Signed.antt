@@ -65,7 +65,8 @@ module _ (w : Width) (top : ℕ) (z : ℤ) (f : SFits w z) where
   pub clamp-high : ltZ (pos top) (held w z) ≡ true → top ≡ clamp top z
   clamp-high h = high top z (rw (toZ-ofZ w z f) at h)
 
-  pub clamp-mid : ltZ (held w z) (pos 0) ≡ false → ltZ (pos top) (held w z) ≡ false → T (nonNeg (held w z)) × (natAbs (held w z) ≤ top) × (natAbs (held w z) ≡ clamp top z) × (held w z ≡ pos (natAbs (held w z)))
+  pub clamp-mid : ltZ (held w z) (pos 0) ≡ false → ltZ (pos top) (held w z) ≡ false
+      → T (nonNeg (held w z)) × (natAbs (held w z) ≤ top) × (natAbs (held w z) ≡ clamp top z) × (held w z ≡ pos (natAbs (held w z)))
   clamp-mid l h = rw (toZ-ofZ w z f) (mid top z (rw (toZ-ofZ w z f) at l) (rw (toZ-ofZ w z f) at h))
 
 -- an unsigned number, cast to a signed type, and a signed one: the sum fits, and is the sum

@@ -4,10 +4,11 @@
 use mathlib.Core.Path.{_≡_, _∙_, sym, ap}
 use mathlib.Core.Logic.{⊎-elim}
 use Prim.Native.Nat.{ℕ, suc, _+_, _-_, _*_, _/_, _%_, _<_, _≤_}
-use native.Mathlib.Nat.{mul-add-mod-self-right, mul-add-div-right, mod-eq-of-lt, div-eq-of-lt, add-zero, div-add-mod', div-lt-iff-lt-mul, mod-lt, mul-comm, mul-le-mul-right, mul-zero, suc-mul, eq-zero-or-pos}
+use native.Mathlib.Nat.{mul-add-mod-self-right, mul-add-div-right, mod-eq-of-lt, div-eq-of-lt, add-zero, div-add-mod', div-lt-iff-lt-mul, mod-lt}
+use native.Mathlib.Nat.{mul-comm, mul-le-mul-right, mul-zero, suc-mul, eq-zero-or-pos}
 use native.Mathlib.Omega.{arith}
 use lib.Dec.{T, ltb→lt, lt→ltb}
-use Rattle.rules.specs.Places.{element, column, row, inside}
+use Rattle.rules.specs.Places.{element, column, row, inside, across}
 use Rattle.rules.specs.declared.Picture.{Picture}
 use Rattle.place.specs.Tile.{Room}
 
@@ -31,6 +32,10 @@ wide p h k i = ⊎-elim (λ e. absurd (gone e)) (λ q. q) (eq-zero-or-pos p)
   where
     gone : p ≡ 0 → ⊥
     gone e = let z : h * p ≡ 0 = rw e (mul-zero h) in omega arith
+
+-- a place of a side lies in one of its blocks
+pub covered : (x n : ℕ) → x < n → x / 4 < across n
+covered x n h = omega arith
 
 module _ (pic : Picture) where
   -- the pixel (x, y) is in column x and row y, and is the picture's own

@@ -27,7 +27,8 @@ module _ (n : ℕ) (z : ℤ) (h : n < 1024) (b : mag z < 256) where
   moved : SFits w16 (held w16 (pos n) +ℤ held w16 (pos 8 *ℤ held w16 z))
   moved = on-fits w16 (pos n) (pos 8) z 8 refl (fits (pos n) h) (fits (pos 8) (omega arith)) (fits z (omega arith)) (omega arith)
 
-  ends : (t : Bool) (m : ℕ) → pos 8 *ℤ z +ℤ pos n ≡ centre t m → (held w16 (held w16 (pos n) +ℤ held w16 (pos 8 *ℤ held w16 z)) ≡ centre t m) × (mag (held w16 (held w16 (pos n) +ℤ held w16 (pos 8 *ℤ held w16 z))) < 4096)
+  ends : (t : Bool) (m : ℕ) → pos 8 *ℤ z +ℤ pos n ≡ centre t m
+      → (held w16 (held w16 (pos n) +ℤ held w16 (pos 8 *ℤ held w16 z)) ≡ centre t m) × (mag (held w16 (held w16 (pos n) +ℤ held w16 (pos 8 *ℤ held w16 z))) < 4096)
   ends t m e =
       let r : held w16 (held w16 (pos n) +ℤ held w16 (pos 8 *ℤ held w16 z)) ≡ pos n +ℤ pos 8 *ℤ z =
       on-held w16 (pos n) (pos 8) z 8 refl (fits (pos n) h) (fits (pos 8) (omega arith)) (fits z (omega arith)) (omega arith) in

@@ -24,10 +24,12 @@ cast-n-3 c = search needs
 small : (c : tie.Start) → (more (c .args .o) (c .args .h) (c .args .v) (c .args .x) (c .args .y) < 3000) × (fewer (c .args .o) (c .args .x) (c .args .y) < 3000)
 small c = (small-more (c .args .o) (c .args .h) (c .args .v) (c .args .x) (c .args .y) (omega arith) (omega arith) (omega arith) (omega arith) (omega arith), small-fewer (c .args .o) (c .args .h) (c .args .v) (c .args .x) (c .args .y) (omega arith) (omega arith) (omega arith) (omega arith) (omega arith))
 
-number : (c : tie.Start) → Is (held w16 (allM (c .args .o) (c .args .h) (c .args .v) (c .args .x) (c .args .y))) (more (c .args .o) (c .args .h) (c .args .v) (c .args .x) (c .args .y)) (fewer (c .args .o) (c .args .x) (c .args .y))
+number : (c : tie.Start)
+    → Is (held w16 (allM (c .args .o) (c .args .h) (c .args .v) (c .args .x) (c .args .y))) (more (c .args .o) (c .args .h) (c .args .v) (c .args .x) (c .args .y)) (fewer (c .args .o) (c .args .x) (c .args .y))
 number c = is-held w16 (all (c .args .o) (c .args .h) (c .args .v) (c .args .x) (c .args .y) (omega arith) (omega arith) (omega arith) (omega arith) (omega arith)) (omega (arith, small c)) (omega (arith, small c))
 
-value : (c : tie.Start) → planarChannel (c .args .o) (c .args .h) (c .args .v) (c .args .x) (c .args .y) ≡ min ((more (c .args .o) (c .args .h) (c .args .v) (c .args .x) (c .args .y) - fewer (c .args .o) (c .args .x) (c .args .y)) / 4) 255
+value : (c : tie.Start)
+    → planarChannel (c .args .o) (c .args .h) (c .args .v) (c .args .x) (c .args .y) ≡ min ((more (c .args .o) (c .args .h) (c .args .v) (c .args .x) (c .args .y) - fewer (c .args .o) (c .args .x) (c .args .y)) / 4) 255
 value c = planar-is (c .args .o) (c .args .h) (c .args .v) (c .args .x) (c .args .y)
 
 sub-n : tie.Need-sub-n
