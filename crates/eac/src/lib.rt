@@ -52,7 +52,7 @@ fn eac_value(base: i16, m: u8, s: i16) -> u32
 }
 
 // The byte of each pixel, row by row: an eighth of its value.
-pub fn eac_bytes(d: &[u8], signed: bool) -> [u32; 16]
+fn eac_bytes(d: &[u8], signed: bool) -> [u32; 16]
     requires { ⌜ 8 ≤ length (now d) ⌝ }
     ensures { λ r. ⌜ r ≡ build 16 (λ k. eacByte signed (now (d .entry)) (k % 4) (k / 4)) ⌝ }
 {

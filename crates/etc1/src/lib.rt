@@ -12,14 +12,14 @@ ghost use Rattle.shade.specs.Pick.{eight};
 ghost use Rattle.etc1.specs.Halves.{stepsWhere};
 
 // A byte's high nibble, as eight bits.
-pub fn high_nibble(b: u8) -> u8
+fn high_nibble(b: u8) -> u8
     ensures { λ r. ⌜ r ≡ bits 7 4 b * 17 ⌝ }
 {
     b / 16 * 17
 }
 
 // A byte's low nibble, as eight bits.
-pub fn low_nibble(b: u8) -> u8
+fn low_nibble(b: u8) -> u8
     ensures { λ r. ⌜ r ≡ bits 3 0 b * 17 ⌝ }
 {
     b % 16 * 17

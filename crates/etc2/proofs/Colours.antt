@@ -65,7 +65,8 @@ module _ (k : Kind) (d : List ℕ) (n : isPlanar k ≡ false) (fair : k ≡ Diff
   pub picked : (opaque : Bool) (p : List ℕ) → p ≡ eight (λ h. punched opaque (madeColours (stepsWhere opaque) k d h)) → build 16 (taken d p) ≡ tile (colourPixel k opaque) d
   picked opaque p e =
       picks d (λ h. punched opaque (madeColours (stepsWhere opaque) k d h)) p e
-      ∙ build-same 0 (λ j. getD (punched opaque (madeColours (stepsWhere opaque) k d (half d (j % 4) (j / 4)))) (index d (j % 4) (j / 4)) 0) (λ j. colourPixel k opaque d (j % 4) (j / 4)) 16 (λ j h. pixel opaque (j % 4) (j / 4))
+      ∙ build-same 0 (λ j. getD (punched opaque (madeColours (stepsWhere opaque) k d (half d (j % 4) (j / 4)))) (index d (j % 4) (j / 4)) 0)
+      (λ j. colourPixel k opaque d (j % 4) (j / 4)) 16 (λ j h. pixel opaque (j % 4) (j / 4))
 
 -- the eight colours that are made, at the kind that was told
 module _ (opaque : Bool) (d : List ℕ) where

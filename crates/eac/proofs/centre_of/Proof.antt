@@ -10,8 +10,7 @@ use lib.IntN.{ℤ, pos, _+ℤ_, _*ℤ_, +ℤ-comm}
 use lib.Signed.{mag}
 use mir.Syntax.{w16}
 use mir.Val.{SFits}
-use Rattle.rules.specs.Notation.{twos}
-use Rattle.rules.specs.Channels.{centre}
+use Rattle.rules.specs.Channels.{signedBase, centre}
 use Rattle.laws.proofs.Every.{below}
 use Rattle.laws.proofs.Signed.{held, mag-add, mag-mul, by-fits, on-fits, on-held}
 use Rattle.eac.proofs.centre_of.Statement.{statement}
@@ -38,7 +37,7 @@ module _ (n : ℕ) (z : ℤ) (h : n < 1024) (b : mag z < 256) where
 small : (c : tie.After-signed-byte) → mag (c .signed-byte .result) < 256
 small c =
     subst (λ (z : ℤ). mag z < 256) (sym (c .signed-byte .ensures))
-    (ltb→lt _ _ (below (λ b. ltb (mag (twos 8 b)) 256) 256 tt (c .before .before .args .b) (omega arith)))
+    (ltb→lt _ _ (below (λ b. ltb (mag (signedBase b)) 256) 256 tt (c .before .before .args .b) (omega arith)))
 
 signed-byte-requires : tie.Need-signed-byte-requires
 signed-byte-requires c κs = search needs
