@@ -19,8 +19,7 @@ use Rattle.rules.proofs.Kind.{the-type}
 use Rattle.laws.proofs.Filled.{build-same}
 use Rattle.shade.specs.Pick.{eight, taken}
 use Rattle.shade.proofs.Pick.{picks}
-use Rattle.etc1.specs.Halves.{stepsWhere}
-use Rattle.etc2.specs.Colours.{madeColours, punched, colourPixel}
+use Rattle.etc2.specs.Colours.{stepsWhere, madeColours, punched, colourPixel}
 
 -- a kind that is not planar
 pub not-planar : (k : Kind) → OneOf (0 ∷ 1 ∷ 2 ∷ 3 ∷ []) (Declared.tagOf the-type k) → isPlanar k ≡ false
