@@ -14,12 +14,13 @@
 //! ```
 //!
 //! Every function is safe to call with anything. It reads the picture, or it refuses and
-//! changes nothing; there is no third outcome, and no panic. A pixel is
+//! changes nothing; there is no third outcome. It does not panic with the proved archive, which
+//! answers 0 to 5; were another library linked under its names, a larger number would panic. A pixel is
 //! `alpha << 24 | red << 16 | green << 8 | blue`, and pixel (x, y) is `image[y * width + x]`.
 //! Bytes beyond the last block are not read; elements beyond the picture keep their value.
 //!
 //! What is proved is the code in the archive, up to its functions of C names. The few lines
-//! here that call them are not proved. On x86-64 the archive is what `rt staticlib` made; on
+//! here that call them are not proved, but tested. On x86-64 the archive is what `rt staticlib` made; on
 //! any other machine the proved module was compiled natively by the kit's own clang, a step
 //! that `rt` does not do itself (`bindings/archive`).
 #![no_std]
