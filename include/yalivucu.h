@@ -26,9 +26,10 @@
  *
  * What the caller owes
  *   data points to data_len bytes that may be read, image (out) to image_len (out_len)
- *   elements that may be read and written, and the two do not overlap. Where a length is 0 the
- *   pointer is not followed, but pass one that is not NULL. C checks none of this, and nothing
- *   here can. No number and no content of the bytes is wrong: for those there are the answers.
+ *   elements that may be read and written, aligned as uint32_t is, and the two do not overlap.
+ *   Where a length is 0 the pointer is not followed and may be NULL. C checks none of this, and
+ *   nothing here can. No number and no content of the bytes is wrong: for those there are the
+ *   answers.
  */
 #ifndef YALIVUCU_H
 #define YALIVUCU_H

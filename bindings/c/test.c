@@ -1,4 +1,4 @@
-/* The library from C: the specimens of document 01 that show one call each, and every refusal. */
+/* The library from C: the specimens of document 01 that show one call each, every refusal, and NULL where there is nothing. */
 #include "yalivucu.h"
 #include <stdio.h>
 #include <string.h>
@@ -59,6 +59,24 @@ static void pictures(void)
         same(row[k].name, image[0], row[k].first);
         untouched(row[k].name, 16);
     }
+}
+
+/* With a length of 0 the pointer is not followed: NULL is answered like any other. */
+static void nothing(void)
+{
+    size_t block = 77;
+    clear();
+    same("no data, no image", yalivucu_decode_etc1(NULL, 0, 4, 4, NULL, 0), YALIVUCU_SHORT_DATA);
+    same("no data", yalivucu_decode_etc2_rgba8(NULL, 0, 4, 4, image, MOST), YALIVUCU_SHORT_DATA);
+    same("no image", yalivucu_decode_etc2_rgb(TWO, 8, 4, 4, NULL, 0), YALIVUCU_SHORT_IMAGE);
+    same("no pixels", yalivucu_decode_eacrg(NULL, 0, 0, 16384, NULL, 0), YALIVUCU_DONE);
+    same("strict, no data", yalivucu_decode_etc1_strict(NULL, 0, 4, 4, NULL, 0, &block), YALIVUCU_SHORT_DATA);
+    same("strict, no pixels", yalivucu_decode_etc1_strict(NULL, 0, 0, 0, NULL, 0, &block), YALIVUCU_DONE);
+    same("strict, block kept", (uint32_t)block, 77);
+    same("no block", yalivucu_decode_eacr_block(NULL, 0, NULL, 0), YALIVUCU_SHORT_DATA);
+    same("no elements", yalivucu_decode_etc2_a8_block(ZERO, 8, NULL, 0), YALIVUCU_SHORT_IMAGE);
+    same("no channel", yalivucu_decode_eac_block(NULL, 0, 4, NULL, 0), YALIVUCU_NO_CHANNEL);
+    untouched("nothing", 0);
 }
 
 static void strict(void)
@@ -132,6 +150,7 @@ static void channels(void)
 int main(void)
 {
     pictures();
+    nothing();
     strict();
     blocks();
     channels();
