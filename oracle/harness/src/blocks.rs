@@ -4,6 +4,7 @@
 use crate::random::Random;
 use crate::readers::{half, is_eac, Half};
 use crate::rules::is_outside;
+use std::cmp::Ordering;
 
 #[derive(Clone, Copy, PartialEq)]
 pub enum Fill {
@@ -83,7 +84,7 @@ fn of_kind(half: Half, number: usize, random: &mut Random) -> [u8; 8] {
 
 // 0 individual, 1 differential, 2 T, 3 H, 4 planar; the bits that the kind leaves
 // open are random.
-fn colour(kind: usize, random: &mut Random) -> [u8; 8] {
+pub fn colour(kind: usize, random: &mut Random) -> [u8; 8] {
     let mut block = random.next().to_le_bytes();
     if kind == 0 {
         block[3] &= !2;
@@ -105,18 +106,32 @@ fn colour(kind: usize, random: &mut Random) -> [u8; 8] {
     block
 }
 
+// The first base colour of an H block, and its second.
+fn h_first(b: &[u8; 8]) -> [u8; 3] {
+    [b[0] >> 3 & 15, (b[0] & 7) << 1 | b[1] >> 4 & 1, b[1] & 8 | (b[1] & 3) << 1 | b[2] >> 7]
+}
+
+fn h_second(b: &[u8; 8]) -> [u8; 3] {
+    [b[2] >> 3 & 15, (b[2] & 7) << 1 | b[3] >> 7, b[3] >> 3 & 15]
+}
+
+/// How the first base colour of an H block stands to the second, and the channel that decides: red, green, blue or none.
+pub fn h_order(b: &[u8; 8]) -> (Ordering, usize) {
+    let (first, second) = (h_first(b), h_second(b));
+    let place = (0..3).find(|&k| first[k] != second[k]).unwrap_or(3);
+    (first.cmp(&second), place)
+}
+
 // Gives an H block equal base colours, where its distance number must gain 1.
 fn tie(b: &mut [u8; 8]) {
-    let red = b[0] >> 3 & 15;
-    let green = (b[0] & 7) << 1 | b[1] >> 4 & 1;
-    let blue = b[1] & 8 | (b[1] & 3) << 1 | b[2] >> 7;
+    let [red, green, blue] = h_first(b);
     b[2] = b[2] & 0x80 | red << 3 | green >> 1;
     b[3] = b[3] & 7 | (green & 1) << 7 | blue << 3;
 }
 
 // Alpha and EAC: multiplier 0, then bases at which values clamp low or high, the
 // signed turning points, and the middle.
-fn channel(kind: usize, random: &mut Random) -> [u8; 8] {
+pub fn channel(kind: usize, random: &mut Random) -> [u8; 8] {
     let mut block = random.next().to_le_bytes();
     let near = random.below(16) as u8;
     match kind {
