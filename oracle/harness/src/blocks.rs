@@ -115,11 +115,9 @@ fn h_second(b: &[u8; 8]) -> [u8; 3] {
     [b[2] >> 3 & 15, (b[2] & 7) << 1 | b[3] >> 7, b[3] >> 3 & 15]
 }
 
-/// How the first base colour of an H block stands to the second, and the channel that decides: red, green, blue or none.
-pub fn h_order(b: &[u8; 8]) -> (Ordering, usize) {
-    let (first, second) = (h_first(b), h_second(b));
-    let place = (0..3).find(|&k| first[k] != second[k]).unwrap_or(3);
-    (first.cmp(&second), place)
+/// How red, green and blue of the first base colour of an H block stand to the second's.
+pub fn h_orders(b: &[u8; 8]) -> [Ordering; 3] {
+    std::array::from_fn(|k| h_first(b)[k].cmp(&h_second(b)[k]))
 }
 
 // Gives an H block equal base colours, where its distance number must gain 1.

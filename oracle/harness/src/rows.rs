@@ -2,14 +2,14 @@
 //! and every field of every kind, with the answers of the crate, which Mesa and Android must share where they can be
 //! asked. The program under test is not asked.
 
-use crate::blocks::{channel, colour, h_order};
+use crate::blocks::{channel, colour, h_orders};
 use crate::expected::{expected, lowest_base_raised};
 use crate::protocol::{ask, Answer, Case, Pair};
 use crate::random::Random;
 use crate::readers::*;
 use crate::rules::verdict;
 use crate::second::{from_mesa, wrapped_halves};
-use std::cmp::Ordering::{Equal, Greater, Less};
+use std::cmp::Ordering::{self, Equal, Greater, Less};
 use std::fmt::Write;
 use std::io::{Error, Result};
 
@@ -48,12 +48,13 @@ fn of_kinds(kinds: &[usize], random: &mut Random) -> Vec<Block> {
 
 fn rows(seed: u64) -> Vec<Row> {
     let mut random = Random::new(seed);
-    let mut list = etc1(&mut random);
+    // Small rows stand first, so that most mistakes are seen by one of them.
+    let mut list = single(&mut random);
+    list.extend(etc1(&mut random));
     list.extend(etc2(&mut random));
     list.extend(alphas(&mut random));
     list.extend(channels(&mut random));
     list.extend(places(&mut random));
-    list.extend(single(&mut random));
     list.extend(strict(&mut random));
     list
 }
@@ -64,20 +65,34 @@ fn etc1(random: &mut Random) -> Vec<Row> {
     let codes: Vec<Block> = (0..4).map(code).collect();
     vec![
         picture("ETC1, individual: every code", ETC1, (16, 4), &codes),
-        picture("ETC1, differential: sums in range, and out of it", ETC1, (16, 8), &of_kinds(&[1, 2, 3, 4, 1, 2, 3, 4], random)),
+        picture(
+            "ETC1, differential: sums in range, and out of it",
+            ETC1,
+            (16, 8),
+            &of_kinds(&[1, 2, 3, 4, 1, 2, 3, 4], random),
+        ),
     ]
 }
 
 fn etc2(random: &mut Random) -> Vec<Row> {
     let t: Vec<Block> = (0..8).map(|number| t_block(number, random)).collect();
-    let h: Vec<Block> = (0..8).map(|number| h_block(number, random)).collect();
-    let clear = |blocks: Vec<Block>| -> Vec<Block> { blocks.into_iter().map(|b| [b[0], b[1], b[2], b[3] & !2, b[4], b[5], b[6], b[7]]).collect() };
+    let h: Vec<Block> = (0..12).map(|number| h_block(number, random)).collect();
+    let clear = |blocks: Vec<Block>| -> Vec<Block> {
+        blocks.into_iter().map(|b| [b[0], b[1], b[2], b[3] & !2, b[4], b[5], b[6], b[7]]).collect()
+    };
+    let mut planar = of_kinds(&[4, 4, 4], random);
+    planar.push(planar_at_the_turn(random));
     let kinds = of_kinds(&[1, 2, 3, 4, 1, 2, 3, 4], random);
     vec![
         picture("ETC2 RGB, individual and differential", RGB, (8, 8), &of_kinds(&[0, 0, 1, 1], random)),
         picture("ETC2 RGB, T: every distance", RGB, (16, 8), &t),
-        picture("ETC2 RGB, H: every distance, the order of the bases decided by each channel both ways, and a tie", RGB, (16, 8), &h),
-        picture("ETC2 RGB, planar", RGB, (8, 8), &of_kinds(&[4, 4, 4, 4], random)),
+        picture(
+            "ETC2 RGB, H: every distance, the order of the bases decided by each channel both ways, and a tie",
+            RGB,
+            (16, 12),
+            &h,
+        ),
+        picture("ETC2 RGB, planar", RGB, (8, 8), &planar),
         picture("ETC2 RGBA1, opaque bit clear: differential, T, H, planar", RGBA1, (16, 8), &clear(kinds)),
         picture("ETC2 RGBA1, opaque bit set", RGBA1, (8, 8), &of_kinds(&[1, 2, 3, 4], random)),
     ]
@@ -89,13 +104,39 @@ fn t_block(number: u8, random: &mut Random) -> Block {
     block
 }
 
-// The last bit of the number says whether the first base is not less than the second.
+// How red, green and blue of the first base of an H block stand to the second's. The last bit of a distance number says
+// whether the first base is not less, so these see every number, and each channel decide against the later ones.
+const H_ORDERS: [[Ordering; 3]; 12] = [
+    [Less, Greater, Greater],
+    [Greater, Less, Less],
+    [Equal, Less, Greater],
+    [Equal, Greater, Less],
+    [Equal, Equal, Less],
+    [Equal, Equal, Greater],
+    [Less, Less, Less],
+    [Equal, Equal, Equal],
+    [Equal, Less, Less],
+    [Equal, Greater, Greater],
+    [Less, Equal, Greater],
+    [Greater, Equal, Less],
+];
+
 fn h_block(number: u8, random: &mut Random) -> Block {
-    let wanted = [(Less, 0), (Greater, 0), (Less, 1), (Greater, 1), (Less, 2), (Greater, 2), (Less, 0), (Equal, 3)];
     loop {
         let mut block = colour(3, random);
-        block[3] = block[3] & !5 | number / 4 * 4 | number / 2 % 2;
-        if h_order(&block) == wanted[number as usize] {
+        block[3] = block[3] & !5 | number / 4 % 2 * 4 | number / 2 % 2;
+        if h_orders(&block) == H_ORDERS[number as usize] {
+            return block;
+        }
+    }
+}
+
+// Greens of 64 and 63, between which the widening of seven bits to eight turns.
+fn planar_at_the_turn(random: &mut Random) -> Block {
+    loop {
+        let mut block = colour(4, random);
+        if block[0] % 2 == 1 && block[1] & 0x7e == 0 {
+            block[4] = 63 << 1 | block[4] % 2;
             return block;
         }
     }
@@ -110,10 +151,12 @@ fn alphas(random: &mut Random) -> Vec<Row> {
 }
 
 fn channels(random: &mut Random) -> Vec<Row> {
-    let steps: Vec<Block> = (0..16).map(|table| {
-        let index = EVERY_INDEX[table as usize % 2].to_be_bytes();
-        [0x80, 0x10 + table, index[2], index[3], index[4], index[5], index[6], index[7]]
-    }).collect();
+    let steps: Vec<Block> = (0..16)
+        .map(|table| {
+            let index = EVERY_INDEX[table as usize % 2].to_be_bytes();
+            [0x80, 0x10 + table, index[2], index[3], index[4], index[5], index[6], index[7]]
+        })
+        .collect();
     let mut kinds = |count: usize| -> Vec<Block> { (0..count).map(|kind| channel(kind, random)).collect() };
     vec![
         picture("EAC R: every alpha step", EACR, (16, 16), &steps),
@@ -133,13 +176,18 @@ fn places(random: &mut Random) -> Vec<Row> {
     ]
 }
 
+// One block, and just as many elements as it takes.
+fn lone(reader: u32, blocks: &[Block]) -> Row {
+    row("one block", reader, (4, 4), blocks, vec![OLD; 16])
+}
+
 fn single(random: &mut Random) -> Vec<Row> {
     let mut list = Vec::new();
     for (reader, kinds) in [(BLOCK_ETC1, [2, 1]), (BLOCK_RGB, [3, 0]), (BLOCK_RGBA1, [1, 2]), (BLOCK_RGBA8, [4, 2])] {
-        list.push(picture("one block, and more bytes", reader, (4, 4), &of_kinds(&kinds, random)));
+        list.push(lone(reader, &of_kinds(&kinds, random)));
     }
     for reader in [BLOCK_EACR, BLOCK_EACR_SIGNED, BLOCK_EACRG, BLOCK_EACRG_SIGNED] {
-        list.push(picture("one block, and more bytes", reader, (4, 4), &[channel(7, random), channel(7, random)]));
+        list.push(lone(reader, &[channel(7, random), channel(7, random)]));
     }
     for kind in [0, 1, 2, 7] {
         list.push(joined("the alpha half alone", BLOCK_A8, 0, channel(kind, random), random));
@@ -162,7 +210,8 @@ fn strict(random: &mut Random) -> Vec<Row> {
 
 pub fn write(options: &crate::Options) -> Result<bool> {
     let rows = rows(options.seed);
-    let pairs: Vec<Pair> = rows.iter().map(|row| (row.case.clone(), expected(&row.case, &options.listed).answer)).collect();
+    let pairs: Vec<Pair> =
+        rows.iter().map(|row| (row.case.clone(), expected(&row.case, &options.listed).answer)).collect();
     shared(options, &pairs)?;
     let mut text = options.about.clone() + "\n";
     for (number, (row, (case, due))) in rows.iter().zip(&pairs).enumerate() {
@@ -179,14 +228,21 @@ pub fn write(options: &crate::Options) -> Result<bool> {
 fn shared(options: &crate::Options, pairs: &[Pair]) -> Result<()> {
     for (program, label) in [(&options.mesa, "Mesa"), (&options.android, "Android")] {
         let readers = if label == "Mesa" { ETC1..=EACRG_SIGNED } else { ETC1..=ETC1 };
-        let cases: Vec<Case> = pairs.iter().filter(|(case, due)| readers.contains(&case.reader) && due.number == 0).map(|(case, _)| exact(case)).collect();
+        let cases: Vec<Case> = pairs
+            .iter()
+            .filter(|(case, due)| readers.contains(&case.reader) && due.number == 0)
+            .map(|(case, _)| exact(case))
+            .collect();
         for (case, seen) in ask(program, cases)? {
             let due = expected(&case, &options.listed).answer;
             let left = if label == "Mesa" { wrapped_halves(&case) } else { Vec::new() };
             let mut seen = if label == "Mesa" { from_mesa(&case, seen, case.reader) } else { seen };
             left.iter().for_each(|&k| seen.image[k] = due.image[k]);
             if seen != due {
-                return Err(Error::other(format!("{label} has another answer than the crate to a row of {}", name(case.reader))));
+                return Err(Error::other(format!(
+                    "{label} has another answer than the crate to a row of {}",
+                    name(case.reader)
+                )));
             }
         }
     }
@@ -202,17 +258,24 @@ fn exact(case: &Case) -> Case {
 }
 
 fn line(case: &Case, due: &Answer) -> String {
-    let (reader, blocks) = (antt_reader(case), list(&case.data.chunks(8).map(|b| format!("0x{}", hex(b))).collect::<Vec<_>>(), 5));
+    let (reader, blocks) =
+        (antt_reader(case), list(&case.data.chunks(8).map(|b| format!("0x{}", hex(b))).collect::<Vec<_>>(), 5));
     let (width, height) = (case.width, case.height);
     let pixels = |image: &[u32]| list(&image.iter().map(|p| format!("0x{p:08X}")).collect::<Vec<_>>(), 8);
     if due.number != 0 {
         let (number, block) = verdict(case);
-        return format!("refuses ({reader}) {width} {height}\n    {blocks}\n    {} ({number} ∷ {block} ∷ [])", case.image.len());
+        return format!(
+            "refuses ({reader}) {width} {height}\n    {blocks}\n    {} ({number} ∷ {block} ∷ [])",
+            case.image.len()
+        );
     }
     if case.image.iter().all(|&element| element == OLD) {
         let end = due.image.iter().rposition(|&element| element != OLD).map_or(0, |at| at + 1);
         let spare = due.image.len() - end;
-        return format!("shows ({reader}) {width} {height}\n    {blocks}\n    {}\n    {spare}", pixels(&due.image[..end]));
+        return format!(
+            "shows ({reader}) {width} {height}\n    {blocks}\n    {}\n    {spare}",
+            pixels(&due.image[..end])
+        );
     }
     format!("joins ({reader})\n    {blocks}\n    {}\n    {}", pixels(&case.image), pixels(&due.image))
 }
@@ -235,7 +298,16 @@ fn antt_reader(case: &Case) -> String {
         BLOCK_EAC_SIGNED => format!("channel true {}", case.channel),
         reader if !is_block(reader) => format!("picture {}", format[reader as usize]),
         reader => {
-            let place = [BLOCK_ETC1, BLOCK_RGB, BLOCK_RGBA1, BLOCK_RGBA8, BLOCK_EACR, BLOCK_EACR_SIGNED, BLOCK_EACRG, BLOCK_EACRG_SIGNED];
+            let place = [
+                BLOCK_ETC1,
+                BLOCK_RGB,
+                BLOCK_RGBA1,
+                BLOCK_RGBA8,
+                BLOCK_EACR,
+                BLOCK_EACR_SIGNED,
+                BLOCK_EACRG,
+                BLOCK_EACRG_SIGNED,
+            ];
             let at = place.iter().position(|&other| other == reader).unwrap_or(0);
             format!("block {}", format[at])
         }
