@@ -4,6 +4,7 @@
 use crate::random::Random;
 use crate::readers::{half, is_eac, Half};
 use crate::rules::is_outside;
+use std::cmp::Ordering;
 
 #[derive(Clone, Copy, PartialEq)]
 pub enum Fill {
@@ -153,7 +154,7 @@ fn set_h_second(b: &mut [u8; 8], [red, green, blue]: [u8; 3]) {
 
 // 0 individual, 1 differential, 2 T, 3 H, 4 planar; the bits that the kind leaves
 // open are random.
-fn colour(kind: usize, random: &mut Random) -> [u8; 8] {
+pub fn colour(kind: usize, random: &mut Random) -> [u8; 8] {
     let mut block = random.next().to_le_bytes();
     if kind == 0 {
         block[3] &= !2;
@@ -177,9 +178,19 @@ fn colour(kind: usize, random: &mut Random) -> [u8; 8] {
     block
 }
 
+// The second base colour of an H block.
+fn h_second(b: &[u8; 8]) -> [u8; 3] {
+    [b[2] >> 3 & 15, (b[2] & 7) << 1 | b[3] >> 7, b[3] >> 3 & 15]
+}
+
+/// How red, green and blue of the first base colour of an H block stand to the second's.
+pub fn h_orders(b: &[u8; 8]) -> [Ordering; 3] {
+    std::array::from_fn(|k| h_first(b)[k].cmp(&h_second(b)[k]))
+}
+
 // Alpha and EAC: multiplier 0, then bases at which values clamp low or high, the
 // signed turning points, and the middle.
-fn channel(kind: usize, random: &mut Random) -> [u8; 8] {
+pub fn channel(kind: usize, random: &mut Random) -> [u8; 8] {
     let mut block = random.next().to_le_bytes();
     let near = random.below(16) as u8;
     match kind {
