@@ -21,7 +21,7 @@ pub fn across(side: usize) -> usize
     requires { ⌜ side ≤ limit ⌝ }
     ensures { λ r. ⌜ (r ≡ acrossOf side) × (r ≤ 4096) ⌝ }
 {
-    (side + 3) / 4
+    place::across(side)
 }
 
 // The first pixel of a block, in rows of n blocks.

@@ -57,18 +57,11 @@ fn scan_rows(fd: i32, width: usize, height: usize) -> Answer
     Answer::Done
 }
 
-// The number of an answer.
+// The number of an answer, as the tool answers it.
 fn number(answer: Answer) -> u64
     ensures { λ r. ⌜ r ≡ numberOf answer ⌝ }
 {
-    match answer {
-        Answer::Done => 0,
-        Answer::TooLarge => 1,
-        Answer::ShortData => 2,
-        Answer::ShortImage => 3,
-        Answer::OutOfRange(_) => 4,
-        Answer::NoChannel => 5,
-    }
+    etc::number(answer) as u64
 }
 
 // Says what a strict reader says of a picture: the words follow from the answer alone.
