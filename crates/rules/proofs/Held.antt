@@ -115,6 +115,6 @@ words =
     same (modulo (minus 1) 5 ∷ modulo (minus 5) 5 ∷ modulo (minus 6) 5 ∷ modulo (pos 7) 5 ∷ []) (4 ∷ 0 ∷ 4 ∷ 2 ∷ [])
     && same (eacValue false (eight 0xFFF0FFFFFFFFFFFF) 0 0 ∷ eacValue false (eight 0x00F0000000000000) 0 0 ∷ []) (2047 ∷ 0 ∷ [])
 
-hold : T (numbers && words && places && every (recorded ++ bench ++ table))
+hold : T (numbers && words && places && every (bench ++ recorded ++ table))
 unfolding numbers words places every bench table recorded verdictOf paints leaves holds marked painted firstOf differential wrapped kindBySums outOfRange tBases tDistance hBases hDistance planarBases planarChannel indexed rgbPixel rgba1Pixel etc1Pixel alphaStep alphaByte rgba8Pixel eacValue eacByte redPixel redGreenPixel sizeOf showsOf
 hold = tt

@@ -2,7 +2,7 @@
 -- Assumes nothing.
 use mathlib.Core.Bool.{Bool, true, false, _&&_}
 use mathlib.Core.List.{List, [], _∷_, _++_}
-use Prim.Native.Nat.{ℕ, zero, suc, _+_, _/_, _%_, _^_}
+use Prim.Native.Nat.{ℕ, zero, suc, _+_, _*_, _/_, _%_, _^_}
 use lib.Dec.{eqb}
 use lib.ListN.{length, replicate}
 use Rattle.rules.specs.declared.Format.{Format}
@@ -40,6 +40,15 @@ eight n =
 abbrev pub eights : List ℕ → List ℕ
 eights [] = []
 eights (n ∷ ns) = eight n ++ eights ns
+
+-- so many elements written as one number, and the elements of such lines
+abbrev pub apart : ℕ → ℕ → List ℕ
+apart zero n = []
+apart (suc k) n = n / 2 ^ (32 * k) % 2 ^ 32 ∷ apart k n
+
+abbrev pub lines : ℕ → List ℕ → List ℕ
+lines across [] = []
+lines across (n ∷ ns) = apart across n ++ lines across ns
 
 -- so many elements that nobody touched
 abbrev pub untouched : ℕ → List ℕ

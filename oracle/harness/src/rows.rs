@@ -2,7 +2,7 @@
 //! and every field of every kind, with the answers of the crate, which Mesa and Android must share where they can be
 //! asked. The program under test is not asked.
 
-use crate::blocks::{channel, colour, h_orders};
+use crate::blocks::{channel, colour, h_first, h_orders, h_second};
 use crate::expected::{expected, lowest_base_raised};
 use crate::protocol::{ask, Answer, Case, Pair};
 use crate::random::Random;
@@ -46,17 +46,12 @@ fn of_kinds(kinds: &[usize], random: &mut Random) -> Vec<Block> {
     kinds.iter().map(|&kind| colour(kind, random)).collect()
 }
 
+// Each group has numbers of its own, so that a change in one leaves the others as they are.
 fn rows(seed: u64) -> Vec<Row> {
-    let mut random = Random::new(seed);
     // Small rows stand first, so that most mistakes are seen by one of them.
-    let mut list = single(&mut random);
-    list.extend(etc1(&mut random));
-    list.extend(etc2(&mut random));
-    list.extend(alphas(&mut random));
-    list.extend(channels(&mut random));
-    list.extend(places(&mut random));
-    list.extend(strict(&mut random));
-    list
+    let groups = [single, etc1, etc2, alphas, channels, places, strict];
+    let random = |group: usize| Random::new(seed << 8 | group as u64);
+    groups.into_iter().enumerate().flat_map(|(at, group)| group(&mut random(at))).collect()
 }
 
 fn etc1(random: &mut Random) -> Vec<Row> {
@@ -74,26 +69,28 @@ fn etc1(random: &mut Random) -> Vec<Row> {
     ]
 }
 
+fn cleared(blocks: Vec<Block>) -> Vec<Block> {
+    blocks.into_iter().map(|b| [b[0], b[1], b[2], b[3] & !2, b[4], b[5], b[6], b[7]]).collect()
+}
+
 fn etc2(random: &mut Random) -> Vec<Row> {
     let t: Vec<Block> = (0..8).map(|number| t_block(number, random)).collect();
-    let h: Vec<Block> = (0..12).map(|number| h_block(number, random)).collect();
-    let clear = |blocks: Vec<Block>| -> Vec<Block> {
-        blocks.into_iter().map(|b| [b[0], b[1], b[2], b[3] & !2, b[4], b[5], b[6], b[7]]).collect()
-    };
+    let h: Vec<Block> = (0..16).map(|number| h_block(number, random)).collect();
     let mut planar = of_kinds(&[4, 4, 4], random);
     planar.push(planar_at_the_turn(random));
     let kinds = of_kinds(&[1, 2, 3, 4, 1, 2, 3, 4], random);
     vec![
-        picture("ETC2 RGB, individual and differential", RGB, (8, 8), &of_kinds(&[0, 0, 1, 1], random)),
+        picture("ETC2 RGB, individual, whatever the sums are", RGB, (8, 8), &cleared(of_kinds(&[1, 2, 3, 4], random))),
+        picture("ETC2 RGB, differential", RGB, (8, 4), &of_kinds(&[1, 1], random)),
         picture("ETC2 RGB, T: every distance", RGB, (16, 8), &t),
         picture(
             "ETC2 RGB, H: every distance, the order of the bases decided by each channel both ways, and a tie",
             RGB,
-            (16, 12),
+            (16, 16),
             &h,
         ),
         picture("ETC2 RGB, planar", RGB, (8, 8), &planar),
-        picture("ETC2 RGBA1, opaque bit clear: differential, T, H, planar", RGBA1, (16, 8), &clear(kinds)),
+        picture("ETC2 RGBA1, opaque bit clear: differential, T, H, planar", RGBA1, (16, 8), &cleared(kinds)),
         picture("ETC2 RGBA1, opaque bit set", RGBA1, (8, 8), &of_kinds(&[1, 2, 3, 4], random)),
     ]
 }
@@ -105,8 +102,8 @@ fn t_block(number: u8, random: &mut Random) -> Block {
 }
 
 // How red, green and blue of the first base of an H block stand to the second's. The last bit of a distance number says
-// whether the first base is not less, so these see every number, and each channel decide against the later ones.
-const H_ORDERS: [[Ordering; 3]; 12] = [
+// whether the first base is not less, so these see every number, and each channel decide with the later ones and against.
+const H_ORDERS: [[Ordering; 3]; 16] = [
     [Less, Greater, Greater],
     [Greater, Less, Less],
     [Equal, Less, Greater],
@@ -119,15 +116,31 @@ const H_ORDERS: [[Ordering; 3]; 12] = [
     [Equal, Greater, Greater],
     [Less, Equal, Greater],
     [Greater, Equal, Less],
+    [Less, Equal, Less],
+    [Greater, Equal, Greater],
+    [Less, Less, Equal],
+    [Greater, Greater, Equal],
 ];
 
 fn h_block(number: u8, random: &mut Random) -> Block {
     loop {
         let mut block = colour(3, random);
         block[3] = block[3] & !5 | number / 4 % 2 * 4 | number / 2 % 2;
-        if h_orders(&block) == H_ORDERS[number as usize] {
+        if h_orders(&block) == H_ORDERS[number as usize] && red_would_mislead(number, &block) {
             return block;
         }
+    }
+}
+
+// Where green decides, a red in place of either green would decide otherwise.
+fn red_would_mislead(number: u8, block: &Block) -> bool {
+    let (first, second) = (h_first(block), h_second(block));
+    match number {
+        2 => first[0] < first[1],
+        3 => first[0] >= first[1],
+        8 => first[0] > second[1],
+        9 => first[0] <= second[1],
+        _ => true,
     }
 }
 
@@ -258,33 +271,40 @@ fn exact(case: &Case) -> Case {
 }
 
 fn line(case: &Case, due: &Answer) -> String {
-    let (reader, blocks) =
-        (antt_reader(case), list(&case.data.chunks(8).map(|b| format!("0x{}", hex(b))).collect::<Vec<_>>(), 5));
+    let (reader, blocks) = (antt_reader(case), blocks(&case.data));
     let (width, height) = (case.width, case.height);
-    let pixels = |image: &[u32]| list(&image.iter().map(|p| format!("0x{p:08X}")).collect::<Vec<_>>(), 8);
     if due.number != 0 {
         let (number, block) = verdict(case);
-        return format!(
-            "refuses ({reader}) {width} {height}\n    {blocks}\n    {} ({number} ∷ {block} ∷ [])",
-            case.image.len()
-        );
+        let elements = case.image.len();
+        return format!("refuses ({reader}) {width} {height}\n    {blocks}\n    {elements} ({number} ∷ {block} ∷ [])");
     }
     if case.image.iter().all(|&element| element == OLD) {
-        let end = due.image.iter().rposition(|&element| element != OLD).map_or(0, |at| at + 1);
-        let spare = due.image.len() - end;
-        return format!(
-            "shows ({reader}) {width} {height}\n    {blocks}\n    {}\n    {spare}",
-            pixels(&due.image[..end])
-        );
+        let painted = (width * height) as usize;
+        let spare = due.image.len() - painted;
+        let across = if width == 16 { 8 } else { width as usize };
+        let pixels = pixels(across, &due.image[..painted]);
+        return format!("shows ({reader}) {width} {height}\n    {blocks}\n    {pixels}\n    {spare}");
     }
-    format!("joins ({reader})\n    {blocks}\n    {}\n    {}", pixels(&case.image), pixels(&due.image))
+    format!("joins ({reader})\n    {blocks}\n    {}\n    {}", pixels(17, &case.image), pixels(17, &due.image))
 }
 
-fn hex(bytes: &[u8]) -> String {
-    bytes.iter().map(|byte| format!("{byte:02X}")).collect()
+fn blocks(data: &[u8]) -> String {
+    let word = |b: &[u8]| u32::from_be_bytes([b[0], b[1], b[2], b[3]]);
+    list(data.chunks(8).map(|b| number(&[word(b), word(&b[4..])])), 5)
 }
 
-fn list(items: &[String], across: usize) -> String {
+// So many pixels are one number.
+fn pixels(across: usize, image: &[u32]) -> String {
+    format!("(lines {across}\n    {})", list(image.chunks(across).map(number), 1))
+}
+
+fn number(words: &[u32]) -> String {
+    let words: Vec<String> = words.iter().map(|word| format!("{word:08X}")).collect();
+    format!("0x{}", words.join("_"))
+}
+
+fn list(items: impl Iterator<Item = String>, across: usize) -> String {
+    let items: Vec<String> = items.collect();
     let lines: Vec<String> = items.chunks(across).map(|chunk| chunk.join(" ∷ ")).collect();
     format!("({} ∷ [])", lines.join("\n    ∷ "))
 }
