@@ -3,7 +3,7 @@
 mod args;
 mod source;
 
-use args::Asked;
+use call::Asked;
 use header::Header;
 use source::Source;
 

@@ -1,6 +1,6 @@
 // A file that is read: its descriptor, its length and what its header tells.
-use crate::args::Asked;
-use crate::args::Number;
+use call::Asked;
+use call::Number;
 use header::Header;
 use header::Known;
 
