@@ -26,6 +26,7 @@
 #![warn(missing_docs)]
 
 mod refusal;
+mod sheet;
 mod sys;
 pub mod typed;
 

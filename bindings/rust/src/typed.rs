@@ -11,6 +11,7 @@
 //! # Ok::<(), Refusal>(())
 //! ```
 pub use crate::refusal::Refusal;
+pub use crate::sheet::{read_sheet, sheet_head, write_sheet, Head};
 use crate::sys;
 
 /// The formats that can be read.

@@ -5,3 +5,7 @@ pub mod Pictures
 pub mod Guarded
 pub mod Strict
 pub mod Blocks
+pub mod Sheets
+pub mod Encoded
+pub mod Back
+pub mod Skipped

@@ -15,3 +15,6 @@ pub mod Channels
 pub mod Formats
 pub mod Guards
 pub mod Readers
+-- sheets, of document 02
+pub mod Records
+pub mod Sheets

@@ -1,0 +1,128 @@
+// Answers cases about sheets, of 512 bytes each, as oracle/PROTOCOL.md says under "Sheets". `rt ci` has it answer those in its file
+// stdin, which oracle/sheets made with the answers that are due.
+use libc::STDIN_FILENO;
+use libc::STDOUT_FILENO;
+use rules::Sheet;
+ghost use Prim.Native.Nat.{_+_, _≤_, _<_};
+
+// A proved loop has to end, and nothing says that the input does: it counts down from a number that no run uses up.
+fn main() {
+    let mut case = [0u8; 512];
+    let mut turns = u64::MAX;
+    while turns > 0 && answer_one(&mut case) {
+        turns -= 1;
+    }
+}
+
+// False where the input has no further case, or the answer cannot be written.
+fn answer_one(case: &mut [u8; 512]) -> bool {
+    let got = io::read_full(STDIN_FILENO, case);
+    if got != 512 {
+        return false;
+    }
+    let mut said = [0u8; 512];
+    if word(case, 0) == 0 {
+        read_case(case, &mut said);
+    } else {
+        write_case(case, &mut said);
+    }
+    io::write_all(STDOUT_FILENO, &said)
+}
+
+// The word of four bytes at a place, the least first.
+fn word(case: &[u8; 512], at: usize) -> usize
+    requires { ⌜ at + 4 ≤ 512 ⌝ }
+{
+    wide(case[at])
+        + wide(case[at + 1]) * 0x100
+        + wide(case[at + 2]) * 0x10000
+        + wide(case[at + 3]) * 0x1000000
+}
+
+fn wide(b: u8) -> usize
+    ensures { λ r. ⌜ r < 256 ⌝ }
+{
+    b as usize
+}
+
+fn at_most(most: usize, n: usize) -> usize
+    ensures { λ r. ⌜ r ≤ most ⌝ }
+{
+    if most < n { most } else { n }
+}
+
+fn low(x: usize) -> u8 {
+    (x % 256) as u8
+}
+
+// Puts a number's four lowest bytes at a place.
+fn put_word(said: &mut [u8; 512], at: usize, x: usize)
+    requires { ⌜ at + 4 ≤ 512 ⌝ }
+{
+    said[at] = low(x);
+    said[at + 1] = low(x / 0x100);
+    said[at + 2] = low(x / 0x10000);
+    said[at + 3] = low(x / 0x1000000);
+}
+
+// What the head's reader and the reader answer of a sheet of n bytes, over an image of m elements.
+fn read_case(case: &[u8; 512], said: &mut [u8; 512]) {
+    let end = 24 + at_most(488, word(case, 16));
+    let m = at_most(122, word(case, 20));
+    let mut image = [0x11111111u32; 122];
+    tell_head(etc::sheet_head(&case[24..end]), said);
+    let answer = etc::read_sheet(&case[24..end], &mut image[..m]);
+    put_word(said, 16, etc::number(answer) as usize);
+    show(&image, m, said);
+}
+
+fn tell_head(sheet: Sheet, said: &mut [u8; 512]) {
+    match sheet {
+        Sheet::Holds(head) => {
+            put_word(said, 4, head.format);
+            put_word(said, 8, head.width);
+            put_word(said, 12, head.height);
+        }
+        Sheet::Refused(answer) => {
+            put_word(said, 0, etc::number(answer) as usize);
+        }
+    }
+}
+
+fn show(image: &[u32; 122], m: usize, said: &mut [u8; 512])
+    requires { ⌜ m ≤ 122 ⌝ }
+{
+    let mut i = 0;
+    while i < m {
+        put_word(said, 24 + i * 4, image[i] as usize);
+        i += 1;
+    }
+}
+
+// What the writer answers for n bytes of blocks and m bytes of room, and the room afterwards.
+fn write_case(case: &[u8; 512], said: &mut [u8; 512]) {
+    let end = 24 + at_most(488, word(case, 16));
+    let m = at_most(488, word(case, 20));
+    let mut out = [0xEEu8; 488];
+    let written = etc::write_sheet(
+        word(case, 4),
+        word(case, 8),
+        word(case, 12),
+        &case[24..end],
+        &mut out[..m],
+    );
+    let answer = written.answer;
+    put_word(said, 0, etc::number(answer) as usize);
+    put_word(said, 16, written.bytes);
+    copy(&out, m, said);
+}
+
+fn copy(out: &[u8; 488], m: usize, said: &mut [u8; 512])
+    requires { ⌜ m ≤ 488 ⌝ }
+{
+    let mut i = 0;
+    while i < m {
+        said[24 + i] = out[i];
+        i += 1;
+    }
+}
