@@ -3,7 +3,8 @@
 use libc::STDIN_FILENO;
 use libc::STDOUT_FILENO;
 use rules::Sheet;
-ghost use Prim.Native.Nat.{_+_, _≤_, _<_};
+ghost use mathlib.Core.Path.{_≡_};
+ghost use Prim.Native.Nat.{_+_, _%_, _≤_};
 
 // A proved loop has to end, and nothing says that the input does: it counts down from a number that no run uses up.
 fn main() {
@@ -21,28 +22,12 @@ fn answer_one(case: &mut [u8; 512]) -> bool {
         return false;
     }
     let mut said = [0u8; 512];
-    if word(case, 0) == 0 {
+    if records::little4(case, 0) == 0 {
         read_case(case, &mut said);
     } else {
         write_case(case, &mut said);
     }
     io::write_all(STDOUT_FILENO, &said)
-}
-
-// The word of four bytes at a place, the least first.
-fn word(case: &[u8; 512], at: usize) -> usize
-    requires { ⌜ at + 4 ≤ 512 ⌝ }
-{
-    wide(case[at])
-        + wide(case[at + 1]) * 0x100
-        + wide(case[at + 2]) * 0x10000
-        + wide(case[at + 3]) * 0x1000000
-}
-
-fn wide(b: u8) -> usize
-    ensures { λ r. ⌜ r < 256 ⌝ }
-{
-    b as usize
 }
 
 fn at_most(most: usize, n: usize) -> usize
@@ -51,7 +36,9 @@ fn at_most(most: usize, n: usize) -> usize
     if most < n { most } else { n }
 }
 
-fn low(x: usize) -> u8 {
+fn low(x: usize) -> u8
+    ensures { λ r. ⌜ r ≡ x % 256 ⌝ }
+{
     (x % 256) as u8
 }
 
@@ -67,8 +54,8 @@ fn put_word(said: &mut [u8; 512], at: usize, x: usize)
 
 // What the head's reader and the reader answer of a sheet of n bytes, over an image of m elements.
 fn read_case(case: &[u8; 512], said: &mut [u8; 512]) {
-    let end = 24 + at_most(488, word(case, 16));
-    let m = at_most(122, word(case, 20));
+    let end = 24 + at_most(488, records::little4(case, 16));
+    let m = at_most(122, records::little4(case, 20));
     let mut image = [0x11111111u32; 122];
     tell_head(etc::sheet_head(&case[24..end]), said);
     let answer = etc::read_sheet(&case[24..end], &mut image[..m]);
@@ -101,13 +88,13 @@ fn show(image: &[u32; 122], m: usize, said: &mut [u8; 512])
 
 // What the writer answers for n bytes of blocks and m bytes of room, and the room afterwards.
 fn write_case(case: &[u8; 512], said: &mut [u8; 512]) {
-    let end = 24 + at_most(488, word(case, 16));
-    let m = at_most(488, word(case, 20));
+    let end = 24 + at_most(488, records::little4(case, 16));
+    let m = at_most(488, records::little4(case, 20));
     let mut out = [0xEEu8; 488];
     let written = etc::write_sheet(
-        word(case, 4),
-        word(case, 8),
-        word(case, 12),
+        records::little4(case, 4),
+        records::little4(case, 8),
+        records::little4(case, 12),
         &case[24..end],
         &mut out[..m],
     );

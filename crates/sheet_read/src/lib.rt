@@ -62,7 +62,8 @@ fn first_record(d: &[u8]) -> Found
         width: width,
         height: height,
     };
-    Found::At(head, start + len, sheet::block_bytes(format, pic))
+    let behind = start + len;
+    Found::At(head, behind, sheet::block_bytes(format, pic))
 }
 
 // What is to be said of the records behind the blocks.

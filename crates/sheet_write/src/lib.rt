@@ -94,8 +94,9 @@ pub fn write_sheet(
     };
     put_front(format, width, height, n, out);
     bytes::copy(blocks, &mut out[21..]);
+    let whole = 21 + n;
     Written {
         answer: Answer::Done,
-        bytes: 21 + n,
+        bytes: whole,
     }
 }

@@ -4,6 +4,7 @@ use mathlib.Core.Path.{_∙_, sym}
 use Prim.Native.Nat.{_-_}
 use native.Mathlib.Omega.{arith}
 use denote.Ref.{now}
+use Rattle.rules.specs.Places.{sized}
 use Rattle.rules.specs.Sheets.{sheetLimit}
 use Rattle.picture.proofs.Checks.{within}
 use Rattle.records.specs.Turns.{all, Turn}
@@ -70,14 +71,15 @@ returns-5 c =
     too-large _ _ _ _ (turn (l .before .before)) (l .before .if1 .left) (l .if2 .left) _ (w .wide .ensures .0)
     (omega (arith, e .if3 .left)) _ _ (m .before .little4 .ensures .0) (m .little42 .ensures .0) (sym (g .too-large .ensures) ∙ c .if4 .taken)
 
-add-t17 : tie.Need-add-t17
-add-t17 c = let t = turn (c .before .before .before .before .before .before .before .before .before) in omega (arith, t .within)
+add-behind : tie.Need-add-behind
+add-behind c = let t = turn (c .before .before .before .before .before .before .before .before .before) in omega (arith, t .within)
 
 block-bytes-requires : tie.Need-block-bytes-requires
 block-bytes-requires c κs =
     let g = c .before in
-    let t = within sheetLimit _ (sym (g .too-large .ensures) ∙ c .if4 .left) in
-    (omega (arith, g .before .before .before .if3 .left), t .0, t .1)
+    let m = g .before in
+    let t = within sheetLimit (sized (m .before .little4 .result) (m .little42 .result)) (sym (g .too-large .ensures) ∙ c .if4 .left) in
+    (omega (arith, m .before .before .if3 .left), t .0, t .1)
 
 returns-6 : tie.Need-returns-6
 returns-6 c =
@@ -107,6 +109,6 @@ first-record-spec =
     little4-requires-2
     too-large-requires
     returns-5
-    add-t17
+    add-behind
     block-bytes-requires
     returns-6)

@@ -63,8 +63,8 @@ part-copy-end c = search needs
 copy-requires : tie.Need-copy-requires
 copy-requires c κs = let t = good (c .before .before .before .before .before) in omega (arith, t .roomy)
 
-add-t8 : tie.Need-add-t8
-add-t8 c = search needs
+add-whole : tie.Need-add-whole
+add-whole c = search needs
 
 same-length : tie.Need-same-length
 same-length c = search needs
@@ -94,6 +94,6 @@ write-sheet-spec =
     part-copy-start
     part-copy-end
     copy-requires
-    add-t8
+    add-whole
     same-length
     returns-2)
