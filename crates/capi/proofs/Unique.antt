@@ -1,5 +1,6 @@
 -- No second outcome satisfies what a caller from C is told: the number, the image and the strict reader's block are all fixed.
--- Each exported promise is `Told` of an `Outcome`, whatever the verdict and the picture, so these two lemmas serve every reader.
+-- Each exported promise of a reader is `Told` of an `Outcome`, whatever the verdict and the picture, so two lemmas serve them all; a
+-- sheet's head and writer have one each.
 -- Assumes nothing.
 use mathlib.Core.Path.{_≡_, _∙_, sym, ap}
 use mathlib.Core.Bool.{cond}
@@ -7,7 +8,7 @@ use mathlib.Core.List.{List}
 use Prim.Native.Nat.{ℕ}
 use lib.ListN.{getD}
 use Rattle.rules.specs.Answers.{said, accepts, Outcome}
-use Rattle.rules.specs.Sheets.{told}
+use Rattle.rules.specs.Sheets as sheets
 use Rattle.rules.specs.declared.Answer.{Answer}
 use Rattle.rules.specs.declared.Picture.{Picture}
 use Rattle.rules.specs.declared.Sheet.{Sheet}
@@ -44,7 +45,7 @@ module _ (verdict after old : List ℕ) where
 pub sheet-head : (d : List ℕ) (f w h n f₁ w₁ h₁ m f₂ w₂ h₂ : ℕ) → HeadTold d f w h n f₁ w₁ h₁ → HeadTold d f w h m f₂ w₂ h₂ → (n ≡ m) × (f₁ ≡ f₂) × (w₁ ≡ w₂) × (h₁ ≡ h₂)
 sheet-head d f w h n f₁ w₁ h₁ m f₂ w₂ h₂ p q =
     let e = one-head d (p .sheet) (q .sheet) (p .tells) (q .tells) in (
-      p .says ∙ ap (λ (s : Sheet). getD (told s) 0 0) e ∙ sym (q .says),
+      p .says ∙ ap (λ (s : Sheet). getD (sheets.told s) 0 0) e ∙ sym (q .says),
       p .the-format ∙ ap (λ (s : Sheet). headOr (λ k. k .format) s f) e ∙ sym (q .the-format),
       p .the-width ∙ ap (λ (s : Sheet). headOr (λ k. k .width) s w) e ∙ sym (q .the-width),
       p .the-height ∙ ap (λ (s : Sheet). headOr (λ k. k .height) s h) e ∙ sym (q .the-height),
