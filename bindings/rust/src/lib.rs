@@ -24,8 +24,10 @@
 //! that `rt` does not do itself (`bindings/archive`).
 #![no_std]
 
+mod census;
 mod refusal;
 
+pub use census::{census_etc2_rgb, census_etc2_rgba1, KindCounts, RgbCounts, Rgba1Counts};
 pub use refusal::Refusal;
 
 /// The functions of the archive. A slice goes over as its pointer and its length.
@@ -45,7 +47,16 @@ mod sys {
             pub fn $name(data: *const u8, data_len: usize, channel: usize, out: *mut u32, out_len: usize) -> u32;
         )*};
     }
+    macro_rules! declared_census {
+        ($($name:ident)*) => {$(
+            pub fn $name(data: *const u8, data_len: usize, width: usize, height: usize, counts: *mut usize, counts_len: usize) -> u32;
+        )*};
+    }
     extern "C" {
+        declared_census! {
+            yalivucu_census_etc2_rgb
+            yalivucu_census_etc2_rgba1
+        }
         declared! {
             yalivucu_decode_etc1
             yalivucu_decode_etc2_rgb

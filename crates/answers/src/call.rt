@@ -1,10 +1,11 @@
-// The public readers by the numbers of oracle/PROTOCOL.md.
+// The public readers and censuses by the numbers of oracle/PROTOCOL.md.
+use super::census;
 use rules::Answer;
 ghost use Prim.Native.Nat.{_≤_};
 
 // Whether a number names a reader.
 pub fn is_reader(number: u32) -> bool {
-    number <= 8 || (number >= 16 && number <= 26)
+    number <= 8 || (number >= 16 && number <= 26) || number == 32 || number == 33
 }
 
 // Calls the reader of a number on the first n bytes and the first m elements.
@@ -41,6 +42,12 @@ fn call(
     }
     if number == 22 {
         return etc::decode_eac_signed_block(data, channel, image);
+    }
+    if number == 32 {
+        return census::rgb(data, width, height, image);
+    }
+    if number == 33 {
+        return census::rgba1(data, width, height, image);
     }
     block(number, data, image)
 }

@@ -43,7 +43,7 @@ record Row : Type 0 where
   answer : List ℕ
   image : List ℕ
 
-same : List ℕ → List ℕ → Bool
+unfoldable pub same : List ℕ → List ℕ → Bool
 same [] [] = true
 same [] (y ∷ ys) = false
 same (x ∷ xs) [] = false
@@ -81,7 +81,7 @@ columns : ℕ → ℕ → List ℕ
 columns a b = let r = a ∷ a ∷ b ∷ b ∷ [] in r ++ (r ++ (r ++ r))
 
 -- eight bytes; and the first of them, or the first two, with 00 after them
-bytes : ℕ → ℕ → ℕ → ℕ → ℕ → ℕ → ℕ → ℕ → List ℕ
+unfoldable pub bytes : ℕ → ℕ → ℕ → ℕ → ℕ → ℕ → ℕ → ℕ → List ℕ
 bytes a b c d e f g h = a ∷ b ∷ c ∷ d ∷ e ∷ f ∷ g ∷ h ∷ []
 
 two : ℕ → ℕ → List ℕ
