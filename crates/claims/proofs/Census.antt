@@ -16,12 +16,14 @@ use Rattle.rules.specs.Answers.{said, accepts, verdict, firstOf, guarded}
 use Rattle.rules.specs.Colour.{differs, sum, beyond, byBeyond, kindBySums, kindOf, outOfRange}
 use Rattle.rules.specs.Formats.{sizeOf}
 use Rattle.rules.specs.Readers.{strictChecks, ReadsStrict}
-use Rattle.rules.specs.Census.{Test, more, countOf, counted, counts, rgbTests, rgba1Tests, tBlock, hBlock, planarBlock, censusChecks, census, rgbValues, rgbSaid, rgba1Values, rgba1Said, CountsRgb, CountsRgba1}
+use Rattle.rules.specs.Census.{Test, more, countOf, counted, counts, tBlock, hBlock, planarBlock, rgbTests, rgba1Tests}
+use Rattle.rules.specs.Census.{censusChecks, census, rgbValues, rgbSaid, rgba1Values, rgba1Said, CountsRgb, CountsRgba1}
 use Rattle.rules.specs.declared.Answer.{Answer}
 use Rattle.rules.specs.declared.Picture.{Picture}
 use Rattle.rules.specs.declared.Kind.{Kind}
 use Rattle.rules.specs.declared.Kind.the-variants.{Individual, Differential, T, H, Planar}
 use Rattle.rules.specs.declared.RgbCounts.{RgbCounts}
+use Rattle.rules.specs.declared.KindCounts.{KindCounts}
 use Rattle.rules.specs.declared.Rgba1Counts.{Rgba1Counts}
 use Rattle.rules.specs.declared.RgbCensus.{RgbCensus}
 use Rattle.rules.specs.declared.RgbCensus.the-variants as rgb
@@ -34,6 +36,10 @@ use Rattle.laws.proofs.Judged.{all-pass, passed, goes-on}
 use Rattle.laws.proofs.Sorted.{sorts}
 use Rattle.claims.proofs.Alike.{enough-either, behind}
 use Rattle.claims.proofs.Strict.{bad}
+
+-- the counts of four kinds together
+abbrev pub together : KindCounts → ℕ
+together c = c .differential + c .t + c .h + c .planar
 
 module _ (d : List ℕ) (p : Picture) where
   -- what says 0 with some values has passed both checks, and they are the counts
@@ -58,7 +64,7 @@ module _ (d : List ℕ) (p : Picture) where
   rgb-counts-add-up c e =
       omega (arith, ap total (each-rgb-count c e), adds-up (bytesOf 8 d) rgbTests (λ k. exact false (bytesOf 8 d k)) (blocks p))
 
-  pub rgba1-counts-add-up : (c : Rgba1Counts) → CountsRgba1 d p (rgba1.Counted c) → c .opaque .differential + c .opaque .t + c .opaque .h + c .opaque .planar + (c .clear .differential + c .clear .t + c .clear .h + c .clear .planar) ≡ blocks p
+  pub rgba1-counts-add-up : (c : Rgba1Counts) → CountsRgba1 d p (rgba1.Counted c) → together (c .opaque) + together (c .clear) ≡ blocks p
   rgba1-counts-add-up c e =
       omega (arith, ap total (each-rgba1-count c e), adds-up (bytesOf 8 d) rgba1Tests (λ k. exact true (bytesOf 8 d k)) (blocks p))
 
@@ -105,8 +111,11 @@ marks T = false ∷ false ∷ true ∷ false ∷ false ∷ []
 marks H = false ∷ false ∷ false ∷ true ∷ false ∷ []
 marks Planar = false ∷ false ∷ false ∷ false ∷ true ∷ []
 
--- the tests of RGB by the kind of a block, and those of RGBA1 by the kind that its sums give it
-by-kind : (o r g b : Bool) → not o ∷ (o && (not r && (not g && not b))) ∷ (o && r) ∷ (o && (not r && g)) ∷ (o && (not r && (not g && b))) ∷ [] ≡ marks (cond o (byBeyond r g b) Individual)
+-- the tests of RGB by the kind of a block, and those of RGBA1 by the kind that its sums give it: over its bit and its three sums
+abbrev four : Bool → Bool → Bool → Bool → List Bool
+four o r g b = (o && (not r && (not g && not b))) ∷ (o && r) ∷ (o && (not r && g)) ∷ (o && (not r && (not g && b))) ∷ []
+
+by-kind : (o r g b : Bool) → not o ∷ four o r g b ≡ marks (cond o (byBeyond r g b) Individual)
 by-kind false r g b = refl
 by-kind true true g b = refl
 by-kind true false true b = refl
@@ -117,10 +126,13 @@ pub counted-as-it-is-read : (b : List ℕ) → met rgbTests b ≡ marks (kindOf 
 unfolding kindBySums
 counted-as-it-is-read b = by-kind (differs b) (beyond (sum (byte b 0))) (beyond (sum (byte b 1))) (beyond (sum (byte b 2)))
 
-abbrev pub nothing : List Bool
-nothing = false ∷ false ∷ false ∷ false ∷ []
+-- the marks of the four kinds of RGBA1, with the opaque bit set or clear
+abbrev pub split : Bool → List Bool → List Bool
+split opaque l =
+    let nothing = false ∷ false ∷ false ∷ false ∷ [] in
+    cond opaque (drop 1 l ++ nothing) (nothing ++ drop 1 l)
 
-by-sums : (o r g b : Bool) → (o && (not r && (not g && not b))) ∷ (o && r) ∷ (o && (not r && g)) ∷ (o && (not r && (not g && b))) ∷ (not o && (not r && (not g && not b))) ∷ (not o && r) ∷ (not o && (not r && g)) ∷ (not o && (not r && (not g && b))) ∷ [] ≡ cond o (drop 1 (marks (byBeyond r g b)) ++ nothing) (nothing ++ drop 1 (marks (byBeyond r g b)))
+by-sums : (o r g b : Bool) → four o r g b ++ four (not o) r g b ≡ split o (marks (byBeyond r g b))
 by-sums true true g b = refl
 by-sums true false true b = refl
 by-sums true false false true = refl
@@ -130,7 +142,7 @@ by-sums false false true b = refl
 by-sums false false false true = refl
 by-sums false false false false = refl
 
-pub counted-as-rgba1-reads-it : (b : List ℕ) → met rgba1Tests b ≡ cond (differs b) (drop 1 (marks (kindBySums b)) ++ nothing) (nothing ++ drop 1 (marks (kindBySums b)))
+pub counted-as-rgba1-reads-it : (b : List ℕ) → met rgba1Tests b ≡ split (differs b) (marks (kindBySums b))
 unfolding kindBySums
 counted-as-rgba1-reads-it b = by-sums (differs b) (beyond (sum (byte b 0))) (beyond (sum (byte b 1))) (beyond (sum (byte b 2)))
 
@@ -149,7 +161,7 @@ pub leftover-bytes-are-not-counted : (tests : List Test) (d rest : List ℕ) (p 
 leftover-bytes-are-not-counted tests d rest p enough = sym (only-blocks-are-counted tests d (d ++ rest) p (behind 8 p d rest enough))
 
 -- the blocks that an ETC1 reader must not read are those of kind T, H and planar
-three : (o r g b : Bool) → holding ((o && r) ∷ (o && (not r && g)) ∷ (o && (not r && (not g && b))) ∷ []) ≡ more (o && (r || (g || b))) 0
+three : (o r g b : Bool) → holding (drop 1 (four o r g b)) ≡ more (o && (r || (g || b))) 0
 three false r g b = refl
 three true true g b = refl
 three true false true b = refl
@@ -169,21 +181,21 @@ abbrev pub AllZero : RgbCounts → Type 0
 AllZero c = (c .t ≡ 0) × (c .h ≡ 0) × (c .planar ≡ 0)
 
 -- "Where its checks 1 to 3 pass, strict ETC1 answers 4 exactly when the T, H and planar counts are not all 0."
-module _ (d : List ℕ) (p : Picture) (image : List ℕ) (a : Answer) (new : List ℕ) (reads : ReadsStrict d p image a new) (ok : 0 ∷ [] ≡ verdict (strictChecks p d image)) where
+module _ (d : List ℕ) (p : Picture) (old : List ℕ) (ok : 0 ∷ [] ≡ verdict (strictChecks p d old)) where
   -- there the census counts
   pub the-census-counts-there : (r : RgbCensus) → CountsRgb d p r → accepts (rgbSaid r) ≡ true
   the-census-counts-there r q =
-      let k = passed (strictChecks p d image) (0 ∷ []) tt (sym (ap accepts ok)) in
+      let k = passed (strictChecks p d old) (0 ∷ []) tt (sym (ap accepts ok)) in
       ap accepts (q ∙ all-pass (censusChecks p (length d)) _ (record { first = k .first; rest = record { first = k .rest .first; rest = record {} } }))
 
-  module _ (c : RgbCounts) (q : CountsRgb d p (rgb.Counted c)) where
+  module _ (a : Answer) (new : List ℕ) (reads : ReadsStrict d p old a new) (c : RgbCounts) (q : CountsRgb d p (rgb.Counted c)) where
     abbrev n : ℕ
     n = blocks p
 
     -- what the reader says is its fourth check, and the three counts are those of the blocks that it must not read
     left : said a ≡ guarded 4 (bad d) n
     unfolding sizeOf
-    left = reads .says ∙ goes-on (strictChecks p d image) (guarded 4 (bad d) n) tt ok
+    left = reads .says ∙ goes-on (strictChecks p d old) (guarded 4 (bad d) n) tt ok
 
     three-counts : c .t + c .h + c .planar ≡ countOf (bad d) n
     three-counts =

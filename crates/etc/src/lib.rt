@@ -1,7 +1,8 @@
-// The public list of src/etc.rs: eleven block readers, eight picture readers and strict ETC1; and the two censuses. None asks anything of its caller.
-// Each promises the answer and every element of the lent image afterwards, for all inputs; what that is, crates/rules/specs/Readers.antt
-// says for all of them. Refusals: 1 width or height above 16,384; 2 too few bytes; 3 too few elements; 4 a block out of range, with its
-// number (strict only); 5 a channel above 3. A refusal changes nothing.
+// The public list of src/etc.rs: eleven block readers, eight picture readers and strict ETC1; and two censuses. None asks anything of
+// its caller. Each reader promises the answer and every element of the lent image afterwards, for all inputs; what that is,
+// crates/rules/specs/Readers.antt says for all of them, and Census.antt beside it what a census promises. Refusals: 1 width or height
+// above 16,384; 2 too few bytes; 3 too few elements; 4 a block out of range, with its number (strict only); 5 a channel above 3. A
+// refusal changes nothing.
 use rules::Answer;
 use rules::Format;
 use rules::Picture;

@@ -16,17 +16,22 @@ use Rattle.census.proofs.Grown.{one-more, within}
 use Rattle.census.proofs.tally.Statement.{statement}
 use Rattle.census.proofs.tally.Tie as tie
 
-started : (split : Bool) (d : List ℕ) → 0 ∷ 0 ∷ 0 ∷ 0 ∷ 0 ∷ 0 ∷ 0 ∷ 0 ∷ [] ≡ counts (bytesOf 8 d) 0 (eight split)
+module _ (split : Bool) (d : List ℕ) where
+  -- the counts of the blocks before b
+  abbrev before : ℕ → List ℕ
+  before b = counts (bytesOf 8 d) b (eight split)
+
+  -- one more block
+  goes-on : (l : List ℕ) (b k : ℕ) → l ≡ before b → only (met (eight split) (take (b * 8 + 8 - b * 8) (drop (b * 8) d))) k ≡ true → set l k (getD l k 0 + 1) ≡ before (b + 1)
+  goes-on l b k e h = rw e (one-more (eight split) (bytesOf 8 d) b k (rw (part 8 b d) at h))
+
+started : (split : Bool) (d : List ℕ) → 0 ∷ 0 ∷ 0 ∷ 0 ∷ 0 ∷ 0 ∷ 0 ∷ 0 ∷ [] ≡ before split d 0
 unfolding countOf
 started true d = refl
 started false d = refl
 
--- one more block
-goes-on : (split : Bool) (d l : List ℕ) (b k : ℕ) → l ≡ counts (bytesOf 8 d) b (eight split) → only (met (eight split) (take (b * 8 + 8 - b * 8) (drop (b * 8) d))) k ≡ true → set l k (getD l k 0 + 1) ≡ counts (bytesOf 8 d) (b + 1) (eight split)
-goes-on split d l b k e h = rw e (one-more (eight split) (bytesOf 8 d) b k (rw (part 8 b d) at h))
-
 abbrev Inv-loop : tie.InvT-loop
-Inv-loop split «data» n tally₀ b₀ tally b = (b ≤ n) × (tally ≡ counts (bytesOf 8 «data») b (eight split))
+Inv-loop split «data» n tally₀ b₀ tally b = (b ≤ n) × (tally ≡ before split «data» b)
 
 abbrev μ-loop : tie.MeasureT-loop
 μ-loop split «data» n tally₀ b₀ tally b = n - b
@@ -86,7 +91,7 @@ returns c =
     let l = c .before in
     let a = l .before .before .args in
     let e : l .loop .b ≡ a .n = omega (arith, l .loop .inv .0, c .loop-test .left) in
-    l .loop .inv .1 ∙ ap (λ (m : ℕ). counts (bytesOf 8 (now (a .«data»))) m (eight (a .split))) e
+    l .loop .inv .1 ∙ ap (before (a .split) (now (a .«data»))) e
 
 pub tally-spec : {M : Type 1} → statement M
 tally-spec =
