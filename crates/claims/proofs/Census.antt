@@ -46,7 +46,7 @@ module _ (d : List ℕ) (p : Picture) where
   counted-of : (tests : List Test) (l : List ℕ) → 0 ∷ l ≡ census tests d p → l ≡ counts (bytesOf 8 d) (blocks p) tests
   counted-of tests l e =
       let checks = censusChecks p (length d) in
-      let then = 0 ∷ counts (bytesOf 8 d) (blocks p) tests in
+      let then : List ℕ = 0 ∷ counts (bytesOf 8 d) (blocks p) tests in
       ap (drop 1) (e ∙ all-pass checks then (passed checks then tt (sym (ap accepts e))))
 
   -- "Each count has its own definition, none is got by subtraction"
@@ -168,13 +168,13 @@ three true false true b = refl
 three true false false true = refl
 three true false false false = refl
 
-pub out-of-range-counts : (block : ℕ → List ℕ) (n : ℕ) → counted block n tBlock + counted block n hBlock + counted block n planarBlock ≡ counted block n outOfRange
+either : (b : List ℕ) → holding (met (tBlock ∷ hBlock ∷ planarBlock ∷ []) b) ≡ more (outOfRange b) 0
 unfolding outOfRange
+either b = three (differs b) (beyond (sum (byte b 0))) (beyond (sum (byte b 1))) (beyond (sum (byte b 2)))
+
+pub out-of-range-counts : (block : ℕ → List ℕ) (n : ℕ) → counted block n tBlock + counted block n hBlock + counted block n planarBlock ≡ counted block n outOfRange
 out-of-range-counts block n =
-    omega (
-      arith,
-      joined block (tBlock ∷ hBlock ∷ planarBlock ∷ []) outOfRange (λ k. three (differs (block k)) (beyond (sum (byte (block k) 0))) (beyond (sum (byte (block k) 1))) (beyond (sum (byte (block k) 2)))) n,
-    )
+    omega (arith, joined block (tBlock ∷ hBlock ∷ planarBlock ∷ []) outOfRange (λ k. either (block k)) n)
 
 -- the T, H and planar counts are all 0
 abbrev pub AllZero : RgbCounts → Type 0
