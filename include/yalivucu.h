@@ -29,9 +29,10 @@
  *
  * What the caller owes
  *   data points to data_len bytes that may be read, image (out, counts) to image_len (out_len,
- *   counts_len) elements that may be read and written, and the two do not overlap. Where a length is 0 the
- *   pointer is not followed, but pass one that is not NULL. C checks none of this, and nothing
- *   here can. No number and no content of the bytes is wrong: for those there are the answers.
+ *   counts_len) elements that may be read and written, aligned as their type is, and the two do
+ *   not overlap. Where a length is 0 the pointer is not followed and may be NULL. C checks none of
+ *   this, and nothing here can. No number and no content of the bytes is wrong: for those there
+ *   are the answers.
  */
 #ifndef YALIVUCU_H
 #define YALIVUCU_H
@@ -69,6 +70,19 @@ uint32_t yalivucu_decode_eacrg_signed(const uint8_t *data, size_t data_len, size
  * left to right and then down; with any other answer *block is not written. block is not NULL
  * and points into neither data nor image. */
 uint32_t yalivucu_decode_etc1_strict(const uint8_t *data, size_t data_len, size_t width, size_t height, uint32_t *image, size_t image_len, size_t *block);
+
+/* The same with its whole answer as one value, so that there is no pointer to be wrong about:
+ * block is the first block out of range where answer is 4, and 0 with any other answer. */
+struct yalivucu_strict {
+    uint32_t answer;
+    size_t block;
+};
+static inline struct yalivucu_strict yalivucu_etc1_strict(const uint8_t *data, size_t data_len, size_t width, size_t height, uint32_t *image, size_t image_len)
+{
+    struct yalivucu_strict told = {0, 0};
+    told.answer = yalivucu_decode_etc1_strict(data, data_len, width, height, image, image_len, &told.block);
+    return told;
+}
 
 /* One block of 8 bytes, into out[0] to out[15]. */
 uint32_t yalivucu_decode_etc1_block(const uint8_t *data, size_t data_len, uint32_t *out, size_t out_len);

@@ -1,13 +1,13 @@
 //! The formats that are measured, and how the crate's pixels are compared with the library's.
 use crate::blocks::Half;
 
-pub type Reader<E> = fn(&[u8], usize, usize, &mut [u32]) -> Result<(), E>;
+pub type Reader = fn(&[u8], usize, usize, &mut [u32]) -> Result<(), &'static str>;
 
 pub struct Format {
     pub name: &'static str,
     pub halves: &'static [Half],
-    pub library: Reader<yalivucu::Refusal>,
-    pub given: Reader<&'static str>,
+    pub library: Reader,
+    pub given: Reader,
 }
 
 pub const FORMATS: [Format; 6] = [

@@ -1,4 +1,4 @@
-/* The library from C: the specimens of document 01 that show one call each, and every refusal. */
+/* The library from C: the specimens of document 01 that show one call each, every refusal, and NULL where there is nothing. */
 #include "yalivucu.h"
 #include <stdio.h>
 #include <string.h>
@@ -61,6 +61,24 @@ static void pictures(void)
     }
 }
 
+/* With a length of 0 the pointer is not followed: NULL is answered like any other. */
+static void nothing(void)
+{
+    size_t block = 77;
+    clear();
+    same("no data, no image", yalivucu_decode_etc1(NULL, 0, 4, 4, NULL, 0), YALIVUCU_SHORT_DATA);
+    same("no data", yalivucu_decode_etc2_rgba8(NULL, 0, 4, 4, image, MOST), YALIVUCU_SHORT_DATA);
+    same("no image", yalivucu_decode_etc2_rgb(TWO, 8, 4, 4, NULL, 0), YALIVUCU_SHORT_IMAGE);
+    same("no pixels", yalivucu_decode_eacrg(NULL, 0, 0, 16384, NULL, 0), YALIVUCU_DONE);
+    same("strict, no data", yalivucu_decode_etc1_strict(NULL, 0, 4, 4, NULL, 0, &block), YALIVUCU_SHORT_DATA);
+    same("strict, no pixels", yalivucu_decode_etc1_strict(NULL, 0, 0, 0, NULL, 0, &block), YALIVUCU_DONE);
+    same("strict, block kept", (uint32_t)block, 77);
+    same("no block", yalivucu_decode_eacr_block(NULL, 0, NULL, 0), YALIVUCU_SHORT_DATA);
+    same("no elements", yalivucu_decode_etc2_a8_block(ZERO, 8, NULL, 0), YALIVUCU_SHORT_IMAGE);
+    same("no channel", yalivucu_decode_eac_block(NULL, 0, 4, NULL, 0), YALIVUCU_NO_CHANNEL);
+    untouched("nothing", 0);
+}
+
 static void strict(void)
 {
     uint8_t data[16];
@@ -76,6 +94,13 @@ static void strict(void)
     same("strict, refused", yalivucu_decode_etc1_strict(data, 16, 5, 1, image, 6, &block), YALIVUCU_OUT_OF_RANGE);
     same("strict, block", (uint32_t)block, 1);
     untouched("strict, refused", 0);
+    struct yalivucu_strict told = yalivucu_etc1_strict(data, 16, 5, 1, image, 6);
+    same("strict as a value, refused", told.answer, YALIVUCU_OUT_OF_RANGE);
+    same("strict as a value, block", (uint32_t)told.block, 1);
+    told = yalivucu_etc1_strict(data, 15, 5, 1, image, 6);
+    same("strict as a value, short", told.answer, YALIVUCU_SHORT_DATA);
+    same("strict as a value, no block", (uint32_t)told.block, 0);
+    untouched("strict as a value", 0);
 }
 
 static void blocks(void)
@@ -161,6 +186,7 @@ static void censuses(void)
 int main(void)
 {
     pictures();
+    nothing();
     strict();
     blocks();
     channels();

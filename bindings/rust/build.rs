@@ -1,29 +1,30 @@
 //! Finds the proved code: an archive that the variable YALIVUCU_ARCHIVE names, or one that
-//! `bindings/archive` proves and compiles here.
+//! `bindings/archive` proves and compiles here. It writes into Cargo's OUT_DIR alone.
 use std::env;
 use std::path::{Path, PathBuf};
 use std::process::Command;
 
 fn main() {
     println!("cargo:rerun-if-env-changed=YALIVUCU_ARCHIVE");
-    let archive = match env::var_os("YALIVUCU_ARCHIVE") {
-        Some(ready) => PathBuf::from(ready),
-        None => made(),
-    };
     let folder = PathBuf::from(env::var_os("OUT_DIR").unwrap());
     let linked = folder.join("libyalivucu.a");
-    if archive != linked {
-        std::fs::copy(&archive, &linked).unwrap_or_else(|why| panic!("cannot copy {}: {why}", archive.display()));
-        println!("cargo:rerun-if-changed={}", archive.display());
+    match env::var_os("YALIVUCU_ARCHIVE") {
+        Some(ready) => copy(Path::new(&ready), &linked),
+        None => make(&folder, &linked),
     }
     println!("cargo:rustc-link-search=native={}", folder.display());
     println!("cargo:rustc-link-lib=static=yalivucu");
 }
 
-/// Proves the crates of this repository and makes the archive for this machine.
-fn made() -> PathBuf {
+fn copy(ready: &Path, linked: &Path) {
+    println!("cargo:rerun-if-changed={}", ready.display());
+    std::fs::copy(ready, linked).unwrap_or_else(|why| panic!("cannot copy {}: {why}", ready.display()));
+}
+
+/// Proves the crates of this repository, in a copy of them, and makes the archive for this machine. Which crate it is
+/// proving goes to standard error, which `cargo build -vv` shows.
+fn make(folder: &Path, archive: &Path) {
     let top = Path::new(env!("CARGO_MANIFEST_DIR")).join("../..");
-    let archive = PathBuf::from(env::var_os("OUT_DIR").unwrap()).join("libyalivucu.a");
     for part in ["crates", "crates.txt", "bindings/archive"] {
         println!("cargo:rerun-if-changed={}", top.join(part).display());
     }
@@ -34,10 +35,12 @@ fn made() -> PathBuf {
     );
     let status = Command::new("sh")
         .arg(top.join("bindings/archive"))
-        .arg(&archive)
+        .arg("--in")
+        .arg(folder.join("proved"))
+        .arg(archive)
         .status();
-    match status {
-        Ok(status) if status.success() => archive,
-        _ => panic!("bindings/archive made nothing: install the Rattle kit so that `rt` runs, or name a ready archive in YALIVUCU_ARCHIVE"),
-    }
+    assert!(
+        status.is_ok_and(|status| status.success()),
+        "bindings/archive made nothing: install the Rattle kit so that `rt` runs, or name a ready archive in YALIVUCU_ARCHIVE"
+    );
 }

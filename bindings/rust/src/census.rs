@@ -1,5 +1,7 @@
 //! How many blocks of a picture are of each kind.
-use crate::{sys, Refusal};
+use crate::refusal::Refusal;
+use crate::sys;
+use crate::typed::Picture;
 
 /// The blocks of an ETC2 RGB picture by their kinds; together they are all of its blocks.
 #[derive(Clone, Copy, Debug, Default, PartialEq, Eq, Hash)]
@@ -44,15 +46,24 @@ pub struct Rgba1Counts {
 /// Refuses with [`Refusal::TooLarge`] or [`Refusal::ShortData`], tested in that order.
 ///
 /// ```
-/// let counts = yalivucu::census_etc2_rgb(&[0x04, 0, 0, 0x02, 0, 0, 0, 0], 4, 4)?;
+/// use yalivucu::typed::{census_etc2_rgb, Picture, Refusal};
+///
+/// let counts = census_etc2_rgb(&[0x04, 0, 0, 0x02, 0, 0, 0, 0], Picture::new(4, 4))?;
 /// assert_eq!((counts.t, counts.individual), (1, 0));
-/// # Ok::<(), yalivucu::Refusal>(())
+/// # Ok::<(), Refusal>(())
 /// ```
-pub fn census_etc2_rgb(data: &[u8], width: usize, height: usize) -> Result<RgbCounts, Refusal> {
+pub fn census_etc2_rgb(data: &[u8], picture: Picture) -> Result<RgbCounts, Refusal> {
     let mut counts = [0; 5];
     // SAFETY: the pointers and lengths are those of a slice and an array that live through the call.
     let number = unsafe {
-        sys::yalivucu_census_etc2_rgb(data.as_ptr(), data.len(), width, height, counts.as_mut_ptr(), counts.len())
+        sys::yalivucu_census_etc2_rgb(
+            data.as_ptr(),
+            data.len(),
+            picture.width,
+            picture.height,
+            counts.as_mut_ptr(),
+            counts.len(),
+        )
     };
     Refusal::answered(number, 0)?;
     let [individual, differential, t, h, planar] = counts;
@@ -69,11 +80,26 @@ pub fn census_etc2_rgb(data: &[u8], width: usize, height: usize) -> Result<RgbCo
 /// the last block are not counted.
 ///
 /// Refuses with [`Refusal::TooLarge`] or [`Refusal::ShortData`], tested in that order.
-pub fn census_etc2_rgba1(data: &[u8], width: usize, height: usize) -> Result<Rgba1Counts, Refusal> {
+///
+/// ```
+/// use yalivucu::typed::{census_etc2_rgba1, Picture, Refusal};
+///
+/// let counts = census_etc2_rgba1(&[0; 8], Picture::new(4, 4))?;
+/// assert_eq!((counts.opaque.differential, counts.clear.differential), (0, 1));
+/// # Ok::<(), Refusal>(())
+/// ```
+pub fn census_etc2_rgba1(data: &[u8], picture: Picture) -> Result<Rgba1Counts, Refusal> {
     let mut counts = [0; 8];
     // SAFETY: the pointers and lengths are those of a slice and an array that live through the call.
     let number = unsafe {
-        sys::yalivucu_census_etc2_rgba1(data.as_ptr(), data.len(), width, height, counts.as_mut_ptr(), counts.len())
+        sys::yalivucu_census_etc2_rgba1(
+            data.as_ptr(),
+            data.len(),
+            picture.width,
+            picture.height,
+            counts.as_mut_ptr(),
+            counts.len(),
+        )
     };
     Refusal::answered(number, 0)?;
     let kinds = |at: usize| KindCounts {

@@ -1,223 +1,165 @@
 //! ETC1, ETC2 and EAC textures, read by code that is proved to follow the Khronos text: a
-//! drop-in for the ETC part of `texture2ddecoder`, with its function names and arguments.
+//! drop-in for the ETC part of `texture2ddecoder`, with its function names and their exact types.
 //!
-//! A viewer moves over by one line of `Cargo.toml` and the name in its `use`:
+//! A viewer moves over by one line of `Cargo.toml`, and its source does not change:
 //!
-//! ```
-//! use yalivucu::decode_etc1;
-//!
-//! let data = [0x04, 0, 0, 0x02, 0, 0, 0, 0]; // one block of 8 bytes
-//! let mut image = [0; 16];
-//! decode_etc1(&data, 4, 4, &mut image)?;
-//! assert_eq!(image[..4], [0xff020202, 0xff020202, 0xffe90202, 0xffe90202]);
-//! # Ok::<(), yalivucu::Refusal>(())
+//! ```toml
+//! texture2ddecoder = { package = "yalivucu", path = "yalivucu/bindings/rust" }
 //! ```
 //!
-//! Every function is safe to call with anything. It reads the picture, or it refuses and
-//! changes nothing; there is no third outcome, and no panic. A pixel is
-//! `alpha << 24 | red << 16 | green << 8 | blue`, and pixel (x, y) is `image[y * width + x]`.
-//! Bytes beyond the last block are not read; elements beyond the picture keep their value.
+//! A picture reader reads the picture, or refuses with a text and changes nothing: there is no
+//! third outcome. The texts are the crate's own two, and one more where a side is above 16,384. A block reader
+//! of the crate returns nothing, so what it refuses it can only panic at, as the crate does: here
+//! with a sentence, and before anything is written. [`typed`] has the same readers with a
+//! [`Refusal`](typed::Refusal) in place of text and panic, and what is ours alone.
+//!
+//! A pixel is `alpha << 24 | red << 16 | green << 8 | blue`, and pixel (x, y) is
+//! `image[y * width + x]`. Bytes beyond the last block are not read; elements beyond the picture
+//! keep their value. Where the pixels differ from the crate's on purpose, docs/DIFFERENCES.md of
+//! the repository says on which formats and bytes.
 //!
 //! What is proved is the code in the archive, up to its functions of C names. The few lines
 //! here that call them are not proved. On x86-64 the archive is what `rt staticlib` made; on
 //! any other machine the proved module was compiled natively by the kit's own clang, a step
 //! that `rt` does not do itself (`bindings/archive`).
 #![no_std]
+#![warn(missing_docs)]
 
 mod census;
 mod refusal;
+mod sys;
+pub mod typed;
 
-pub use census::{census_etc2_rgb, census_etc2_rgba1, KindCounts, RgbCounts, Rgba1Counts};
-pub use refusal::Refusal;
-
-/// The functions of the archive. A slice goes over as its pointer and its length.
-mod sys {
-    macro_rules! declared {
-        ($($name:ident)*) => {$(
-            pub fn $name(data: *const u8, data_len: usize, width: usize, height: usize, image: *mut u32, image_len: usize) -> u32;
-        )*};
-    }
-    macro_rules! declared_block {
-        ($($name:ident)*) => {$(
-            pub fn $name(data: *const u8, data_len: usize, out: *mut u32, out_len: usize) -> u32;
-        )*};
-    }
-    macro_rules! declared_channel {
-        ($($name:ident)*) => {$(
-            pub fn $name(data: *const u8, data_len: usize, channel: usize, out: *mut u32, out_len: usize) -> u32;
-        )*};
-    }
-    macro_rules! declared_census {
-        ($($name:ident)*) => {$(
-            pub fn $name(data: *const u8, data_len: usize, width: usize, height: usize, counts: *mut usize, counts_len: usize) -> u32;
-        )*};
-    }
-    extern "C" {
-        declared_census! {
-            yalivucu_census_etc2_rgb
-            yalivucu_census_etc2_rgba1
-        }
-        declared! {
-            yalivucu_decode_etc1
-            yalivucu_decode_etc2_rgb
-            yalivucu_decode_etc2_rgba1
-            yalivucu_decode_etc2_rgba8
-            yalivucu_decode_eacr
-            yalivucu_decode_eacr_signed
-            yalivucu_decode_eacrg
-            yalivucu_decode_eacrg_signed
-        }
-        declared_block! {
-            yalivucu_decode_etc1_block
-            yalivucu_decode_etc2_rgb_block
-            yalivucu_decode_etc2_rgba1_block
-            yalivucu_decode_etc2_rgba8_block
-            yalivucu_decode_eacr_block
-            yalivucu_decode_eacr_signed_block
-            yalivucu_decode_eacrg_block
-            yalivucu_decode_eacrg_signed_block
-            yalivucu_decode_etc2_a8_block
-        }
-        declared_channel! {
-            yalivucu_decode_eac_block
-            yalivucu_decode_eac_signed_block
-        }
-        pub fn yalivucu_decode_etc1_strict(
-            data: *const u8,
-            data_len: usize,
-            width: usize,
-            height: usize,
-            image: *mut u32,
-            image_len: usize,
-            block: *mut usize,
-        ) -> u32;
-    }
-}
+use typed::{Format, Picture, Refusal};
 
 macro_rules! pictures {
-    ($($(#[$doc:meta])* $name:ident = $called:ident;)*) => {$(
+    ($($(#[$doc:meta])* $name:ident = $format:ident;)*) => {$(
         $(#[$doc])*
         ///
-        /// Refuses with [`Refusal::TooLarge`], [`Refusal::ShortData`] or [`Refusal::ShortImage`],
-        /// tested in that order, and then `image` is as it was.
-        pub fn $name(data: &[u8], width: usize, height: usize, image: &mut [u32]) -> Result<(), Refusal> {
-            // SAFETY: the pointers and lengths are those of two slices that live through the call.
-            let number = unsafe {
-                sys::$called(data.as_ptr(), data.len(), width, height, image.as_mut_ptr(), image.len())
-            };
-            Refusal::answered(number, 0)
+        /// Refuses where a side is above 16,384, where there are too few bytes, or where `image`
+        /// has too few elements, tested in that order, and then `image` is as it was.
+        ///
+        /// ```
+        #[doc = concat!("use yalivucu::", stringify!($name), ";")]
+        ///
+        /// let mut image = [7; 16];
+        #[doc = concat!("let refused = ", stringify!($name), "(&[0; 7], 4, 4, &mut image);")]
+        /// assert_eq!(refused, Err("Not enough data to decode image!"));
+        /// assert_eq!(image, [7; 16]);
+        #[doc = concat!(stringify!($name), "(&[0; 16], 4, 4, &mut image)?;")]
+        /// assert!(image.iter().all(|pixel| *pixel == image[0] && *pixel != 7));
+        /// # Ok::<(), &'static str>(())
+        /// ```
+        pub fn $name(data: &[u8], width: usize, height: usize, image: &mut [u32]) -> Result<(), &'static str> {
+            typed::read(Format::$format, data, Picture::new(width, height), image).map_err(Refusal::text)
         }
     )*};
 }
 
 macro_rules! blocks {
-    ($($(#[$doc:meta])* $name:ident = $called:ident;)*) => {$(
+    ($($(#[$doc:meta])* $name:ident = $called:expr;)*) => {$(
         $(#[$doc])*
         ///
-        /// Refuses with [`Refusal::ShortData`] or, for fewer than 16 elements,
-        /// [`Refusal::ShortImage`], tested in that order, and then `out` is as it was.
-        pub fn $name(data: &[u8], out: &mut [u32]) -> Result<(), Refusal> {
-            // SAFETY: the pointers and lengths are those of two slices that live through the call.
-            let number = unsafe { sys::$called(data.as_ptr(), data.len(), out.as_mut_ptr(), out.len()) };
-            Refusal::answered(number, 0)
+        /// # Panics
+        ///
+        /// Where `data` has fewer bytes than the block, or `outbuf` fewer than 16 elements;
+        /// nothing is written then. [`typed`] has readers that refuse instead.
+        ///
+        /// ```
+        #[doc = concat!("use yalivucu::", stringify!($name), ";")]
+        ///
+        /// let mut pixels = [0x00070707; 17];
+        #[doc = concat!(stringify!($name), "(&[0; 16], &mut pixels);")]
+        /// assert!(pixels[..16].iter().all(|pixel| *pixel == pixels[0]));
+        /// assert_eq!(pixels[16], 0x00070707);
+        /// ```
+        pub fn $name(data: &[u8], outbuf: &mut [u32]) {
+            shown($called(data, outbuf));
         }
     )*};
 }
 
 macro_rules! channels {
-    ($($(#[$doc:meta])* $name:ident = $called:ident;)*) => {$(
+    ($($(#[$doc:meta])* $name:ident = $called:path;)*) => {$(
         $(#[$doc])*
         ///
-        /// Refuses with [`Refusal::NoChannel`], [`Refusal::ShortData`] or, for fewer than 16
-        /// elements, [`Refusal::ShortImage`], tested in that order, and then `out` is as it was.
-        pub fn $name(data: &[u8], channel: usize, out: &mut [u32]) -> Result<(), Refusal> {
-            // SAFETY: the pointers and lengths are those of two slices that live through the call.
-            let number = unsafe {
-                sys::$called(data.as_ptr(), data.len(), channel, out.as_mut_ptr(), out.len())
-            };
-            Refusal::answered(number, 0)
+        /// # Panics
+        ///
+        /// Where `color` is above 3, `data` has fewer than 8 bytes, or `outbuf` fewer than 16
+        /// elements; nothing is written then. [`typed`] has readers that refuse instead.
+        ///
+        /// ```
+        #[doc = concat!("use yalivucu::", stringify!($name), ";")]
+        ///
+        /// let mut pixels = [0x11000000; 16];
+        #[doc = concat!(stringify!($name), "(&[0x40, 0, 0, 0, 0, 0, 0, 0], 2, &mut pixels);")]
+        /// assert!(pixels.iter().all(|pixel| *pixel == pixels[0] && pixel >> 24 == 0x11));
+        /// assert!(pixels[0] & 0x00ff_0000 != 0);
+        /// ```
+        pub fn $name(data: &[u8], color: usize, outbuf: &mut [u32]) {
+            shown($called(data, color, outbuf));
         }
     )*};
 }
 
+/// What a block reader of the crate's type does with a refusal: it has no answer to give.
+#[track_caller]
+fn shown(answer: Result<(), Refusal>) {
+    if let Err(refusal) = answer {
+        panic!("{refusal}");
+    }
+}
+
+/// The block reader of a format, as the macro above calls it.
+fn of(format: Format) -> impl Fn(&[u8], &mut [u32]) -> Result<(), Refusal> {
+    move |data, outbuf| typed::read_block(format, data, outbuf)
+}
+
 pictures! {
     /// Reads an ETC1 picture, in blocks of 8 bytes.
-    decode_etc1 = yalivucu_decode_etc1;
+    decode_etc1 = Etc1;
     /// Reads an ETC2 RGB picture, in blocks of 8 bytes.
-    decode_etc2_rgb = yalivucu_decode_etc2_rgb;
+    decode_etc2_rgb = Etc2Rgb;
     /// Reads an ETC2 RGBA1 picture, in blocks of 8 bytes.
-    decode_etc2_rgba1 = yalivucu_decode_etc2_rgba1;
+    decode_etc2_rgba1 = Etc2Rgba1;
     /// Reads an ETC2 RGBA8 picture, in blocks of 16 bytes.
-    decode_etc2_rgba8 = yalivucu_decode_etc2_rgba8;
+    decode_etc2_rgba8 = Etc2Rgba8;
     /// Reads an EAC R picture, in blocks of 8 bytes.
-    decode_eacr = yalivucu_decode_eacr;
+    decode_eacr = EacR;
     /// Reads a signed EAC R picture, in blocks of 8 bytes.
-    decode_eacr_signed = yalivucu_decode_eacr_signed;
+    decode_eacr_signed = EacRSigned;
     /// Reads an EAC RG picture, in blocks of 16 bytes.
-    decode_eacrg = yalivucu_decode_eacrg;
+    decode_eacrg = EacRg;
     /// Reads a signed EAC RG picture, in blocks of 16 bytes.
-    decode_eacrg_signed = yalivucu_decode_eacrg_signed;
+    decode_eacrg_signed = EacRgSigned;
 }
 
 blocks! {
     /// Reads an ETC1 block of 8 bytes into the elements 0 to 15, row by row.
-    decode_etc1_block = yalivucu_decode_etc1_block;
+    decode_etc1_block = of(Format::Etc1);
     /// Reads an ETC2 RGB block of 8 bytes into the elements 0 to 15, row by row.
-    decode_etc2_rgb_block = yalivucu_decode_etc2_rgb_block;
+    decode_etc2_rgb_block = of(Format::Etc2Rgb);
     /// Reads an ETC2 RGBA1 block of 8 bytes into the elements 0 to 15, row by row.
-    decode_etc2_rgba1_block = yalivucu_decode_etc2_rgba1_block;
+    decode_etc2_rgba1_block = of(Format::Etc2Rgba1);
     /// Reads an ETC2 RGBA8 block of 16 bytes into the elements 0 to 15, row by row.
-    decode_etc2_rgba8_block = yalivucu_decode_etc2_rgba8_block;
+    decode_etc2_rgba8_block = of(Format::Etc2Rgba8);
     /// Reads an EAC R block of 8 bytes into the elements 0 to 15, row by row.
-    decode_eacr_block = yalivucu_decode_eacr_block;
+    decode_eacr_block = of(Format::EacR);
     /// Reads a signed EAC R block of 8 bytes into the elements 0 to 15, row by row.
-    decode_eacr_signed_block = yalivucu_decode_eacr_signed_block;
+    decode_eacr_signed_block = of(Format::EacRSigned);
     /// Reads an EAC RG block of 16 bytes into the elements 0 to 15, row by row.
-    decode_eacrg_block = yalivucu_decode_eacrg_block;
+    decode_eacrg_block = of(Format::EacRg);
     /// Reads a signed EAC RG block of 16 bytes into the elements 0 to 15, row by row.
-    decode_eacrg_signed_block = yalivucu_decode_eacrg_signed_block;
+    decode_eacrg_signed_block = of(Format::EacRgSigned);
     /// Reads an alpha half of 8 bytes into the top bytes of the elements 0 to 15, and keeps
     /// the rest of them.
-    decode_etc2_a8_block = yalivucu_decode_etc2_a8_block;
+    decode_etc2_a8_block = typed::read_alpha;
 }
 
 channels! {
     /// Reads an EAC block of 8 bytes and ORs its bytes into channel 0 blue, 1 green, 2 red or
     /// 3 alpha of the elements 0 to 15.
-    decode_eac_block = yalivucu_decode_eac_block;
+    decode_eac_block = typed::read_channel;
     /// The same of a signed EAC block.
-    decode_eac_signed_block = yalivucu_decode_eac_signed_block;
-}
-
-/// Reads an ETC1 picture that holds no block out of range, and refuses any other with
-/// [`Refusal::OutOfRange`] and the number of the first such block. What it accepts, an ETC2
-/// decoder shows alike.
-///
-/// Refuses with [`Refusal::TooLarge`], [`Refusal::ShortData`], [`Refusal::ShortImage`] or
-/// [`Refusal::OutOfRange`], tested in that order, and then `image` is as it was.
-///
-/// ```
-/// use yalivucu::{decode_etc1_strict, Refusal};
-///
-/// let mut image = [7; 16];
-/// let refused = decode_etc1_strict(&[0x04, 0, 0, 0x02, 0, 0, 0, 0], 4, 4, &mut image);
-/// assert_eq!(refused, Err(Refusal::OutOfRange { block: 0 }));
-/// assert_eq!(image, [7; 16]);
-/// ```
-pub fn decode_etc1_strict(data: &[u8], width: usize, height: usize, image: &mut [u32]) -> Result<(), Refusal> {
-    let mut block = 0;
-    // SAFETY: the pointers and lengths are those of two slices that live through the call, and
-    // `block` is a local of its own.
-    let number = unsafe {
-        sys::yalivucu_decode_etc1_strict(
-            data.as_ptr(),
-            data.len(),
-            width,
-            height,
-            image.as_mut_ptr(),
-            image.len(),
-            &mut block,
-        )
-    };
-    Refusal::answered(number, block)
+    decode_eac_signed_block = typed::read_channel_signed;
 }

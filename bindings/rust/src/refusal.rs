@@ -3,6 +3,7 @@ use core::fmt;
 
 /// Why a reader refused. A refusal changes no element of the image.
 #[derive(Clone, Copy, Debug, PartialEq, Eq, Hash)]
+#[non_exhaustive]
 pub enum Refusal {
     /// Refusal 1: the width or the height is above 16,384.
     TooLarge,
@@ -17,6 +18,11 @@ pub enum Refusal {
     },
     /// Refusal 5: the channel is above 3.
     NoChannel,
+    /// A number that this package does not know: another archive than its own was linked.
+    Unknown {
+        /// What the archive answered.
+        number: u32,
+    },
 }
 
 impl Refusal {
@@ -28,22 +34,23 @@ impl Refusal {
             Refusal::ShortImage => 3,
             Refusal::OutOfRange { .. } => 4,
             Refusal::NoChannel => 5,
+            Refusal::Unknown { number } => number,
         }
     }
 
-    /// What went wrong, without the number and the block.
-    fn sentence(self) -> &'static str {
+    /// What went wrong, without the number and the block: the crate's own text where it has one.
+    pub fn text(self) -> &'static str {
         match self {
-            Refusal::TooLarge => "the width or the height is above 16,384",
-            Refusal::ShortData => "there are too few bytes for the blocks",
-            Refusal::ShortImage => "the image has too few elements",
-            Refusal::OutOfRange { .. } => "an ETC1 block has a sum out of range",
-            Refusal::NoChannel => "the channel is above 3",
+            Refusal::TooLarge => "The width or the height is above 16,384!",
+            Refusal::ShortData => "Not enough data to decode image!",
+            Refusal::ShortImage => "Image buffer is too small!",
+            Refusal::OutOfRange { .. } => "An ETC1 block has a sum out of range!",
+            Refusal::NoChannel => "The channel is above 3!",
+            Refusal::Unknown { .. } => "The linked library gave an answer that this package does not know!",
         }
     }
 
-    /// What an answer of the archive means. It answers 0 to 5, which is proved; any other
-    /// number would mean that something else was linked in its place.
+    /// What a number of the archive means, with the block that came with it.
     pub(crate) fn answered(number: u32, block: usize) -> Result<(), Refusal> {
         match number {
             0 => Ok(()),
@@ -52,26 +59,33 @@ impl Refusal {
             3 => Err(Refusal::ShortImage),
             4 => Err(Refusal::OutOfRange { block }),
             5 => Err(Refusal::NoChannel),
-            other => unreachable!("the linked library answered {other}"),
+            number => Err(Refusal::Unknown { number }),
         }
     }
 }
 
 impl fmt::Display for Refusal {
     fn fmt(&self, f: &mut fmt::Formatter<'_>) -> fmt::Result {
-        write!(f, "Refusal {}: {}", self.number(), self.sentence())?;
-        if let Refusal::OutOfRange { block } = self {
-            write!(f, ", the first of them block {block}")?;
+        let number = self.number();
+        match self {
+            Refusal::TooLarge => write!(f, "Refusal {number}: the width or the height is above 16,384."),
+            Refusal::ShortData => write!(f, "Refusal {number}: there are too few bytes for the blocks."),
+            Refusal::ShortImage => write!(f, "Refusal {number}: the image has too few elements."),
+            Refusal::OutOfRange { block } => write!(
+                f,
+                "Refusal {number}: an ETC1 block has a sum out of range, the first of them block {block}."
+            ),
+            Refusal::NoChannel => write!(f, "Refusal {number}: the channel is above 3."),
+            Refusal::Unknown { .. } => write!(f, "Refusal {number}: the linked library is not this package's own."),
         }
-        f.write_str(".")
     }
 }
 
 impl core::error::Error for Refusal {}
 
-/// For callers that hand the crate's own errors on by `?`.
+/// For callers whose errors are the crate's texts.
 impl From<Refusal> for &'static str {
     fn from(refusal: Refusal) -> Self {
-        refusal.sentence()
+        refusal.text()
     }
 }

@@ -1,64 +1,58 @@
 //! Every reader with wrong lengths and sizes, and with what is just enough.
-use yalivucu::*;
-
-type Picture = fn(&[u8], usize, usize, &mut [u32]) -> Result<(), Refusal>;
-type Block = fn(&[u8], &mut [u32]) -> Result<(), Refusal>;
-type Channel = fn(&[u8], usize, &mut [u32]) -> Result<(), Refusal>;
+use yalivucu::typed::*;
 
 const STOOD: u32 = 0x1111_1111;
 
-/// Each picture reader, and the bytes of its blocks.
-const PICTURES: [(Picture, usize); 9] = [
-    (decode_etc1, 8),
-    (decode_etc1_strict, 8),
-    (decode_etc2_rgb, 8),
-    (decode_etc2_rgba1, 8),
-    (decode_etc2_rgba8, 16),
-    (decode_eacr, 8),
-    (decode_eacr_signed, 8),
-    (decode_eacrg, 16),
-    (decode_eacrg_signed, 16),
-];
+/// A reader of pictures, by its format or strict.
+#[derive(Clone, Copy)]
+enum Reader {
+    Plain(Format),
+    Strict,
+}
 
-const BLOCKS: [(Block, usize); 9] = [
-    (decode_etc1_block, 8),
-    (decode_etc2_rgb_block, 8),
-    (decode_etc2_rgba1_block, 8),
-    (decode_etc2_rgba8_block, 16),
-    (decode_etc2_a8_block, 8),
-    (decode_eacr_block, 8),
-    (decode_eacr_signed_block, 8),
-    (decode_eacrg_block, 16),
-    (decode_eacrg_signed_block, 16),
-];
+impl Reader {
+    fn all() -> impl Iterator<Item = Reader> {
+        Format::ALL.into_iter().map(Reader::Plain).chain([Reader::Strict])
+    }
 
-const CHANNELS: [Channel; 2] = [decode_eac_block, decode_eac_signed_block];
+    fn block_size(self) -> usize {
+        match self {
+            Reader::Plain(format) => format.block_size(),
+            Reader::Strict => 8,
+        }
+    }
 
-/// Reads with so many bytes and elements, and sees that a refusal changed nothing.
-fn read(reader: Picture, bytes: usize, width: usize, height: usize, elements: usize) -> Result<(), Refusal> {
-    let mut image = vec![STOOD; elements];
-    let answer = reader(&vec![0; bytes], width, height, &mut image);
-    let written = if answer.is_ok() { width * height } else { 0 };
-    assert!(image[..written].iter().all(|pixel| *pixel != STOOD));
-    assert!(image[written..].iter().all(|pixel| *pixel == STOOD));
-    answer
+    /// Reads with so many bytes and elements, and sees that a refusal changed nothing.
+    fn read(self, bytes: usize, width: usize, height: usize, elements: usize) -> Result<(), Refusal> {
+        let mut image = vec![STOOD; elements];
+        let data = vec![0; bytes];
+        let picture = Picture::new(width, height);
+        let answer = match self {
+            Reader::Plain(format) => read(format, &data, picture, &mut image),
+            Reader::Strict => read_strict(&data, picture, &mut image),
+        };
+        let written = if answer.is_ok() { width * height } else { 0 };
+        assert!(image[..written].iter().all(|pixel| *pixel != STOOD));
+        assert!(image[written..].iter().all(|pixel| *pixel == STOOD));
+        answer
+    }
 }
 
 #[test]
 fn every_size_of_data_and_image() {
-    for (reader, size) in PICTURES {
+    for reader in Reader::all() {
         for width in 0..10_usize {
             for height in 0..10_usize {
-                let bytes = width.div_ceil(4) * height.div_ceil(4) * size;
+                let bytes = width.div_ceil(4) * height.div_ceil(4) * reader.block_size();
                 let pixels = width * height;
-                assert_eq!(read(reader, bytes, width, height, pixels), Ok(()));
-                assert_eq!(read(reader, bytes + 5, width, height, pixels + 5), Ok(()));
+                assert_eq!(reader.read(bytes, width, height, pixels), Ok(()));
+                assert_eq!(reader.read(bytes + 5, width, height, pixels + 5), Ok(()));
                 if pixels > 0 {
                     assert_eq!(
-                        read(reader, bytes - 1, width, height, pixels - 1),
+                        reader.read(bytes - 1, width, height, pixels - 1),
                         Err(Refusal::ShortData)
                     );
-                    assert_eq!(read(reader, bytes, width, height, pixels - 1), Err(Refusal::ShortImage));
+                    assert_eq!(reader.read(bytes, width, height, pixels - 1), Err(Refusal::ShortImage));
                 }
             }
         }
@@ -67,20 +61,36 @@ fn every_size_of_data_and_image() {
 
 #[test]
 fn the_largest_sizes() {
-    for (reader, size) in PICTURES {
-        assert_eq!(read(reader, 0, 16384, 0, 0), Ok(()));
-        assert_eq!(read(reader, 0, 0, 16384, 0), Ok(()));
-        assert_eq!(read(reader, 4096 * size, 16384, 1, 16384), Ok(()));
+    for reader in Reader::all() {
+        assert_eq!(reader.read(0, 16384, 0, 0), Ok(()));
+        assert_eq!(reader.read(0, 0, 16384, 0), Ok(()));
+        assert_eq!(reader.read(4096 * reader.block_size(), 16384, 1, 16384), Ok(()));
         for (width, height) in [(16385, 0), (0, 16385), (usize::MAX, usize::MAX), (1 << 32, 1 << 32)] {
-            assert_eq!(read(reader, 64, width, height, 64), Err(Refusal::TooLarge));
+            assert_eq!(reader.read(64, width, height, 64), Err(Refusal::TooLarge));
         }
-        assert_eq!(read(reader, 64, 16384, 16384, 64), Err(Refusal::ShortData));
+        assert_eq!(reader.read(64, 16384, 16384, 64), Err(Refusal::ShortData));
     }
 }
 
 #[test]
+fn what_a_picture_needs() {
+    assert_eq!(Picture::new(5, 5).bytes(Format::Etc1), Some(32));
+    assert_eq!(Picture::new(5, 5).bytes(Format::Etc2Rgba8), Some(64));
+    assert_eq!(Picture::new(5, 5).elements(), Some(25));
+    assert_eq!(Picture::new(usize::MAX, usize::MAX).bytes(Format::Etc1), None);
+    assert_eq!(Picture::new(usize::MAX, 2).elements(), None);
+}
+
+#[test]
 fn block_readers() {
-    for (reader, size) in BLOCKS {
+    type Block = Box<dyn Fn(&[u8], &mut [u32]) -> Result<(), Refusal>>;
+    let of_formats = Format::ALL.into_iter().map(|format| -> (Block, usize) {
+        (
+            Box::new(move |data, out| read_block(format, data, out)),
+            format.block_size(),
+        )
+    });
+    for (reader, size) in of_formats.chain([(Box::new(read_alpha) as Block, 8)]) {
         let mut out = [STOOD; 20];
         assert_eq!(reader(&vec![0; size - 1], &mut out[..15]), Err(Refusal::ShortData));
         assert_eq!(reader(&vec![0; size], &mut out[..15]), Err(Refusal::ShortImage));
@@ -93,7 +103,7 @@ fn block_readers() {
 
 #[test]
 fn channels() {
-    for reader in CHANNELS {
+    for reader in [read_channel, read_channel_signed] {
         let mut out = [STOOD; 20];
         for channel in [4, 5, usize::MAX] {
             assert_eq!(reader(&[], channel, &mut out[..3]), Err(Refusal::NoChannel));
@@ -114,10 +124,10 @@ fn strict_names_the_first_block() {
     data[16..20].copy_from_slice(&[0x04, 0, 0, 0x02]);
     data[24..28].copy_from_slice(&[0x04, 0, 0, 0x02]);
     let mut image = [STOOD; 25];
-    let refused = decode_etc1_strict(&data, 5, 5, &mut image);
+    let refused = read_strict(&data, Picture::new(5, 5), &mut image);
     assert_eq!(refused, Err(Refusal::OutOfRange { block: 2 }));
     assert_eq!(image, [STOOD; 25]);
-    assert_eq!(decode_etc1(&data, 5, 5, &mut image), Ok(()));
+    assert_eq!(read(Format::Etc1, &data, Picture::new(5, 5), &mut image), Ok(()));
 }
 
 #[test]
@@ -139,13 +149,16 @@ fn refusals_say_what_is_wrong() {
     assert_eq!(told(Refusal::NoChannel), "Refusal 5: the channel is above 3.");
 }
 
-/// A caller written for the crate, whose errors are texts, compiles as it stands.
+/// A refusal is an error like any other.
 #[test]
-fn the_crates_own_errors() {
-    fn viewer(data: &[u8], image: &mut [u32]) -> Result<(), &'static str> {
-        decode_etc1(data, 4, 4, image)?;
+fn refusals_are_errors() {
+    fn viewer(image: &mut [u32]) -> Result<(), Box<dyn std::error::Error>> {
+        read(Format::Etc1, &[0; 8], Picture::new(4, 4), image)?;
         Ok(())
     }
-    assert_eq!(viewer(&[0; 8], &mut [0; 16]), Ok(()));
-    assert!(viewer(&[0; 7], &mut [0; 16]).is_err());
+    assert!(viewer(&mut [0; 16]).is_ok());
+    assert_eq!(
+        viewer(&mut [0; 15]).unwrap_err().to_string(),
+        Refusal::ShortImage.to_string()
+    );
 }

@@ -25,7 +25,7 @@ pub fn call_on(
     call(number, channel, width, height, &data[..n], &mut image[..m])
 }
 
-// The last reader is called where a number names none.
+// The number is a reader's, by `is_reader`. Each match is short: what the check of one costs grows faster than its arms.
 fn call(
     number: u32,
     channel: usize,
@@ -37,11 +37,8 @@ fn call(
     if number <= 8 {
         return picture(number, data, width, height, image);
     }
-    if number == 21 {
-        return etc::decode_eac_block(data, channel, image);
-    }
-    if number == 22 {
-        return etc::decode_eac_signed_block(data, channel, image);
+    if number <= 20 {
+        return colour_block(number, data, image);
     }
     if number == 32 {
         return census::rgb(data, width, height, image);
@@ -49,30 +46,51 @@ fn call(
     if number == 33 {
         return census::rgba1(data, width, height, image);
     }
-    block(number, data, image)
+    channel_block(number, channel, data, image)
 }
 
 fn picture(number: u32, data: &[u8], width: usize, height: usize, image: &mut [u32]) -> Answer {
+    if number <= 3 {
+        return colours(number, data, width, height, image);
+    }
+    if number <= 7 {
+        return channels(number, data, width, height, image);
+    }
+    etc::decode_etc1_strict(data, width, height, image)
+}
+
+fn colours(number: u32, data: &[u8], width: usize, height: usize, image: &mut [u32]) -> Answer {
     match number {
         0 => etc::decode_etc1(data, width, height, image),
         1 => etc::decode_etc2_rgb(data, width, height, image),
         2 => etc::decode_etc2_rgba1(data, width, height, image),
-        3 => etc::decode_etc2_rgba8(data, width, height, image),
-        4 => etc::decode_eacr(data, width, height, image),
-        5 => etc::decode_eacr_signed(data, width, height, image),
-        6 => etc::decode_eacrg(data, width, height, image),
-        7 => etc::decode_eacrg_signed(data, width, height, image),
-        _ => etc::decode_etc1_strict(data, width, height, image),
+        _ => etc::decode_etc2_rgba8(data, width, height, image),
     }
 }
 
-fn block(number: u32, data: &[u8], image: &mut [u32]) -> Answer {
+fn channels(number: u32, data: &[u8], width: usize, height: usize, image: &mut [u32]) -> Answer {
+    match number {
+        4 => etc::decode_eacr(data, width, height, image),
+        5 => etc::decode_eacr_signed(data, width, height, image),
+        6 => etc::decode_eacrg(data, width, height, image),
+        _ => etc::decode_eacrg_signed(data, width, height, image),
+    }
+}
+
+fn colour_block(number: u32, data: &[u8], image: &mut [u32]) -> Answer {
     match number {
         16 => etc::decode_etc1_block(data, image),
         17 => etc::decode_etc2_rgb_block(data, image),
         18 => etc::decode_etc2_rgba1_block(data, image),
         19 => etc::decode_etc2_a8_block(data, image),
-        20 => etc::decode_etc2_rgba8_block(data, image),
+        _ => etc::decode_etc2_rgba8_block(data, image),
+    }
+}
+
+fn channel_block(number: u32, channel: usize, data: &[u8], image: &mut [u32]) -> Answer {
+    match number {
+        21 => etc::decode_eac_block(data, channel, image),
+        22 => etc::decode_eac_signed_block(data, channel, image),
         23 => etc::decode_eacr_block(data, image),
         24 => etc::decode_eacr_signed_block(data, image),
         25 => etc::decode_eacrg_block(data, image),

@@ -4,11 +4,14 @@ use super::wire;
 use super::wire::low;
 use super::wire::word;
 use rules::Answer;
-ghost use Prim.Native.Nat.{_≤_, _<_};
+ghost use mathlib.Core.Path.{_≡_};
+ghost use Prim.Native.Nat.{_*_, _≤_, _<_};
+ghost use Rattle.answers.specs.Wire.{wordAt, atMost};
 
 // The k-th word of a head: reader, channel, width, height, bytes of data, elements.
 fn field(head: &[u8; 24], k: usize) -> u32
     requires { ⌜ k < 6 ⌝ }
+    ensures { λ r. ⌜ r ≡ wordAt (now (head .entry)) (k * 4) ⌝ }
 {
     let at = k * 4;
     word(head[at], head[at + 1], head[at + 2], head[at + 3])
@@ -16,22 +19,33 @@ fn field(head: &[u8; 24], k: usize) -> u32
 
 // How many bytes of data the head of a case asks for.
 pub fn data_length(head: &[u8; 24]) -> usize
-    ensures { λ r. ⌜ r ≤ 65536 ⌝ }
+    ensures { λ r. ⌜ (r ≡ atMost 65536 (wordAt (now (head .entry)) 16)) × (r ≤ 65536) ⌝ }
 {
-    at_most(65536, field(head, 4) as usize)
+    length_of(head, 4, 65536)
 }
 
 // How many elements it asks for.
 pub fn image_length(head: &[u8; 24]) -> usize
-    ensures { λ r. ⌜ r ≤ 16384 ⌝ }
+    ensures { λ r. ⌜ (r ≡ atMost 16384 (wordAt (now (head .entry)) 20)) × (r ≤ 16384) ⌝ }
 {
-    at_most(16384, field(head, 5) as usize)
+    length_of(head, 5, 16384)
+}
+
+// A length that the head asks for, or the most that there is room for.
+fn length_of(head: &[u8; 24], k: usize, most: usize) -> usize
+    requires { ⌜ k < 6 ⌝ }
+    ensures { λ r. ⌜ (r ≡ atMost most (wordAt (now (head .entry)) (k * 4))) × (r ≤ most) ⌝ }
+{
+    at_most(most, field(head, k) as usize)
 }
 
 fn at_most(most: usize, n: usize) -> usize
-    ensures { λ r. ⌜ r ≤ most ⌝ }
+    ensures { λ r. ⌜ (r ≡ atMost most n) × (r ≤ most) ⌝ }
 {
-    if most < n { most } else { n }
+    if most < n {
+        return most;
+    }
+    n
 }
 
 // Whether the reader is one, and there is room for the lengths.

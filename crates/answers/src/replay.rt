@@ -75,16 +75,28 @@ fn is_held(
         return false;
     }
     let said = case::answered(head, data, shown, image);
-    let mut to_say = [0u8; 8];
-    if !wire::taken(&mut to_say, 8) {
+    let is_right = is_said(&said);
+    is_shown(shown, due, case::image_length(head) * 4) && is_right
+}
+
+// Whether the next eight bytes of the list are these.
+fn is_said(said: &[u8; 8]) -> bool {
+    let mut due = [0u8; 8];
+    if !wire::taken(&mut due, 8) {
         return false;
     }
-    let m = case::image_length(head) * 4;
-    if !wire::taken(due, m) {
+    check::same(said, &due)
+}
+
+// Whether the next n bytes of the list are the first n of these.
+fn is_shown(shown: &[u8; 65536], due: &mut [u8; 65536], n: usize) -> bool {
+    if 65536 < n {
         return false;
     }
-    let is_said = check::same(&said, &to_say);
-    is_said && is_same(shown, due, m)
+    if !wire::taken(due, n) {
+        return false;
+    }
+    is_same(shown, due, n)
 }
 
 // Whether the first n bytes are the same.

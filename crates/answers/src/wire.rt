@@ -1,7 +1,9 @@
 // Bytes from standard input and to standard output, and the words of 32 bits that they make, low byte first.
 use libc::STDIN_FILENO;
 use libc::STDOUT_FILENO;
-ghost use Prim.Native.Nat.{_≤_};
+ghost use mathlib.Core.Path.{_≡_};
+ghost use Prim.Native.Nat.{_≤_, _%_};
+ghost use Rattle.answers.specs.Wire.{wordOf};
 
 // Fills the first n bytes. False where the input ends before, or there is no room.
 pub fn taken(part: &mut [u8], n: usize) -> bool {
@@ -21,12 +23,16 @@ pub fn given(part: &[u8], n: usize) -> bool {
 }
 
 // The word that four bytes make.
-pub fn word(a: u8, b: u8, c: u8, d: u8) -> u32 {
+pub fn word(a: u8, b: u8, c: u8, d: u8) -> u32
+    ensures { λ r. ⌜ r ≡ wordOf a b c d ⌝ }
+{
     a as u32 + b as u32 * 256 + c as u32 * 65536 + d as u32 * 16777216
 }
 
 // The lowest byte of a number.
-pub fn low(x: u32) -> u8 {
+pub fn low(x: u32) -> u8
+    ensures { λ r. ⌜ r ≡ x % 256 ⌝ }
+{
     (x % 256) as u8
 }
 

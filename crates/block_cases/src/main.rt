@@ -4,14 +4,32 @@ use rules::Answer;
 
 // The block readers by number; the single channels are 5 and 6.
 fn read(reader: u8, channel: usize, data: &[u8], image: &mut [u32]) -> Answer {
+    if reader < 5 {
+        return colour(reader, data, image);
+    }
+    if reader == 5 {
+        return etc::decode_eac_block(data, channel, image);
+    }
+    if reader == 6 {
+        return etc::decode_eac_signed_block(data, channel, image);
+    }
+    red_and_green(reader, data, image)
+}
+
+// Readers 0 to 4.
+fn colour(reader: u8, data: &[u8], image: &mut [u32]) -> Answer {
     match reader {
         0 => etc::decode_etc1_block(data, image),
         1 => etc::decode_etc2_rgb_block(data, image),
         2 => etc::decode_etc2_rgba1_block(data, image),
         3 => etc::decode_etc2_a8_block(data, image),
-        4 => etc::decode_etc2_rgba8_block(data, image),
-        5 => etc::decode_eac_block(data, channel, image),
-        6 => etc::decode_eac_signed_block(data, channel, image),
+        _ => etc::decode_etc2_rgba8_block(data, image),
+    }
+}
+
+// Readers 7 to 10.
+fn red_and_green(reader: u8, data: &[u8], image: &mut [u32]) -> Answer {
+    match reader {
         7 => etc::decode_eacr_block(data, image),
         8 => etc::decode_eacr_signed_block(data, image),
         9 => etc::decode_eacrg_block(data, image),
@@ -141,28 +159,41 @@ fn edge(reader: u8, channel: usize, n: usize, m: usize) {
     tried(reader, channel, &data, n, &mut image, m);
 }
 
-// Every length of the data with sixteen elements; every length of the image with sixteen bytes; both short; and a bad channel, which is
-// found before either.
-fn edges(reader: u8) {
-    printing::say(b"reader ");
-    printing::say_number(reader as usize);
-    printing::say(b"\n  bytes 0 to 17:");
+// Every length of the data with sixteen elements.
+fn byte_edges(reader: u8) {
     let mut n: usize = 0;
     while n < 18 {
         edge(reader, 3, n, 16);
         n += 1;
     }
-    printing::say(b"\n  elements 0 to 17:");
+}
+
+// Every length of the image with sixteen bytes.
+fn element_edges(reader: u8) {
     let mut m: usize = 0;
     while m < 18 {
         edge(reader, 3, 16, m);
         m += 1;
     }
+}
+
+// Both short; and a bad channel, which is found before either.
+fn both_edges(reader: u8) {
     printing::say(b"\n  7 bytes and 15 elements:");
     edge(reader, 3, 7, 15);
     printing::say(b"\n  channel 4, 7 bytes and 15 elements:");
     edge(reader, 4, 7, 15);
     printing::say(b"\n");
+}
+
+fn edges(reader: u8) {
+    printing::say(b"reader ");
+    printing::say_number(reader as usize);
+    printing::say(b"\n  bytes 0 to 17:");
+    byte_edges(reader);
+    printing::say(b"\n  elements 0 to 17:");
+    element_edges(reader);
+    both_edges(reader);
 }
 
 fn main() {

@@ -7,8 +7,8 @@ use Rattle.rules.specs.Answers.{said}
 use Rattle.rules.specs.declared.Answer.{Answer}
 
 -- the number of an answer, the first of what it says on paper
-abbrev pub numberOf : Answer → ℕ
-numberOf a = getD (said a) 0 0
+abbrev pub answerNumber : Answer → ℕ
+answerNumber a = getD (said a) 0 0
 
 -- the block that an answer names, the second of what it says, or what stood there where it names none
 abbrev pub blockOr : Answer → ℕ → ℕ
@@ -18,4 +18,4 @@ blockOr a stood = getD (said a) 1 stood
 pub record Told (Reads : Answer → Type 0) (number : ℕ) : Type 0 where
   pub answer : Answer
   pub reads : Reads answer
-  pub says : number ≡ numberOf answer
+  pub says : number ≡ answerNumber answer

@@ -1,5 +1,6 @@
 // The public readers of crates/etc under C names, for `rt staticlib`: a slice is a pointer and a length, and the answer is document 01's
-// number of it. Each owes what the reader that it calls owes, and asks nothing. include/yalivucu.h tells a C programmer the same in words.
+// number of it. Each owes what the reader that it calls owes, and has no requires; that a C caller's pointers are what the types say,
+// nothing can check. include/yalivucu.h tells a C programmer the same in words.
 use rules::Answer;
 use rules::Format;
 use rules::Rgba1Census;
@@ -10,7 +11,7 @@ ghost use Rattle.rules.specs.Places.{sized};
 ghost use Rattle.rules.specs.Readers.{ReadsPicture, ReadsStrict, ReadsBlock, ReadsAlpha, ReadsChannel};
 ghost use Rattle.rules.specs.Census.{rgbTests, rgba1Tests};
 ghost use Rattle.capi.specs.Census.{Lays, CountsInto};
-ghost use Rattle.capi.specs.Told.{Told, numberOf, blockOr};
+ghost use Rattle.capi.specs.Told.{Told, blockOr};
 
 // Reads an ETC1 picture.
 #[no_mangle]
@@ -20,7 +21,9 @@ pub extern "C" fn yalivucu_decode_etc1(
     height: usize,
     image: &mut [u32],
 ) -> u32
-    ensures { λ r. ⌜ Told (λ a. ReadsPicture Format.Etc1 (now («data» .entry)) (sized width height) (now (image .entry)) a (now (image .exit))) r ⌝ }
+    ensures { λ r. ⌜ Told
+        (λ a. ReadsPicture Format.Etc1 (now («data» .entry)) (sized width height) (now (image .entry)) a (now (image .exit)))
+        r ⌝ }
 {
     etc::number(etc::decode_etc1(data, width, height, image))
 }
@@ -33,7 +36,9 @@ pub extern "C" fn yalivucu_decode_etc2_rgb(
     height: usize,
     image: &mut [u32],
 ) -> u32
-    ensures { λ r. ⌜ Told (λ a. ReadsPicture Format.Etc2Rgb (now («data» .entry)) (sized width height) (now (image .entry)) a (now (image .exit))) r ⌝ }
+    ensures { λ r. ⌜ Told
+        (λ a. ReadsPicture Format.Etc2Rgb (now («data» .entry)) (sized width height) (now (image .entry)) a (now (image .exit)))
+        r ⌝ }
 {
     etc::number(etc::decode_etc2_rgb(data, width, height, image))
 }
@@ -46,7 +51,9 @@ pub extern "C" fn yalivucu_decode_etc2_rgba1(
     height: usize,
     image: &mut [u32],
 ) -> u32
-    ensures { λ r. ⌜ Told (λ a. ReadsPicture Format.Etc2Rgba1 (now («data» .entry)) (sized width height) (now (image .entry)) a (now (image .exit))) r ⌝ }
+    ensures { λ r. ⌜ Told
+        (λ a. ReadsPicture Format.Etc2Rgba1 (now («data» .entry)) (sized width height) (now (image .entry)) a (now (image .exit)))
+        r ⌝ }
 {
     etc::number(etc::decode_etc2_rgba1(data, width, height, image))
 }
@@ -59,7 +66,9 @@ pub extern "C" fn yalivucu_decode_etc2_rgba8(
     height: usize,
     image: &mut [u32],
 ) -> u32
-    ensures { λ r. ⌜ Told (λ a. ReadsPicture Format.Etc2Rgba8 (now («data» .entry)) (sized width height) (now (image .entry)) a (now (image .exit))) r ⌝ }
+    ensures { λ r. ⌜ Told
+        (λ a. ReadsPicture Format.Etc2Rgba8 (now («data» .entry)) (sized width height) (now (image .entry)) a (now (image .exit)))
+        r ⌝ }
 {
     etc::number(etc::decode_etc2_rgba8(data, width, height, image))
 }
@@ -72,7 +81,9 @@ pub extern "C" fn yalivucu_decode_eacr(
     height: usize,
     image: &mut [u32],
 ) -> u32
-    ensures { λ r. ⌜ Told (λ a. ReadsPicture Format.EacR (now («data» .entry)) (sized width height) (now (image .entry)) a (now (image .exit))) r ⌝ }
+    ensures { λ r. ⌜ Told
+        (λ a. ReadsPicture Format.EacR (now («data» .entry)) (sized width height) (now (image .entry)) a (now (image .exit)))
+        r ⌝ }
 {
     etc::number(etc::decode_eacr(data, width, height, image))
 }
@@ -85,7 +96,9 @@ pub extern "C" fn yalivucu_decode_eacr_signed(
     height: usize,
     image: &mut [u32],
 ) -> u32
-    ensures { λ r. ⌜ Told (λ a. ReadsPicture Format.EacRSigned (now («data» .entry)) (sized width height) (now (image .entry)) a (now (image .exit))) r ⌝ }
+    ensures { λ r. ⌜ Told
+        (λ a. ReadsPicture Format.EacRSigned (now («data» .entry)) (sized width height) (now (image .entry)) a (now (image .exit)))
+        r ⌝ }
 {
     etc::number(etc::decode_eacr_signed(data, width, height, image))
 }
@@ -98,7 +111,9 @@ pub extern "C" fn yalivucu_decode_eacrg(
     height: usize,
     image: &mut [u32],
 ) -> u32
-    ensures { λ r. ⌜ Told (λ a. ReadsPicture Format.EacRg (now («data» .entry)) (sized width height) (now (image .entry)) a (now (image .exit))) r ⌝ }
+    ensures { λ r. ⌜ Told
+        (λ a. ReadsPicture Format.EacRg (now («data» .entry)) (sized width height) (now (image .entry)) a (now (image .exit)))
+        r ⌝ }
 {
     etc::number(etc::decode_eacrg(data, width, height, image))
 }
@@ -111,12 +126,15 @@ pub extern "C" fn yalivucu_decode_eacrg_signed(
     height: usize,
     image: &mut [u32],
 ) -> u32
-    ensures { λ r. ⌜ Told (λ a. ReadsPicture Format.EacRgSigned (now («data» .entry)) (sized width height) (now (image .entry)) a (now (image .exit))) r ⌝ }
+    ensures { λ r. ⌜ Told
+        (λ a. ReadsPicture Format.EacRgSigned (now («data» .entry)) (sized width height) (now (image .entry)) a (now (image .exit)))
+        r ⌝ }
 {
     etc::number(etc::decode_eacrg_signed(data, width, height, image))
 }
 
-// Reads an ETC1 picture that holds no block out of range. Where it refuses for one, `block` is its number; otherwise `block` stays as it was.
+// Reads an ETC1 picture that holds no block out of range. Where it refuses for one, `block` is its number; otherwise `block` stays as it
+// was.
 #[no_mangle]
 pub extern "C" fn yalivucu_decode_etc1_strict(
     data: &[u8],
@@ -125,7 +143,10 @@ pub extern "C" fn yalivucu_decode_etc1_strict(
     image: &mut [u32],
     block: &mut usize,
 ) -> u32
-    ensures { λ r. ⌜ Told (λ a. ReadsStrict (now («data» .entry)) (sized width height) (now (image .entry)) a (now (image .exit)) × (now (block .exit) ≡ blockOr a (now (block .entry)))) r ⌝ }
+    ensures { λ r. ⌜ Told
+        (λ a. ReadsStrict (now («data» .entry)) (sized width height) (now (image .entry)) a (now (image .exit))
+        × (now (block .exit) ≡ blockOr a (now (block .entry))))
+        r ⌝ }
 {
     let answer = etc::decode_etc1_strict(data, width, height, image);
     let Answer::OutOfRange(n) = answer else {

@@ -4,29 +4,17 @@ ghost use Prim.Native.Nat.{_+_, _*_, _/_, _%_, _≤_, _<_};
 ghost use lib.IntN.{pos, _+ℤ_, _*ℤ_};
 ghost use lib.ListN.{length, getD};
 ghost use lib.Signed.{mag};
-ghost use Rattle.rules.specs.Notation.{build, byte, bits, clamp as clampTo};
+ghost use Rattle.rules.specs.Notation.{build, bits, clamp as clampTo};
 ghost use Rattle.rules.specs.Channels.{indexWord, alphaStep, alphaByte, withAlpha};
-
-// A byte in the index word's type.
-fn wide(b: u8) -> u64
-    ensures { λ r. ⌜ (r ≡ b) × (r < 256) ⌝ }
-{
-    b as u64
-}
-
-// Four bytes, read big-endian.
-fn four(a: u8, b: u8, c: u8, d: u8) -> u64
-    ensures { λ r. ⌜ (r ≡ a * 16777216 + b * 65536 + c * 256 + d) × (r < 4294967296) ⌝ }
-{
-    wide(a) * 16777216 + wide(b) * 65536 + wide(c) * 256 + wide(d)
-}
 
 // Bytes 2 to 7, read big-endian: the indices, three bits to a pixel.
 fn index_word(d: &[u8]) -> u64
     requires { ⌜ 8 ≤ length (now d) ⌝ }
     ensures { λ r. ⌜ r ≡ indexWord (now (d .entry)) ⌝ }
 {
-    four(0, 0, d[2], d[3]) * 4294967296 + four(d[4], d[5], d[6], d[7])
+    let high = color::two_bytes(d[2], d[3]);
+    let low = color::two_bytes(d[4], d[5]) * 0x10000 + color::two_bytes(d[6], d[7]);
+    high as u64 * 0x100000000 + low as u64
 }
 
 // The multiplier: the high nibble of byte 1. A multiplier of 0 stays 0.
@@ -81,7 +69,7 @@ pub fn a8_onto(d: &[u8], px: [u32; 16]) -> [u32; 16]
     let mut out = px;
     let mut i: usize = 0;
     while i < 16 {
-        out[i] = alpha(base, m, steps[i]) * 16777216 + px[i] % 16777216;
+        out[i] = alpha(base, m, steps[i]) * 0x1000000 + px[i] % 0x1000000;
         i += 1;
     }
     out

@@ -1,6 +1,7 @@
-// The pixel word and the clamp of src/color.rs and src/etc/etc1.rs. The crate's big-endian constants are left out.
+// The pixel word and the clamp of src/color.rs and src/etc/etc1.rs, and two bytes as a number. The crate's big-endian constants
+// are left out.
 ghost use mathlib.Core.Path.{_≡_};
-ghost use Prim.Native.Nat.{_<_};
+ghost use Prim.Native.Nat.{_+_, _*_, _^_, _<_};
 ghost use Rattle.rules.specs.Notation.{clamp as clampTo};
 ghost use Rattle.rules.specs.Pixel.{word};
 
@@ -9,7 +10,14 @@ pub fn color(red: u32, green: u32, blue: u32, alpha: u32) -> u32
     requires { ⌜ (red < 256) × (green < 256) × (blue < 256) × (alpha < 256) ⌝ }
     ensures { λ r. ⌜ r ≡ word alpha red green blue ⌝ }
 {
-    alpha * 16777216 + red * 65536 + green * 256 + blue
+    alpha * 0x1000000 + red * 0x10000 + green * 0x100 + blue
+}
+
+// Two bytes, the high one first.
+pub fn two_bytes(high: u8, low: u8) -> u32
+    ensures { λ r. ⌜ (r ≡ 256 * high + low) × (r < 2 ^ 16) ⌝ }
+{
+    high as u32 * 0x100 + low as u32
 }
 
 // n clamped to 0..255. A signed type of 16 bits holds every sum of a channel and a step.

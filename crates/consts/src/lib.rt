@@ -1,7 +1,6 @@
 // The tables of src/etc/consts.rs. Each is handed out whole by a function whose promise is its rule; a caller binds it to a
 // local before a loop and looks it up there.
 ghost use mathlib.Core.Path.{_≡_};
-ghost use Prim.Native.Nat.{_<_};
 ghost use Rattle.rules.specs.Channels.{alphaSteps};
 ghost use Rattle.rules.specs.Modes.{distances as distanceTable};
 ghost use Rattle.consts.specs.Tables.{signedSteps, writeOrder};

@@ -5,14 +5,14 @@ ghost use Prim.Native.Nat.{ℕ, _+_, _*_, _/_, _%_, _^_, _≤_, _<_};
 ghost use lib.IntN.{pos, _+ℤ_, _*ℤ_};
 ghost use lib.ListN.{length, getD};
 ghost use lib.Signed.{mag};
-ghost use Rattle.rules.specs.Notation.{build, twos, clamp};
+ghost use Rattle.rules.specs.Notation.{build, clamp};
 ghost use Rattle.rules.specs.Pixel.{word};
 ghost use Rattle.rules.specs.Places.{tile};
-ghost use Rattle.rules.specs.Channels.{centre, multiplier, eacByte, redPixel, redGreenPixel, orChannel};
+ghost use Rattle.rules.specs.Channels.{signedBase, centre, multiplier, eacByte, redPixel, redGreenPixel, orChannel};
 
-// A byte as two's complement, -128 to 127.
+// The signed base: a byte as two's complement, -128 to 127.
 fn signed_byte(b: u8) -> i16
-    ensures { λ r. ⌜ r ≡ twos 8 b ⌝ }
+    ensures { λ r. ⌜ r ≡ signedBase b ⌝ }
 {
     if 127 < b { b as i16 - 256 } else { b as i16 }
 }
@@ -52,7 +52,7 @@ fn eac_value(base: i16, m: u8, s: i16) -> u32
 }
 
 // The byte of each pixel, row by row: an eighth of its value.
-pub fn eac_bytes(d: &[u8], signed: bool) -> [u32; 16]
+fn eac_bytes(d: &[u8], signed: bool) -> [u32; 16]
     requires { ⌜ 8 ≤ length (now d) ⌝ }
     ensures { λ r. ⌜ r ≡ build 16 (λ k. eacByte signed (now (d .entry)) (k % 4) (k / 4)) ⌝ }
 {
@@ -101,13 +101,13 @@ pub fn eacrg_block(d: &[u8], signed: bool) -> [u32; 16]
 // What 1 in a channel is in the pixel word: channel 0 is blue, 1 green, 2 red and 3 alpha.
 fn unit_of(channel: usize) -> u32
     requires { ⌜ channel < 4 ⌝ }
-    ensures { λ r. ⌜ (r ≡ 256 ^ channel) × (r ≤ 16777216) ⌝ }
+    ensures { λ r. ⌜ (r ≡ 256 ^ channel) × (r ≤ 256 ^ 3) ⌝ }
 {
     match channel {
         0 => 1,
-        1 => 256,
-        2 => 65536,
-        _ => 16777216,
+        1 => 0x100,
+        2 => 0x10000,
+        _ => 0x1000000,
     }
 }
 

@@ -1,31 +1,24 @@
--- The steps of a code are small, in a block that is opaque and in one that is not.
+-- The steps of a code are small; and four steps with a base colour make the colours of a half.
 -- Assumes nothing.
 use mathlib.Core.Path.{_≡_}
-use mathlib.Core.Bool.{Bool, true, false}
-use mathlib.Core.List.{List, [], _∷_}
+use mathlib.Core.List.{List, []}
 use Prim.Native.Nat.{ℕ, _<_}
 use lib.Dec.{lit<}
-use native.Mathlib.Omega.{arith}
 use lib.IntN.{ℤ, pos}
 use lib.ListN.{getD}
 use lib.Signed.{mag}
 use Rattle.laws.proofs.Every.{below}
-use mir.Syntax.{w16}
-use Rattle.laws.proofs.Signed.{held, held-small, small, small-at}
-use Rattle.rules.specs.Colour.{stepsOf}
-use Rattle.rules.specs.Modes.{clearSteps}
+use Rattle.laws.proofs.Signed.{small, small-at}
+use Rattle.rules.specs.Colour.{stepsOf, halfColours}
 use Rattle.consts.specs.Tables.{fourSteps}
-use Rattle.etc1.specs.Halves.{stepsWhere}
+use Rattle.shade.specs.Pick.{eight}
+use Rattle.etc1.specs.Halves.{shades, ofHalf}
 
-pub small-step : (opaque : Bool) (code k : ℕ) → code < 8 → mag (getD (fourSteps (stepsWhere opaque code)) k (pos 0)) < 1024
-small-step true code k h =
-    small-at 1024 (fourSteps (stepsWhere true code)) (lit< tt) (below (λ j. small 1024 (fourSteps (stepsWhere true j))) 8 tt code h) k
-small-step false code k h =
-    small-at 1024 (fourSteps (stepsWhere false code)) (lit< tt) (below (λ j. small 1024 (fourSteps (stepsWhere false j))) 8 tt code h) k
+pub small-step : (code k : ℕ) → code < 8 → mag (getD (fourSteps (stepsOf code)) k (pos 0)) < 1024
+small-step code k h =
+    small-at 1024 (fourSteps (stepsOf code)) (lit< tt) (below (λ j. small 1024 (fourSteps (stepsOf j))) 8 tt code h) k
 
--- a row with its smaller step cleared
-pub cleared : (row : List ℤ) (code : ℕ) → code < 8 → row ≡ fourSteps (stepsOf code) → pos 0 ∷ held w16 (getD row 1 (pos 0)) ∷ pos 0 ∷ held w16 (getD row 3 (pos 0)) ∷ [] ≡ fourSteps (clearSteps code)
-cleared row code h e =
-    let a = held-small w16 (getD (fourSteps (stepsOf code)) 1 (pos 0)) (omega (arith, small-step true code 1 h)) in
-    let b = held-small w16 (getD (fourSteps (stepsOf code)) 3 (pos 0)) (omega (arith, small-step true code 3 h)) in
-    rw (e, a, b)
+-- the colours of both halves, whatever the steps of a half are
+pub coloured : (c : List (List ℕ)) (steps : ℕ → List ℕ) (first second : List ℤ) → first ≡ fourSteps (steps 0) → second ≡ fourSteps (steps 1)
+    → eight (λ h. shades (getD c h []) (ofHalf first second h)) ≡ eight (λ h. halfColours (getD c h []) (steps h))
+coloured c steps first second p q = rw (p, q)

@@ -1,10 +1,17 @@
--- What a code stands for, in a block that is opaque and in one that is not.
+-- The colours of two halves, each from a base colour and four steps.
 -- Assumes nothing.
-use mathlib.Core.Bool.{Bool, cond}
 use mathlib.Core.List.{List}
-use Prim.Native.Nat.{ℕ}
-use Rattle.rules.specs.Colour.{stepsOf}
-use Rattle.rules.specs.Modes.{clearSteps}
+use Prim.Native.Nat.{ℕ, zero, suc}
+use lib.IntN.{ℤ, pos}
+use lib.ListN.{getD}
+use Rattle.rules.specs.Notation.{build}
+use Rattle.rules.specs.Colour.{shaded}
 
-abbrev pub stepsWhere : Bool → ℕ → List ℕ
-stepsWhere opaque code = cond opaque (stepsOf code) (clearSteps code)
+-- a base colour with each of four steps
+abbrev pub shades : List ℕ → List ℤ → List ℕ
+shades c steps = build 4 (λ k. shaded c (getD steps k (pos 0)))
+
+-- what half h has, of the two halves
+abbrev pub ofHalf : List ℤ → List ℤ → ℕ → List ℤ
+ofHalf first second zero = first
+ofHalf first second (suc h) = second

@@ -1,26 +1,27 @@
 // The ETC1 block of src/etc/etc1.rs: two base colours, eight colours, sixteen pixels.
 ghost use mathlib.Core.Path.{_≡_};
-ghost use mathlib.Core.Bool.{cond};
 ghost use mathlib.Core.List.{[]};
-ghost use Prim.Native.Nat.{_*_, _≤_, _<_};
+ghost use Prim.Native.Nat.{ℕ, _*_, _≤_, _<_};
+ghost use lib.IntN.{pos};
 ghost use lib.ListN.{length, getD};
+ghost use lib.Signed.{mag};
 ghost use Rattle.rules.specs.Notation.{bits};
 ghost use Rattle.rules.specs.Places.{tile};
-ghost use Rattle.rules.specs.Colour.{base, five, wrapped, individual, wrapping, code, halfColours};
+ghost use Rattle.rules.specs.Colour.{base, five, wrapped, individual, wrapping, code, stepsOf};
 ghost use Rattle.rules.specs.Modes.{etc1Bases, etc1Pixel};
 ghost use Rattle.consts.specs.Tables.{fourSteps};
 ghost use Rattle.shade.specs.Pick.{eight};
-ghost use Rattle.etc1.specs.Halves.{stepsWhere};
+ghost use Rattle.etc1.specs.Halves.{shades, ofHalf};
 
 // A byte's high nibble, as eight bits.
-pub fn high_nibble(b: u8) -> u8
+fn high_nibble(b: u8) -> u8
     ensures { λ r. ⌜ r ≡ bits 7 4 b * 17 ⌝ }
 {
     b / 16 * 17
 }
 
 // A byte's low nibble, as eight bits.
-pub fn low_nibble(b: u8) -> u8
+fn low_nibble(b: u8) -> u8
     ensures { λ r. ⌜ r ≡ bits 3 0 b * 17 ⌝ }
 {
     b % 16 * 17
@@ -81,31 +82,38 @@ pub fn differential_bases(d: &[u8]) -> [[u8; 3]; 3]
     ]
 }
 
-// The four steps of a code, by index. Where a block is not opaque, the smaller step is 0.
-fn steps_of(code: usize, opaque: bool) -> [i16; 4]
+// The four steps of a code, by index.
+fn code_steps(code: usize) -> [i16; 4]
     requires { ⌜ code < 8 ⌝ }
-    ensures { λ r. ⌜ r ≡ fourSteps (stepsWhere opaque code) ⌝ }
+    ensures { λ r. ⌜ r ≡ fourSteps (stepsOf code) ⌝ }
 {
     let table = consts::modifiers();
-    let row = table[code];
-    if opaque { row } else { [0, row[1], 0, row[3]] }
+    table[code]
 }
 
-// The colours of one half.
-fn half(c: [u8; 3], code: usize, opaque: bool) -> [u32; 4]
-    requires { ⌜ code < 8 ⌝ }
-    ensures { λ r. ⌜ r ≡ halfColours c (stepsWhere opaque code) ⌝ }
-{
-    shade::four_colours([c, c, c, c], steps_of(code, opaque))
-}
-
-// The colours of both halves, from their base colours.
-pub fn both_halves(d: &[u8], c: [[u8; 3]; 3], opaque: bool) -> [u32; 8]
+// The steps of the first half.
+pub fn first_steps(d: &[u8]) -> [i16; 4]
     requires { ⌜ 8 ≤ length (now d) ⌝ }
-    ensures { λ r. ⌜ r ≡ eight (λ h. halfColours (getD c h []) (stepsWhere opaque (code (now (d .entry)) h))) ⌝ }
+    ensures { λ r. ⌜ r ≡ fourSteps (stepsOf (code (now (d .entry)) 0)) ⌝ }
 {
-    let a = half(c[0], (d[3] / 32 % 8) as usize, opaque);
-    let b = half(c[1], (d[3] / 4 % 8) as usize, opaque);
+    code_steps((d[3] / 32 % 8) as usize)
+}
+
+// The steps of the second half.
+pub fn second_steps(d: &[u8]) -> [i16; 4]
+    requires { ⌜ 8 ≤ length (now d) ⌝ }
+    ensures { λ r. ⌜ r ≡ fourSteps (stepsOf (code (now (d .entry)) 1)) ⌝ }
+{
+    code_steps((d[3] / 4 % 8) as usize)
+}
+
+// The colours of both halves, from their base colours and their steps.
+pub fn both_halves(c: [[u8; 3]; 3], first: [i16; 4], second: [i16; 4]) -> [u32; 8]
+    requires { ⌜ ((k : ℕ) → (mag (getD first k (pos 0)) < 1024) × (mag (getD second k (pos 0)) < 1024)) ⌝ }
+    ensures { λ r. ⌜ r ≡ eight (λ h. shades (getD c h []) (ofHalf first second h)) ⌝ }
+{
+    let a = shade::four_colours([c[0], c[0], c[0], c[0]], first);
+    let b = shade::four_colours([c[1], c[1], c[1], c[1]], second);
     shade::joined(a, b)
 }
 
@@ -126,5 +134,6 @@ pub fn etc1_block(d: &[u8]) -> [u32; 16]
     requires { ⌜ 8 ≤ length (now d) ⌝ }
     ensures { λ r. ⌜ r ≡ tile etc1Pixel (now (d .entry)) ⌝ }
 {
-    shade::picked(d, both_halves(d, etc1_bases(d), true))
+    let colours = both_halves(etc1_bases(d), first_steps(d), second_steps(d));
+    shade::picked(d, colours)
 }

@@ -1,9 +1,9 @@
 -- From eight colours to the pixels of RGB and RGBA1.
 -- Assumes nothing.
-use mathlib.Core.Path.{_≡_, _∙_, refl, sym, ap}
+use mathlib.Core.Path.{_≡_, _∙_, refl, ap}
 use mathlib.Core.Bool.{Bool, true, false, cond}
 use mathlib.Core.List.{List, [], _∷_}
-use Prim.Native.Nat.{ℕ, zero, suc, _+_, _*_, _/_, _%_, _<_}
+use Prim.Native.Nat.{ℕ, zero, suc, _/_, _%_, _<_}
 use native.Mathlib.Omega.{arith}
 use types.Run.{OneOf, miss}
 use denote.Enum.Declared
@@ -12,15 +12,14 @@ use lib.ListN.{getD}
 use Rattle.rules.specs.Notation.{build}
 use Rattle.rules.specs.Places.{tile}
 use Rattle.rules.specs.Colour.{individual, wrapping, differential, code, half, index, halfColours, stepsOf}
-use Rattle.rules.specs.Modes.{isPlanar, indexed, coloursOf, clearSteps, planarPixel, planarBases}
+use Rattle.rules.specs.Modes.{isPlanar, indexed, coloursOf, clearSteps}
 use Rattle.rules.specs.declared.Kind.{Kind}
 use Rattle.rules.specs.declared.Kind.the-variants.{Individual, Differential, T, H, Planar}
 use Rattle.rules.proofs.Kind.{the-type}
 use Rattle.laws.proofs.Filled.{build-same}
 use Rattle.shade.specs.Pick.{eight, taken}
 use Rattle.shade.proofs.Pick.{picks}
-use Rattle.etc1.specs.Halves.{stepsWhere}
-use Rattle.etc2.specs.Colours.{madeColours, punched, colourPixel}
+use Rattle.etc2.specs.Colours.{stepsWhere, madeColours, punched, colourPixel}
 
 -- a kind that is not planar
 pub not-planar : (k : Kind) → OneOf (0 ∷ 1 ∷ 2 ∷ 3 ∷ []) (Declared.tagOf the-type k) → isPlanar k ≡ false
@@ -40,7 +39,9 @@ made steps H d h fair = refl
 made steps Planar d h fair = refl
 
 -- eight colours, of which two are transparent where the block is not opaque
-pub punch : (opaque : Bool) (f : ℕ → List ℕ) (c p : List ℕ) → c ≡ eight f → p ≡ cond opaque c (getD c 0 0 ∷ getD c 1 0 ∷ 0 ∷ getD c 3 0 ∷ getD c 4 0 ∷ getD c 5 0 ∷ 0 ∷ getD c 7 0 ∷ []) → p ≡ eight (λ h. punched opaque (f h))
+pub punch : (opaque : Bool) (f : ℕ → List ℕ) (c p : List ℕ) → c ≡ eight f
+    → p ≡ cond opaque c (getD c 0 0 ∷ getD c 1 0 ∷ 0 ∷ getD c 3 0 ∷ getD c 4 0 ∷ getD c 5 0 ∷ 0 ∷ getD c 7 0 ∷ [])
+    → p ≡ eight (λ h. punched opaque (f h))
 punch true f c p e q = q ∙ e
 punch false f c p e q = q ∙ rw e
 
@@ -63,7 +64,8 @@ module _ (k : Kind) (d : List ℕ) (n : isPlanar k ≡ false) (fair : k ≡ Diff
   pub picked : (opaque : Bool) (p : List ℕ) → p ≡ eight (λ h. punched opaque (madeColours (stepsWhere opaque) k d h)) → build 16 (taken d p) ≡ tile (colourPixel k opaque) d
   picked opaque p e =
       picks d (λ h. punched opaque (madeColours (stepsWhere opaque) k d h)) p e
-      ∙ build-same 0 (λ j. getD (punched opaque (madeColours (stepsWhere opaque) k d (half d (j % 4) (j / 4)))) (index d (j % 4) (j / 4)) 0) (λ j. colourPixel k opaque d (j % 4) (j / 4)) 16 (λ j h. pixel opaque (j % 4) (j / 4))
+      ∙ build-same 0 (λ j. getD (punched opaque (madeColours (stepsWhere opaque) k d (half d (j % 4) (j / 4)))) (index d (j % 4) (j / 4)) 0)
+      (λ j. colourPixel k opaque d (j % 4) (j / 4)) 16 (λ j h. pixel opaque (j % 4) (j / 4))
 
 -- the eight colours that are made, at the kind that was told
 module _ (opaque : Bool) (d : List ℕ) where

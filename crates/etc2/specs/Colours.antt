@@ -6,9 +6,14 @@ use Prim.Native.Nat.{ℕ}
 use lib.Dec.{eqb}
 use lib.ListN.{getD}
 use Rattle.rules.specs.Colour.{individual, wrapping, code, index, halfColours, stepsOf}
-use Rattle.rules.specs.Modes.{tBases, tDistance, tColours, hBases, hDistance, hColours, planarBases, planarPixel, isPlanar, indexed, clearSteps}
+use Rattle.rules.specs.Modes.{tBases, tDistance, tColours, hBases, hDistance, hColours}
+use Rattle.rules.specs.Modes.{planarBases, planarPixel, isPlanar, indexed, clearSteps}
 use Rattle.rules.specs.declared.Kind.{Kind}
 use Rattle.rules.specs.declared.Kind.the-variants.{Individual, Differential, T, H, Planar}
+
+-- what a code stands for, in a block that is opaque and in one that is not
+abbrev pub stepsWhere : Bool → ℕ → List ℕ
+stepsWhere opaque code = cond opaque (stepsOf code) (clearSteps code)
 
 -- `coloursOf` of the rules, but for a differential block's second base, which wraps
 unfoldable pub madeColours : (ℕ → List ℕ) → Kind → List ℕ → ℕ → List ℕ

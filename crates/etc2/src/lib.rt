@@ -3,15 +3,32 @@ use rules::Kind;
 ghost use mathlib.Core.Path.{_≡_};
 ghost use mathlib.Core.Bool.{true, cond};
 ghost use mathlib.Core.List.{[], _∷_};
-ghost use Prim.Native.Nat.{ℕ, _≤_};
+ghost use Prim.Native.Nat.{ℕ, _≤_, _<_};
 ghost use lib.ListN.{length, getD};
 ghost use Rattle.rules.specs.Places.{tile};
-ghost use Rattle.rules.specs.Colour.{wrapping, differential};
+ghost use Rattle.rules.specs.Colour.{wrapping, differential, code, stepsOf, halfColours};
 ghost use Rattle.rules.specs.Modes.{rgbPixel, rgba1Pixel};
 ghost use Rattle.rules.specs.Channels.{rgba8Pixel};
+ghost use Rattle.consts.specs.Tables.{fourSteps};
 ghost use Rattle.shade.specs.Pick.{eight};
-ghost use Rattle.etc1.specs.Halves.{stepsWhere};
-ghost use Rattle.etc2.specs.Colours.{madeColours, punched as punchedOf, colourPixel};
+ghost use Rattle.etc2.specs.Colours.{stepsWhere, madeColours, colourPixel};
+
+// The steps of a half. Where a block is not opaque, the smaller one is 0.
+fn steps_where(opaque: bool, row: [i16; 4]) -> [i16; 4]
+    ensures { λ r. ⌜ ((code : ℕ) → code < 8 → row ≡ fourSteps (stepsOf code) → r ≡ fourSteps (stepsWhere opaque code)) ⌝ }
+{
+    if opaque { row } else { [0, row[1], 0, row[3]] }
+}
+
+// The colours of both halves, from their base colours.
+fn both_halves(d: &[u8], c: [[u8; 3]; 3], opaque: bool) -> [u32; 8]
+    requires { ⌜ 8 ≤ length (now d) ⌝ }
+    ensures { λ r. ⌜ r ≡ eight (λ h. halfColours (getD c h []) (stepsWhere opaque (code (now (d .entry)) h))) ⌝ }
+{
+    let first = steps_where(opaque, etc1::first_steps(d));
+    let second = steps_where(opaque, etc1::second_steps(d));
+    etc1::both_halves(c, first, second)
+}
 
 // The eight colours of a block. Planar has none, and gets eight that are not used.
 fn colours_of(d: &[u8], kind: Kind, opaque: bool) -> [u32; 8]
@@ -19,8 +36,8 @@ fn colours_of(d: &[u8], kind: Kind, opaque: bool) -> [u32; 8]
     ensures { λ r. ⌜ r ≡ eight (madeColours (stepsWhere opaque) kind (now (d .entry))) ⌝ }
 {
     match kind {
-        Kind::Individual => etc1::both_halves(d, etc1::individual_bases(d), opaque),
-        Kind::Differential => etc1::both_halves(d, etc1::differential_bases(d), opaque),
+        Kind::Individual => both_halves(d, etc1::individual_bases(d), opaque),
+        Kind::Differential => both_halves(d, etc1::differential_bases(d), opaque),
         Kind::T => modes::t_colours(d),
         Kind::H => modes::h_colours(d),
         Kind::Planar => [0; 8],

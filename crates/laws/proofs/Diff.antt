@@ -11,10 +11,10 @@ use borrow.Author.Tests.{le-ltb}
 use lib.Dec.{T}
 use lib.Signed.{mag, shrZ, ltZ, quotZ}
 use mir.Syntax.{Width}
-use mir.Val.{SFits, toZ, ofZ, hbits}
+use mir.Val.{SFits, toZ, hbits}
 use mir.ValLaws.{toZ-ofZ, toZ-pos}
 use Rattle.rules.specs.Notation.{clamp}
-use Rattle.laws.proofs.Signed.{neg, nat, held, held-small}
+use Rattle.laws.proofs.Signed.{neg, nat, held}
 
 -- two differences are equal where the cross sums are
 pub even : (a b c d : ℕ) → a + d ≡ c + b → subℕ a b ≡ subℕ c d

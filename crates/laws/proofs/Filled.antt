@@ -1,15 +1,14 @@
 -- A loop that fills an array, one store a turn, in order or through a permutation: what it ends with is `build n f`.
 -- Assumes nothing.
-use mathlib.Core.Path.{_≡_, _∙_, refl, sym, ap, subst}
-use mathlib.Core.List.{List, [], _∷_}
+use mathlib.Core.Path.{_≡_, _∙_, refl, sym, ap}
+use mathlib.Core.List.{List}
 use Prim.Native.Nat.{ℕ, zero, suc, _+_, _<_}
 use native.Mathlib.Nat.{add-zero, zero-add, add-suc, suc-add, le-of-suc-le-suc, eq-or-lt-of-le}
 use native.Mathlib.Decide.{ℕ-discrete}
 use mathlib.Core.Logic.{⊎-elim}
 use native.Mathlib.Omega.{arith}
-use lib.ListN.{length, getD, set, length-set}
+use lib.ListN.{length, getD, set}
 use lib.Seq.{getD-set-same, getD-set-other, ext-getD}
-use borrow.Author.Count.{below-more}
 use Rattle.rules.specs.Notation.{from, build}
 
 module _ {A : Type 0} (f : ℕ → A) (d : A) where
@@ -33,13 +32,9 @@ module _ {A : Type 0} (f : ℕ → A) (d : A) where
   is-build n l e p =
       ext-getD d l (build n f) (e ∙ sym (length-build n)) (λ k h. let h' : k < n = omega arith in p k h' ∙ sym (getD-build n k h'))
 
-  -- one more store, in order
-  pub fills : (l : List A) (i : ℕ) (v : A) → i < length l → ((k : ℕ) → k < i → getD l k d ≡ f k) → v ≡ f i → (k : ℕ) → k < i + 1 → getD (set l i v) k d ≡ f k
-  fills l i v h p e =
-      below-more _ i (λ k m. getD-set-other l i k v d (λ q. omega arith) ∙ p k m) (getD-set-same l i v d h ∙ e)
-
   -- one more store, at the place o whose number p is i: what holds of each place whose number is passed
-  pub fills-by : (p : ℕ → ℕ) (n : ℕ) (l : List A) (i o : ℕ) (v : A) → o < length l → ((k : ℕ) → k < n → p k ≡ i → k ≡ o) → ((k : ℕ) → k < n → p k < i → getD l k d ≡ f k) → v ≡ f o → (k : ℕ) → k < n → p k < i + 1 → getD (set l o v) k d ≡ f k
+  pub fills-by : (p : ℕ → ℕ) (n : ℕ) (l : List A) (i o : ℕ) (v : A) → o < length l → ((k : ℕ) → k < n → p k ≡ i → k ≡ o)
+      → ((k : ℕ) → k < n → p k < i → getD l k d ≡ f k) → v ≡ f o → (k : ℕ) → k < n → p k < i + 1 → getD (set l o v) k d ≡ f k
   fills-by p n l i o v h u q e k b m =
       elim (ℕ-discrete k o) [
         | yes s ↦ ap (λ (j : ℕ). getD (set l o v) j d) s ∙ getD-set-same l o v d h ∙ e ∙ ap f (sym s)

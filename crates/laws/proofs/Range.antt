@@ -1,20 +1,19 @@
 -- Sums in range and out of it: an out-of-range sum is exactly a T, H or planar block, and a block whose sums are in range
 -- reads the same under ETC1 and under ETC2 RGB.
 -- Assumes nothing.
-use mathlib.Core.Path.{_≡_, _∙_, refl, sym, ap, subst}
+use mathlib.Core.Path.{_≡_, refl, subst}
 use mathlib.Core.Bool.{Bool, true, false, cond, _&&_, _||_}
-use mathlib.Core.List.{List, [], _∷_}
+use mathlib.Core.List.{List}
 use mathlib.Core.Logic.{_⊎_, inl, inr, ⊎-elim}
-use Prim.Native.Nat.{ℕ, _+_, _*_, _/_, _%_, _<_}
+use Prim.Native.Nat.{ℕ, _+_, _*_, _/_}
 use native.Mathlib.Omega.{arith}
 use lib.Dec.{T as So, eqb, eqb→eq}
 use lib.IntN.{ℤ, pos, natAbs, _+ℤ_, _*ℤ_}
-use lib.ListN.{getD}
 use Rattle.rules.specs.Notation.{byte, bits, twos, modulo}
-use Rattle.rules.specs.Colour.{base, step, sum, beyond, five, rgb, unused, individual, differential, wrapped, wrapping, byBeyond, kindBySums, kindOf, outOfRange, differs, half, index, code, stepsOf, halfColours}
-use Rattle.rules.specs.Modes.{etc1Bases, etc1Pixel, rgbPixel, indexed, coloursOf, planarPixel, planarBases, isPlanar}
+use Rattle.rules.specs.Colour.{base, sum, beyond, differential, wrapped, wrapping, byBeyond, kindBySums, kindOf, outOfRange, differs}
+use Rattle.rules.specs.Modes.{etc1Pixel, rgbPixel, indexed}
 use Rattle.rules.specs.declared.Kind.{Kind}
-use Rattle.rules.specs.declared.Kind.the-variants.{Individual, Differential, T, H, Planar}
+use Rattle.rules.specs.declared.Kind.the-variants.{Individual, Differential}
 use Rattle.laws.specs.Kinds.{strange}
 use Rattle.laws.proofs.Every.{every, below}
 

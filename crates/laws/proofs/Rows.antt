@@ -12,5 +12,6 @@ pub four : {A : Type 0} {a b c d a' b' c' d' : A} → a ≡ a' → b ≡ b' → 
 four p q r s = cc
 
 -- two base colours and one that is not used, channel by channel
-pub rows : {a b c e f g a' b' c' e' f' g' : ℕ} → a ≡ a' → b ≡ b' → c ≡ c' → e ≡ e' → f ≡ f' → g ≡ g' → _≡_ {A = List (List ℕ)} ((a ∷ b ∷ c ∷ []) ∷ (e ∷ f ∷ g ∷ []) ∷ unused ∷ []) ((a' ∷ b' ∷ c' ∷ []) ∷ (e' ∷ f' ∷ g' ∷ []) ∷ unused ∷ [])
+pub rows : {a b c e f g a' b' c' e' f' g' : ℕ} → a ≡ a' → b ≡ b' → c ≡ c' → e ≡ e' → f ≡ f' → g ≡ g'
+    → _≡_ {A = List (List ℕ)} ((a ∷ b ∷ c ∷ []) ∷ (e ∷ f ∷ g ∷ []) ∷ unused ∷ []) ((a' ∷ b' ∷ c' ∷ []) ∷ (e' ∷ f' ∷ g' ∷ []) ∷ unused ∷ [])
 rows p q r s t u = cc

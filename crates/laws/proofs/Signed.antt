@@ -2,11 +2,11 @@
 -- Assumes nothing.
 use mathlib.Core.Path.{_≡_, _∙_, refl, sym, ap, subst}
 use mathlib.Core.Bool.{Bool, true, false}
-use Prim.Native.Nat.{ℕ, zero, suc, _+_, _-_, _*_, _<_, _≤_, _^_, min}
+use Prim.Native.Nat.{ℕ, zero, suc, _+_, _-_, _*_, _<_, _≤_, _^_}
 use native.Mathlib.Omega.{arith}
 use native.Mathlib.Decide.{decLt}
 use borrow.Author.Tests.{lt-ltb, le-ltb, ltb-true, ltb-false}
-use lib.Dec.{T, ltb, ltb→lt, eqb, eqb→eq}
+use lib.Dec.{T, ltb, ltb→lt}
 use lib.ListN.{getD}
 use mathlib.Core.List.{List, [], _∷_}
 use Rattle.laws.proofs.Every.{both, both-left, both-right}
@@ -65,7 +65,8 @@ module _ (w : Width) (top : ℕ) (z : ℤ) (f : SFits w z) where
   pub clamp-high : ltZ (pos top) (held w z) ≡ true → top ≡ clamp top z
   clamp-high h = high top z (rw (toZ-ofZ w z f) at h)
 
-  pub clamp-mid : ltZ (held w z) (pos 0) ≡ false → ltZ (pos top) (held w z) ≡ false → T (nonNeg (held w z)) × (natAbs (held w z) ≤ top) × (natAbs (held w z) ≡ clamp top z) × (held w z ≡ pos (natAbs (held w z)))
+  pub clamp-mid : ltZ (held w z) (pos 0) ≡ false → ltZ (pos top) (held w z) ≡ false
+      → T (nonNeg (held w z)) × (natAbs (held w z) ≤ top) × (natAbs (held w z) ≡ clamp top z) × (held w z ≡ pos (natAbs (held w z)))
   clamp-mid l h = rw (toZ-ofZ w z f) (mid top z (rw (toZ-ofZ w z f) at l) (rw (toZ-ofZ w z f) at h))
 
 -- an unsigned number, cast to a signed type, and a signed one: the sum fits, and is the sum

@@ -1,16 +1,18 @@
--- Every pixel is a word below 2^32, whatever the bytes.
+-- Every pixel is a word below 2^32, whatever the bytes; and the four bytes of a word are read back from it.
 -- Assumes nothing.
+use mathlib.Core.Path.{_≡_}
 use mathlib.Core.Bool.{Bool, true, false, cond}
 use mathlib.Core.List.{List, [], _∷_}
-use Prim.Native.Nat.{ℕ, zero, suc, _+_, _*_, _/_, _%_, _≤_, _<_}
+use Prim.Native.Nat.{ℕ, zero, suc, _+_, _*_, _^_, _≤_, _<_}
 use native.Mathlib.Omega.{arith}
 use lib.Dec.{lit<, eqb}
 use lib.IntN.{ℤ, pos, _+ℤ_, _-ℤ_, _*ℤ_}
 use lib.ListN.{getD, drop}
-use Rattle.rules.specs.Notation.{byte, bits, minus, clamp, quarter}
-use Rattle.rules.specs.Pixel.{word}
+use Rattle.rules.specs.Notation.{byte, bits, minus, quarter}
+use Rattle.rules.specs.Pixel.{word, alphaOf, redOf, greenOf, blueOf}
 use Rattle.rules.specs.Colour.{individual, differential, shaded, halfColours, differs, index, half, kindBySums, kindOf, stepsOf, code}
-use Rattle.rules.specs.Modes.{tBases, tDistance, tColours, hBases, hDistance, hColours, planarChannel, planarPixel, planarBases, planarOf, isPlanar, indexed, coloursOf, clearSteps, etc1Bases, etc1Pixel, rgbPixel, rgba1Pixel}
+use Rattle.rules.specs.Modes.{tBases, tDistance, tColours, hBases, hDistance, hColours, planarChannel, planarPixel, planarBases, planarOf}
+use Rattle.rules.specs.Modes.{isPlanar, indexed, clearSteps, etc1Bases, etc1Pixel, rgbPixel, rgba1Pixel}
 use Rattle.rules.specs.Channels.{alphaByte, alphaStep, rgba8Pixel, centre, multiplier, eacValue, eacByte, redPixel, redGreenPixel}
 use Rattle.rules.specs.Formats.{showsOf}
 use Rattle.rules.specs.declared.Kind.{Kind}
@@ -20,11 +22,16 @@ use Rattle.rules.specs.declared.Format.the-variants.{Etc1, Etc2Rgb, Etc2Rgba1, 
 use Rattle.laws.proofs.Signed.{clamp-le}
 
 abbrev pub Word : ℕ → Type 0
-Word n = n < 4294967296
+Word n = n < 2 ^ 32
 
 -- four bytes make a word
 of-bytes : (a r g b : ℕ) → a ≤ 255 → r ≤ 255 → g ≤ 255 → b ≤ 255 → Word (word a r g b)
 of-bytes a r g b i j k l = omega arith
+
+-- and the word gives them back
+pub read-back : (a r g b : ℕ) → a ≤ 255 → r ≤ 255 → g ≤ 255 → b ≤ 255
+    → (alphaOf (word a r g b) ≡ a) × (redOf (word a r g b) ≡ r) × (greenOf (word a r g b) ≡ g) × (blueOf (word a r g b) ≡ b)
+read-back a r g b i j k l = (omega arith, omega arith, omega arith, omega arith)
 
 -- a base colour with a step
 shade : (c : List ℕ) (s : ℤ) → Word (shaded c s)

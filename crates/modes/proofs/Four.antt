@@ -3,7 +3,7 @@
 use mathlib.Core.Path.{_≡_, _∙_, sym, ap}
 use mathlib.Core.Bool.{cond}
 use mathlib.Core.List.{List, [], _∷_}
-use Prim.Native.Nat.{ℕ, zero, suc, _+_, _*_, _/_, _%_, _≤_, _<_}
+use Prim.Native.Nat.{ℕ, zero, suc, _+_, _*_, _/_, _%_, _<_}
 use native.Mathlib.Nat.{div-one}
 use native.Mathlib.Omega.{arith}
 use lib.IntN.{ℤ, pos}
@@ -40,14 +40,19 @@ abbrev pub four : List (List ℕ) → List ℤ → List ℕ
 four bases steps = build 4 (λ k. shaded (getD bases k []) (getD steps k (pos 0)))
 
 module _ (d : List ℕ) (c : List (List ℕ)) (steps : List ℤ) (m : ℕ) where
-  pub t-four : c ≡ tFields (byte d 0) (byte d 1) (byte d 2) (byte d 3) → m ≡ distanceAt (2 * (byte d 3 / 4 % 4) + byte d 3 % 2) → steps ≡ pos 0 ∷ pos m ∷ pos 0 ∷ minus m ∷ [] → four (getD c 0 [] ∷ getD c 1 [] ∷ getD c 1 [] ∷ getD c 1 [] ∷ []) steps ≡ tColours (tBases d) (tDistance d)
+  pub t-four : c ≡ tFields (byte d 0) (byte d 1) (byte d 2) (byte d 3) → m ≡ distanceAt (2 * (byte d 3 / 4 % 4) + byte d 3 % 2)
+      → steps ≡ pos 0 ∷ pos m ∷ pos 0 ∷ minus m ∷ []
+      → four (getD c 0 [] ∷ getD c 1 [] ∷ getD c 1 [] ∷ getD c 1 [] ∷ []) steps ≡ tColours (tBases d) (tDistance d)
   unfolding tBases tDistance
   t-four p q e =
       ap (four (getD c 0 [] ∷ getD c 1 [] ∷ getD c 1 [] ∷ getD c 1 [] ∷ [])) e
       ∙ ap (λ (c : List (List ℕ)). tColours c m) p
       ∙ ap (tColours (tBases d)) (q ∙ ap (λ (n : ℕ). distanceAt (2 * (byte d 3 / 4 % 4) + n % 2)) (sym (div-one (byte d 3))))
 
-  pub h-four : c ≡ hFields (byte d 0) (byte d 1) (byte d 2) (byte d 3) → m ≡ distanceAt (4 * bit 2 (byte d 3) + 2 * bit 0 (byte d 3) + cond (notLess (getD c 0 []) (getD c 1 [])) 1 0) → steps ≡ pos m ∷ minus m ∷ pos m ∷ minus m ∷ [] → four (getD c 0 [] ∷ getD c 0 [] ∷ getD c 1 [] ∷ getD c 1 [] ∷ []) steps ≡ hColours (hBases d) (hDistance d)
+  pub h-four : c ≡ hFields (byte d 0) (byte d 1) (byte d 2) (byte d 3)
+      → m ≡ distanceAt (4 * bit 2 (byte d 3) + 2 * bit 0 (byte d 3) + cond (notLess (getD c 0 []) (getD c 1 [])) 1 0)
+      → steps ≡ pos m ∷ minus m ∷ pos m ∷ minus m ∷ []
+      → four (getD c 0 [] ∷ getD c 0 [] ∷ getD c 1 [] ∷ getD c 1 [] ∷ []) steps ≡ hColours (hBases d) (hDistance d)
   unfolding hBases hDistance
   h-four p q e =
       ap (four (getD c 0 [] ∷ getD c 0 [] ∷ getD c 1 [] ∷ getD c 1 [] ∷ [])) e

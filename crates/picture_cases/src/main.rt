@@ -2,20 +2,38 @@
 // came out. Images are of 11111111 (hex) before, and have elements behind the picture that must keep that value.
 use libc::STDOUT_FILENO;
 use rules::Answer;
-ghost use Prim.Native.Nat.{_<_, _≤_};
+ghost use mathlib.Core.Path.{_≡_};
+ghost use Prim.Native.Nat.{_+_, _*_, _/_, _<_};
+ghost use Rattle.picture_cases.specs.Digest.{digested};
 
 // The picture readers by number, in document 01's order; 8 is strict ETC1.
 fn read(reader: usize, data: &[u8], width: usize, height: usize, image: &mut [u32]) -> Answer {
+    if reader < 4 {
+        return colour(reader, data, width, height, image);
+    }
+    if reader < 8 {
+        return channels(reader, data, width, height, image);
+    }
+    etc::decode_etc1_strict(data, width, height, image)
+}
+
+// Readers 0 to 3.
+fn colour(reader: usize, data: &[u8], width: usize, height: usize, image: &mut [u32]) -> Answer {
     match reader {
         0 => etc::decode_etc1(data, width, height, image),
         1 => etc::decode_etc2_rgb(data, width, height, image),
         2 => etc::decode_etc2_rgba1(data, width, height, image),
-        3 => etc::decode_etc2_rgba8(data, width, height, image),
+        _ => etc::decode_etc2_rgba8(data, width, height, image),
+    }
+}
+
+// Readers 4 to 7.
+fn channels(reader: usize, data: &[u8], width: usize, height: usize, image: &mut [u32]) -> Answer {
+    match reader {
         4 => etc::decode_eacr(data, width, height, image),
         5 => etc::decode_eacr_signed(data, width, height, image),
         6 => etc::decode_eacrg(data, width, height, image),
-        7 => etc::decode_eacrg_signed(data, width, height, image),
-        _ => etc::decode_etc1_strict(data, width, height, image),
+        _ => etc::decode_eacrg_signed(data, width, height, image),
     }
 }
 
@@ -160,7 +178,7 @@ fn fill(data: &mut [u8], seed: usize, plain: bool)
 }
 
 fn wide(element: u32) -> u64
-    ensures { λ r. ⌜ r < 4294967296 ⌝ }
+    ensures { λ r. ⌜ (r ≡ element) × (r < 4294967296) ⌝ }
 {
     element as u64
 }
@@ -168,7 +186,7 @@ fn wide(element: u32) -> u64
 // A number that changes with any element: it stands for an image in the stored output.
 fn digest(image: &[u32], before: u64) -> u64
     requires { ⌜ before < 4294967296 ⌝ }
-    ensures { λ r. ⌜ r < 4294967296 ⌝ }
+    ensures { λ r. ⌜ r ≡ digested before (now (image .entry)) ⌝ }
 {
     let mut sum = before;
     let mut i: usize = 0;
@@ -182,7 +200,7 @@ fn digest(image: &[u32], before: u64) -> u64
 // The blocks that n pixels take.
 fn across(n: usize) -> usize
     requires { ⌜ n < 10 ⌝ }
-    ensures { λ r. ⌜ r < 4 ⌝ }
+    ensures { λ r. ⌜ (r ≡ (n + 3) / 4) × (r < 4) ⌝ }
 {
     (n + 3) / 4
 }
@@ -202,7 +220,7 @@ fn bytes_of(reader: usize, width: usize, height: usize) -> usize
 // The pixels of a picture.
 fn pixels_of(width: usize, height: usize) -> usize
     requires { ⌜ (width < 10) × (height < 10) ⌝ }
-    ensures { λ r. ⌜ r < 82 ⌝ }
+    ensures { λ r. ⌜ (r ≡ width * height) × (r < 82) ⌝ }
 {
     width * height
 }
@@ -257,7 +275,15 @@ fn size_case(reader: usize, width: usize, height: usize, data: &[u8], image: &mu
     without_a_byte(reader, width, height, data, image);
     without_an_element(reader, width, height, data, image);
     let refused = printing::changed(image, 0);
-    let elements = pixels_of(width, height);
+    with_enough(reader, width, height, data, image);
+    say_changed(refused, printing::changed(image, pixels_of(width, height)));
+    say_digest(digest(image, 0));
+}
+
+// What the reader answers to enough bytes, and to two elements more than enough.
+fn with_enough(reader: usize, width: usize, height: usize, data: &[u8], image: &mut [u32])
+    requires { ⌜ (width < 10) × (height < 10) ⌝ }
+{
     let answer = part(
         reader,
         data,
@@ -265,14 +291,16 @@ fn size_case(reader: usize, width: usize, height: usize, data: &[u8], image: &mu
         width,
         height,
         image,
-        elements + 2,
+        pixels_of(width, height) + 2,
     );
     printing::say_answer(answer);
+}
+
+fn say_changed(refused: usize, behind: usize) {
     printing::say(b"/");
     printing::say_number(refused);
     printing::say(b"+");
-    printing::say_number(printing::changed(image, elements));
-    say_digest(digest(image, 0));
+    printing::say_number(behind);
 }
 
 fn say_digest(digest: u64) {

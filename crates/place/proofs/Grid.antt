@@ -3,11 +3,12 @@
 -- Assumes nothing.
 use mathlib.Core.Path.{_≡_, _∙_, sym, ap}
 use mathlib.Core.Logic.{⊎-elim}
-use Prim.Native.Nat.{ℕ, suc, _+_, _*_, _/_, _%_, _<_, _≤_}
-use native.Mathlib.Nat.{mul-add-mod-self-right, mul-add-div-right, mod-eq-of-lt, div-eq-of-lt, add-zero, div-add-mod', div-lt-iff-lt-mul, mod-lt, mul-comm, mul-le-mul-right, mul-zero, suc-mul, eq-zero-or-pos}
+use Prim.Native.Nat.{ℕ, suc, _+_, _-_, _*_, _/_, _%_, _<_, _≤_}
+use native.Mathlib.Nat.{mul-add-mod-self-right, mul-add-div-right, mod-eq-of-lt, div-eq-of-lt, add-zero, div-add-mod', div-lt-iff-lt-mul, mod-lt}
+use native.Mathlib.Nat.{mul-comm, mul-le-mul-right, mul-zero, suc-mul, eq-zero-or-pos}
 use native.Mathlib.Omega.{arith}
 use lib.Dec.{T, ltb→lt, lt→ltb}
-use Rattle.rules.specs.Places.{element, column, row, inside}
+use Rattle.rules.specs.Places.{element, column, row, inside, across}
 use Rattle.rules.specs.declared.Picture.{Picture}
 use Rattle.place.specs.Tile.{Room}
 
@@ -31,6 +32,10 @@ wide p h k i = ⊎-elim (λ e. absurd (gone e)) (λ q. q) (eq-zero-or-pos p)
   where
     gone : p ≡ 0 → ⊥
     gone e = let z : h * p ≡ 0 = rw e (mul-zero h) in omega arith
+
+-- a place of a side lies in one of its blocks
+pub covered : (x n : ℕ) → x < n → x / 4 < across n
+covered x n h = omega arith
 
 module _ (pic : Picture) where
   -- the pixel (x, y) is in column x and row y, and is the picture's own
@@ -61,9 +66,17 @@ module _ (pic : Picture) where
   pub row-in : (k : ℕ) → T (inside pic k) → row pic k < pic .height
   row-in k t = div-lt-iff-lt-mul (wide (pic .width) (pic .height) k (below k t)) .1 (below k t)
 
+  -- the pixels of a row stand one after another
+  pub beside : (x y i : ℕ) → element pic (x + i) y ≡ element pic x y + i
+  beside x y i = omega arith
+
   -- the image has the pixel (x, y)
   pub reached : (x y n : ℕ) → Room pic n → x < pic .width → y < pic .height → element pic x y < n
   reached x y n r i j = r .reach (element pic x y) (inside-at x y i j)
+
+  -- and n pixels of its row, from that one on
+  pub reached-all : (x y n m : ℕ) → Room pic m → 0 < n → x + n ≤ pic .width → y < pic .height → element pic x y + n ≤ m
+  reached-all x y n m r p i j = let t = reached (x + (n - 1)) y m r (omega arith) j in omega (arith, beside x y (n - 1))
 
   -- an image as long as the picture is large has every element of it
   pub roomy : (n : ℕ) → pic .width * pic .height ≤ n → Room pic n

@@ -1,106 +1,126 @@
--- One pixel of a picture, the sixteen pixels of a tile one after another, and the first sixteen elements of an image.
+-- The first elements of a part of an image, a row piece of a picture, and the row pieces of a tile one after another.
 -- Assumes nothing.
-use mathlib.Core.Path.{_≡_, refl, sym, ap}
-use mathlib.Core.List.{List}
-use mathlib.Core.Logic.{_⊎_, inl, inr, ⊎-elim}
-use Prim.Native.Nat.{ℕ, _+_, _*_, _/_, _%_, _<_, _≤_}
+use mathlib.Core.Path.{_≡_, _∙_, refl, sym, ap, subst}
+use mathlib.Core.List.{List, _++_}
+use mathlib.Core.Logic.{inl, inr, ⊎-elim}
+use Prim.Native.Nat.{ℕ, _+_, _-_, _*_, _/_, _%_, _<_, _≤_}
 use native.Mathlib.Omega.{arith}
 use native.Mathlib.Nat.{eq-or-lt-of-le}
-use lib.Dec.{ltb, ltb→lt, lt→ltb}
-use lib.ListN.{length, getD, set}
-use Rattle.rules.specs.Places.{element, column, row, painted}
+use lib.Dec.{T, ltb, ltb→lt, lt→ltb}
+use lib.ListN.{length, getD, set, take, drop, length-take, length-drop}
+use Rattle.rules.specs.Places.{element, column, row, inside, painted}
 use Rattle.rules.specs.declared.Picture.{Picture}
 use Rattle.laws.specs.Painted.{Painted}
-use Rattle.laws.proofs.Paint.{none, said, one, also, is-painted}
-use Rattle.place.specs.Tile.{At, InTile, Room, numberIn}
-use Rattle.place.proofs.Grid.{column-at, row-at, inside-at, only, column-in, row-in, reached}
+use Rattle.laws.proofs.Paint.{none, said, one, also, lent, is-painted}
+use Rattle.place.specs.Tile.{InPiece, InTile, Room, numberIn, shown, inRow}
+use Rattle.place.proofs.Grid.{column-at, row-at, inside-at, only, column-in, row-in, beside, reached-all}
 
--- the place of a pixel in its tile, of pixel number i of the tile in column bx and row by; and back
-numbered : (x y bx by i : ℕ) → i < 16 → x ≡ bx * 4 + i % 4 → y ≡ by * 4 + i / 4 → (y % 4 * 4 + x % 4 ≡ i) × (x / 4 ≡ bx) × (y / 4 ≡ by)
-numbered x y bx by i h e f = omega arith
+-- the first i of the elements of a list, painted over old
+abbrev pub Begun : (ℕ → ℕ) → List ℕ → List ℕ → ℕ → Type 0
+Begun v old new i = (i ≤ length old) × Painted (λ k. k < i) v old new
 
-placed : (x y bx by i : ℕ) → x / 4 ≡ bx → y / 4 ≡ by → y % 4 * 4 + x % 4 ≡ i → (x ≡ bx * 4 + i % 4) × (y ≡ by * 4 + i / 4)
-placed x y bx by i e f g = omega arith
+module _ (v : ℕ → ℕ) where
+  pub begin : (l : List ℕ) → Begun v l l 0
+  begin l = (omega arith, none _ _ l (λ k z. omega arith))
+
+  pub go-on : (old new : List ℕ) (i : ℕ) → i < length new → Begun v old new i → Begun v old (set new i (v i)) (i + 1)
+  go-on old new i h a = (
+    omega (arith, a .1 .same),
+    one (λ k. k < i) (λ k. k < i + 1) v old new i (v i) (a .1) h (omega arith) refl
+        (λ k z. omega arith)
+        (λ k z. ⊎-elim (λ e. inr e) (λ m. inl (m, λ e. omega arith)) (eq-or-lt-of-le {n = k} {m = i} (omega arith))),
+  )
+
+  pub ended : (old new : List ℕ) (i : ℕ) → length new ≤ i → Begun v old new i → Painted (λ k. k < length old) v old new
+  ended old new i h a =
+      said _ _ _ _ old new (a .1) (λ k z. omega (arith, a .1 .same)) (λ k z. omega (arith, a .0)) (λ k z. refl)
+
+-- sixteen pixels, written through the first sixteen elements
+pub sixteen : (t old part : List ℕ) → 16 ≤ length old
+    → Painted (λ k. k < length (take 16 old)) (λ k. getD t (0 + k) 0) (take 16 old) part
+    → part ++ drop 16 old ≡ painted (λ k. ltb k 16) (λ k. getD t k 0) old
+sixteen t old part h p =
+    let s : length (take 16 old) ≡ 16 = simp length-take (omega arith) in
+    is-painted _ (λ k. ltb k 16) (λ k. getD t k 0) old (part ++ drop 16 old) (λ k z. z) (λ k z. z)
+    (said _ (λ k. T (ltb k 16)) _ _ old _ (lent _ _ 0 16 old part h p)
+    (λ k z. let l = ltb→lt k 16 z in (omega arith, omega arith, omega arith))
+    (λ k z. lt→ltb k 16 (omega (arith, z .1)))
+    (λ k z. ap (λ (m : ℕ). getD t m 0) (omega arith)))
+
+-- x in column bx of fours is bx * 4 and its place there
+four : (x bx : ℕ) → x / 4 ≡ bx → x ≡ bx * 4 + x % 4
+four x bx e = omega arith
 
 module _ (pic : Picture) where
-  -- a pixel beside or below the picture is no element
-  pub beside : (x y v : ℕ) (l : List ℕ) → pic .width ≤ x → Painted (At pic x y) (λ k. v) l l
-  beside x y v l o = none _ _ l (λ k a. omega (arith, column-in pic k (a .within), a .across))
+  -- the elements of a row piece: the n pixels from the first of column bx of tiles on
+  module _ (bx y n : ℕ) (w : bx * 4 < pic .width) (e : n ≡ shown (pic .width) bx) (j : y < pic .height) where
+    pub enough : (m : ℕ) → Room pic m → element pic (bx * 4) y + n ≤ m
+    enough m r = reached-all pic (bx * 4) y n m r (omega arith) (omega arith) j
 
-  pub under : (x y v : ℕ) (l : List ℕ) → pic .height ≤ y → Painted (At pic x y) (λ k. v) l l
-  under x y v l o = none _ _ l (λ k a. omega (arith, row-in pic k (a .within), a .down))
+    at : (k : ℕ) → InPiece pic bx y k → (k ≡ element pic (bx * 4) y + column pic k % 4) × (column pic k % 4 < n)
+    at k z =
+        let f = four (column pic k) bx (z .across) in (
+          only pic k (bx * 4 + column pic k % 4) y f (z .down) ∙ beside pic (bx * 4) y (column pic k % 4),
+          omega (arith, column-in pic k (z .within)),
+        )
 
-  -- one within it is one element
-  pub stored : (x y v : ℕ) (l : List ℕ) → Room pic (length l) → x < pic .width → y < pic .height → Painted (At pic x y) (λ k. v) l (set l (element pic x y) v)
-  stored x y v l room i j =
-      one (λ k. ⊥) (At pic x y) (λ k. v) l l (element pic x y) v
-      (none _ _ l (λ k z. z))
-      (reached pic x y (length l) room i j)
-      (record { within = inside-at pic x y i j; across = column-at pic x y i; down = row-at pic x y i })
-      refl
-      (λ k z. absurd z)
-      (λ k a. inr (only pic k x y (a .across) (a .down)))
+    back : (k : ℕ) → element pic (bx * 4) y ≤ k → k < element pic (bx * 4) y + n → InPiece pic bx y k
+    back k l h =
+        let i = k - element pic (bx * 4) y in
+        let x : bx * 4 + i < pic .width = omega arith in
+        let s : k ≡ element pic (bx * 4 + i) y = omega (arith, beside pic (bx * 4) y i) in
+        record {
+          within = subst (λ (m : ℕ). T (inside pic m)) (sym s) (inside-at pic (bx * 4 + i) y x j);
+          across = ap (λ (m : ℕ). column pic m / 4) s ∙ ap (λ (m : ℕ). m / 4) (column-at pic (bx * 4 + i) y x) ∙ omega arith;
+          down = ap (row pic) s ∙ row-at pic (bx * 4 + i) y x;
+        }
 
-  -- the pixels of a tile that are painted in the first i turns
+    -- row i of a tile, written through the piece
+    pub pieced : (t : List ℕ) (i m : ℕ) (old part : List ℕ) → Room pic (length old) → m ≡ n
+        → Painted (λ k. k < length (take m (drop (element pic (bx * 4) y) old))) (λ k. getD t (i * 4 + k) 0) (take m (drop (element pic (bx * 4) y) old)) part
+        → Painted (InPiece pic bx y) (inRow pic t i) old (take (element pic (bx * 4) y) old ++ (part ++ drop m (drop (element pic (bx * 4) y) old)))
+    pieced t i m old part r q p =
+        let o = enough (length old) r in
+        let s : length (take m (drop (element pic (bx * 4) y) old)) ≡ n = simp (length-take, length-drop) (omega arith) in
+        said _ _ _ _ old _ (lent _ _ (element pic (bx * 4) y) m old part (omega arith) p)
+        (λ k z. let u = at k z in (omega arith, omega arith, omega arith))
+        (λ k z. back k (z .0) (omega (arith, z .1)))
+        (λ k z. let u = at k z in ap (λ (m : ℕ). getD t (i * 4 + m) 0) (omega arith))
+
+  -- the pixels of a tile that are painted with the first i rows of it
   abbrev pub First : ℕ → ℕ → ℕ → ℕ → Type 0
-  First bx by i k = InTile pic bx by k × (numberIn pic k < i)
+  First bx by i k = InTile pic bx by k × (row pic k < by * 4 + i)
 
-  -- what holds before turn i: so many pixels of the tile t have been painted, over old
-  abbrev pub Turned : ℕ → ℕ → List ℕ → List ℕ → List ℕ → ℕ → Type 0
-  Turned bx by t old new i = (i ≤ 16) × Painted (First bx by i) (λ k. getD t (numberIn pic k) 0) old new
+  -- what holds before turn i of m: so many rows of the tile t have been painted, over old
+  abbrev pub Turned : ℕ → ℕ → ℕ → List ℕ → List ℕ → List ℕ → ℕ → Type 0
+  Turned bx by m t old new i = (i ≤ m) × Painted (First bx by i) (λ k. getD t (numberIn pic k) 0) old new
 
-  pub start : (bx by : ℕ) (t l : List ℕ) → Turned bx by t l l 0
-  start bx by t l = (omega arith, none _ _ l (λ k z. omega (arith, z .1)))
+  pub start : (bx by m : ℕ) (t l : List ℕ) → Turned bx by m t l l 0
+  start bx by m t l = (omega arith, none _ _ l (λ k z. omega (arith, z .1, z .0 .down)))
 
-  module _ (bx by i : ℕ) (n : i < 16) where
-    -- the pixel of turn i, and no other, has number i
-    turns : (k : ℕ) → At pic (bx * 4 + i % 4) (by * 4 + i / 4) k → InTile pic bx by k × (numberIn pic k ≡ i)
-    turns k z =
-        let s = numbered (column pic k) (row pic k) bx by i n (z .across) (z .down) in
-        (record { within = z .within; across = s .1; down = s .2 }, s .0)
-
-    back : (k : ℕ) → InTile pic bx by k → numberIn pic k ≡ i → At pic (bx * 4 + i % 4) (by * 4 + i / 4) k
-    back k z e =
-        let q = placed (column pic k) (row pic k) bx by i (z .across) (z .down) e in
-        record { within = z .within; across = q .0; down = q .1 }
-
-    -- one turn
-    pub turn : (t old mid new : List ℕ) → Turned bx by t old mid i → Painted (At pic (bx * 4 + i % 4) (by * 4 + i / 4)) (λ k. getD t i 0) mid new → Turned bx by t old new (i + 1)
-    turn t old mid new a b = (
-      omega arith,
-      also (First bx by i) (At pic (bx * 4 + i % 4) (by * 4 + i / 4)) (First bx by (i + 1)) (λ k. getD t (numberIn pic k) 0) old mid new (a .1)
-          (said _ _ (λ k. getD t i 0) (λ k. getD t (numberIn pic k) 0) mid new b (λ k z. z) (λ k z. z)
-          (λ k z. ap (λ (m : ℕ). getD t m 0) (sym (turns k z .1))))
-          (λ k z. (z .0, omega (arith, z .1)))
-          (λ k z. (turns k z .0, omega (arith, turns k z .1)))
-          (λ k z.
-          ⊎-elim (λ e. inr (back k (z .0) e))
-          (λ m. inl ((z .0, m), λ o. omega (arith, turns k o .1)))
-          (eq-or-lt-of-le {n = numberIn pic k} {m = i} (omega (arith, z .1)))),
-    )
+  -- one turn
+  pub turn : (bx by i m : ℕ) (t old mid new : List ℕ) → i < m → m ≤ 4 → Turned bx by m t old mid i → Painted (InPiece pic bx (by * 4 + i)) (inRow pic t i) mid new → Turned bx by m t old new (i + 1)
+  turn bx by i m t old mid new n f a b = (
+    omega arith,
+    also (First bx by i) (InPiece pic bx (by * 4 + i)) (First bx by (i + 1)) (λ k. getD t (numberIn pic k) 0) old mid new (a .1)
+        (said _ _ (inRow pic t i) (λ k. getD t (numberIn pic k) 0) mid new b (λ k z. z) (λ k z. z)
+        (λ k z. let d = z .down in ap (λ (j : ℕ). getD t (j * 4 + column pic k % 4) 0) (place (row pic k) d)))
+        (λ k z. (z .0, omega (arith, z .1)))
+        (λ k z. let d = z .down in (record { within = z .within; across = z .across; down = omega arith }, omega arith))
+        (λ k z.
+        ⊎-elim (λ e. inr (record { within = z .0 .within; across = z .0 .across; down = e }))
+        (λ l. inl ((z .0, l), λ o. omega (arith, o .down)))
+        (eq-or-lt-of-le {n = row pic k} {m = by * 4 + i} (omega (arith, z .1)))),
+  )
+    where
+      place : (y : ℕ) → y ≡ by * 4 + i → i ≡ y % 4
+      place y e = omega arith
 
   -- after the last turn, the tile
-  pub whole : (bx by i : ℕ) (t old new : List ℕ) → 16 ≤ i → Turned bx by t old new i → Painted (InTile pic bx by) (λ k. getD t (numberIn pic k) 0) old new
-  whole bx by i t old new h a = said _ _ _ _ old new (a .1) (λ k z. (z, omega arith)) (λ k z. z .0) (λ k z. refl)
+  pub whole : (bx by i m : ℕ) (t old new : List ℕ) → m ≡ shown (pic .height) by → m ≤ i → Turned bx by m t old new i → Painted (InTile pic bx by) (λ k. getD t (numberIn pic k) 0) old new
+  whole bx by i m t old new e h a =
+      said _ _ _ _ old new (a .1) (λ k z. (z, omega (arith, row-in pic k (z .within), z .down))) (λ k z. z .0) (λ k z. refl)
 
--- the first i elements of an image, painted over old
-abbrev pub Begun : List ℕ → List ℕ → List ℕ → ℕ → Type 0
-Begun t old new i = (i ≤ 16) × Painted (λ k. k < i) (λ k. getD t k 0) old new
-
-pub begin : (t l : List ℕ) → Begun t l l 0
-begin t l = (omega arith, none _ _ l (λ k z. omega arith))
-
-pub go-on : (t old new : List ℕ) (i : ℕ) → i < 16 → i < length new → Begun t old new i → Begun t old (set new i (getD t i 0)) (i + 1)
-go-on t old new i n h a = (
-  omega arith,
-  one (λ k. k < i) (λ k. k < i + 1) (λ k. getD t k 0) old new i (getD t i 0) (a .1) h (omega arith) refl
-      (λ k z. omega arith)
-      (λ k z. ⊎-elim (λ e. inr e) (λ m. inl (m, λ e. omega arith)) (eq-or-lt-of-le {n = k} {m = i} (omega arith))),
-)
-
-pub ended : (t old new : List ℕ) (i : ℕ) → 16 ≤ i → Begun t old new i → new ≡ painted (λ k. ltb k 16) (λ k. getD t k 0) old
-ended t old new i h a =
-    is-painted (λ k. k < i) (λ k. ltb k 16) (λ k. getD t k 0) old new
-    (λ k z. omega (arith, ltb→lt k 16 z))
-    (λ k z. lt→ltb k 16 (omega arith))
-    (a .1)
+  -- a tile beside the picture has no pixel
+  pub nothing : (bx by : ℕ) (v : ℕ → ℕ) (l : List ℕ) → pic .width ≤ bx * 4 → Painted (InTile pic bx by) v l l
+  nothing bx by v l o = none _ _ l (λ k z. omega (arith, column-in pic k (z .within), z .across))

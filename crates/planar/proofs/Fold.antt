@@ -5,7 +5,7 @@ use Prim.Native.Nat.{ℕ, _+_, _-_, _*_, _/_, _<_, _≤_, min}
 use native.Mathlib.Nat.{add-mul}
 use native.Mathlib.Omega.{arith}
 use Rattle.laws.proofs.Signed.{times-le}
-use Rattle.laws.proofs.Diff.{Is, is-pos, is-gap, is-plus, is-times, is-sum, is-quartered}
+use Rattle.laws.proofs.Diff.{is-pos, is-gap, is-plus, is-times, is-sum, is-quartered}
 use Rattle.rules.specs.Modes.{planarChannel}
 
 -- what is added, and what is taken away

@@ -1,6 +1,6 @@
 // Planar of src/etc/etc2.rs, written once for RGB and RGBA1: three base colours of three bytes each, and the plane through them.
 ghost use mathlib.Core.Path.{_≡_};
-ghost use Prim.Native.Nat.{ℕ, _/_, _%_, _≤_, _<_};
+ghost use Prim.Native.Nat.{_/_, _%_, _≤_, _<_};
 ghost use lib.ListN.{length};
 ghost use Rattle.rules.specs.Places.{tile};
 ghost use Rattle.rules.specs.Modes.{six, seven, planarBases, planarChannel, planarPixel};

@@ -1,6 +1,9 @@
 // What the test programs print: answers, elements, and how many elements changed.
 use libc::STDOUT_FILENO;
 use rules::Answer;
+ghost use mathlib.Core.Path.{_≡_};
+ghost use lib.ListN.{drop};
+ghost use Rattle.printing.specs.Changed.{others};
 
 pub fn say(text: &[u8]) {
     io::write_all(STDOUT_FILENO, text);
@@ -35,7 +38,9 @@ pub fn show(image: &[u32]) {
 }
 
 // How many elements from place `from` on are no more 11111111 (hex), which is what the images of the test programs hold before.
-pub fn changed(image: &[u32], from: usize) -> usize {
+pub fn changed(image: &[u32], from: usize) -> usize
+    ensures { λ r. ⌜ r ≡ others (drop from (now (image .entry))) ⌝ }
+{
     let mut n: usize = 0;
     let mut i = from;
     while i < image.len() {

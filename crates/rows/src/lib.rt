@@ -6,7 +6,34 @@ use rules::Format;
 use rules::Picture;
 ghost use mathlib.Core.Path.{_≡_};
 ghost use Prim.Native.Nat.{_*_, _<_, _≤_};
-ghost use Rattle.rows.specs.Rows.{high as highOf, ReadsRow};
+ghost use Rattle.rules.specs.Answers.{limit};
+ghost use Rattle.rules.specs.Places.{across as acrossOf};
+ghost use Rattle.rows.specs.Rows.{high as highOf, ReadsRow, cornerOf};
+
+// The column and the row of a pixel.
+pub struct Corner {
+    pub column: usize,
+    pub row: usize,
+}
+
+// How many blocks a side needs.
+pub fn across(side: usize) -> usize
+    requires { ⌜ side ≤ limit ⌝ }
+    ensures { λ r. ⌜ (r ≡ acrossOf side) × (r ≤ 4096) ⌝ }
+{
+    place::across(side)
+}
+
+// The first pixel of a block, in rows of n blocks.
+pub fn corner_of(block: usize, n: usize) -> Corner
+    requires { ⌜ (0 < n) × (block < 16777216) ⌝ }
+    ensures { λ r. ⌜ r ≡ cornerOf n block ⌝ }
+{
+    Corner {
+        column: block % n * 4,
+        row: block / n * 4,
+    }
+}
 
 // How many pixels row j of blocks is high.
 pub fn high(height: usize, j: usize) -> usize

@@ -1,6 +1,6 @@
 -- Worked examples of inputs that are alike, and of inputs that differ in one block: of a picture of two blocks, of two bytes each.
 -- Assumes nothing.
-use mathlib.Core.Path.{_≡_, refl, ap}
+use mathlib.Core.Path.{refl, ap}
 use mathlib.Core.List.{List, [], _∷_}
 use Prim.Native.Nat.{ℕ, zero, suc}
 use native.Mathlib.Omega.{arith}

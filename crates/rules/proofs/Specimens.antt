@@ -1,122 +1,124 @@
--- Document 01's starred specimens, S1 to S15, as rows of one list: one test that antt computes over the very definitions
--- that the readers promise. A row has the specimen's number, the reader, the bytes, what the reader says, and the image
--- afterwards; each image is seventeen elements of 11111111 (hex) before, so that the last shows what is never touched.
+-- Document 01's specimens, S1 to S18, and its table of refusals for every reader, as rows. Held.antt has the test.
 -- Assumes nothing.
-use mathlib.Core.Bool.{Bool, true, false, _&&_}
+use mathlib.Core.Bool.{Bool, true, false}
 use mathlib.Core.List.{List, [], _∷_, _++_}
-use Prim.Native.Nat.{ℕ, zero, suc, _+_, _*_}
-use lib.Dec.{T, eqb}
-use lib.ListN.{length, getD, replicate}
-use Rattle.rules.specs.Places.{sized, painted}
-use Rattle.rules.specs.Answers.{left, firstOf}
-use Rattle.rules.specs.Colour.{differential, wrapped, kindBySums, outOfRange}
-use Rattle.rules.specs.Modes.{tBases, tDistance, hBases, hDistance, planarBases, planarChannel, indexed, rgbPixel, rgba1Pixel, etc1Pixel}
-use Rattle.rules.specs.Channels.{alphaStep, alphaByte, rgba8Pixel, eacValue, eacByte, redPixel, redGreenPixel}
-use Rattle.rules.specs.Formats.{sizeOf, showsOf}
-use Rattle.rules.specs.Readers.{pictureOf, pictureVerdict, strictVerdict, blockVerdict, alphaPainted, channelVerdict, channelPainted}
-use Rattle.rules.specs.declared.Format.{Format}
+use Prim.Native.Nat.{ℕ}
+use lib.ListN.{replicate}
 use Rattle.rules.specs.declared.Format.the-variants.{Etc1, Etc2Rgb, Etc2Rgba1, Etc2Rgba8, EacR, EacRSigned, EacRg, EacRgSigned}
-
--- a 4 by 4 picture of a format, a strict one, the alpha half alone, and a channel alone
-data Reader : Type 0 where
-  picture : Format → Reader
-  strict : Reader
-  alphaHalf : Reader
-  channel : Bool → ℕ → Reader
-
-says : Reader → List ℕ → List ℕ → List ℕ
-says (picture f) d image = pictureVerdict f (sized 4 4) d image
-says strict d image = strictVerdict (sized 4 4) d image
-says alphaHalf d image = blockVerdict 8 d image
-says (channel s c) d image = channelVerdict c d image
-
-paints : Reader → List ℕ → List ℕ → List ℕ
-paints (picture f) d image = pictureOf f (sized 4 4) d image
-paints strict d image = pictureOf Etc2Rgb (sized 4 4) d image
-paints alphaHalf d image = alphaPainted d image
-paints (channel s c) d image = channelPainted s d c image
-
-record Row : Type 0 where
-  specimen : ℕ
-  reader : Reader
-  block : List ℕ
-  answer : List ℕ
-  image : List ℕ
-
-unfoldable pub same : List ℕ → List ℕ → Bool
-same [] [] = true
-same [] (y ∷ ys) = false
-same (x ∷ xs) [] = false
-same (x ∷ xs) (y ∷ ys) = eqb x y && same xs ys
-
-before : List ℕ
-before = replicate 17 0x11111111
-
-holds : Row → Bool
-holds r =
-    let verdict = says (r .reader) (r .block) before in
-    same verdict (r .answer) && same (left verdict (paints (r .reader) (r .block) before) before) (r .image)
-
-every : List Row → Bool
-every [] = true
-every (r ∷ rs) = holds r && every rs
-
--- accepted: sixteen pixels, and the last element as it was; refused: every element as it was
-shows : ℕ → Reader → List ℕ → List ℕ → Row
-shows n reader block pixels =
-    record { specimen = n; reader = reader; block = block; answer = 0 ∷ []; image = pixels ++ (0x11111111 ∷ []) }
-
-refuses : ℕ → Reader → List ℕ → List ℕ → Row
-refuses n reader block verdict =
-    record { specimen = n; reader = reader; block = block; answer = verdict; image = before }
+use Rattle.rules.proofs.Rows.{Reader, picture, strict, block, alphaHalf, channel, Row, shows, joins, refuses, answers, untouched}
 
 -- one colour everywhere; rows of the tile; two columns and two columns
-all : ℕ → List ℕ
+abbrev pub all : ℕ → List ℕ
 all v = replicate 16 v
 
-rows : ℕ → ℕ → ℕ → ℕ → List ℕ
+abbrev pub rows : ℕ → ℕ → ℕ → ℕ → List ℕ
 rows a b c d = replicate 4 a ++ (replicate 4 b ++ (replicate 4 c ++ replicate 4 d))
 
-columns : ℕ → ℕ → List ℕ
+abbrev pub columns : ℕ → ℕ → List ℕ
 columns a b = let r = a ∷ a ∷ b ∷ b ∷ [] in r ++ (r ++ (r ++ r))
 
--- eight bytes; and the first of them, or the first two, with 00 after them
-unfoldable pub bytes : ℕ → ℕ → ℕ → ℕ → ℕ → ℕ → ℕ → ℕ → List ℕ
-bytes a b c d e f g h = a ∷ b ∷ c ∷ d ∷ e ∷ f ∷ g ∷ h ∷ []
+-- "A single block given to a picture reader is a 4 by 4 picture."
+abbrev pub one : Reader → ℕ → List ℕ → Row
+one reader n pixels = shows reader 4 4 (n ∷ []) pixels 1
 
-two : ℕ → ℕ → List ℕ
-two a b = bytes a b 0 0 0 0 0 0
+abbrev pub stays : Reader → ℕ → List ℕ → Row
+stays reader n verdict = refuses reader 4 4 (n ∷ []) 17 verdict
 
-s2 : List ℕ
-s2 = bytes 0x04 0 0 0x02 0 0 0 0
+-- over elements of 11111111
+abbrev pub alpha : ℕ → ℕ → Row
+alpha n v = joins alphaHalf (n ∷ []) (untouched 17) (all v ++ untouched 1)
 
--- Rows of our own, number 0, for what the fifteen would not see: two sums out of range at once (red goes first), and which
--- end of an index word comes first.
-specimens : List Row
-specimens =
-    shows 1 (picture Etc1) (two 0 0) (all 0xFF020202)
-    ∷ shows 1 (picture Etc2Rgb) (two 0 0) (all 0xFF020202)
-    ∷ shows 1 (picture Etc2Rgba1) (two 0 0) (all 0xFF000000)
-    ∷ shows 2 (picture Etc1) s2 (columns 0xFF020202 0xFFE90202)
-    ∷ shows 2 (picture Etc2Rgb) s2 (all 0xFF000000)
-    ∷ refuses 2 strict s2 (4 ∷ 0 ∷ [])
-    ∷ shows 3 (picture Etc2Rgb) (bytes 0 0x04 0 0x02 0 0 0 0) (all 0xFF060606)
-    ∷ shows 4 (picture Etc2Rgb) (bytes 0 0 0x04 0x02 0 0 0 0x3F) (rows 0xFF000000 0xFF000040 0xFF000080 0xFF0000BF)
-    ∷ shows 5 (picture Etc2Rgba1) (bytes 0x80 0 0 0 0xFF 0xFF 0 0) (all 0)
-    ∷ shows 6 strict (bytes 0xF8 0 0 0x02 0 0 0 0) (all 0xFFFF0202)
-    ∷ refuses 7 strict (bytes 0xF9 0 0 0x02 0 0 0 0) (4 ∷ 0 ∷ [])
-    ∷ shows 8 strict (bytes 0x24 0 0 0x02 0 0 0 0) (columns 0xFF230202 0xFF020202)
-    ∷ refuses 9 strict (bytes 0x1C 0 0 0x02 0 0 0 0) (4 ∷ 0 ∷ [])
-    ∷ shows 10 alphaHalf (two 0x80 0x10) (all 0x7D111111)
-    ∷ shows 11 alphaHalf (two 0x80 0) (all 0x80111111)
-    ∷ shows 12 alphaHalf (two 0x02 0x10) (all 0x00111111)
-    ∷ shows 13 (picture EacR) (two 0x80 0x10) (all 0xFF7D0000)
-    ∷ shows 14 (picture EacR) (two 0x80 0) (all 0xFF800000)
-    ∷ shows 15 (picture EacRSigned) (two 0 0x10) (all 0xFF7C0000)
-    ∷ shows 0 (picture Etc2Rgb) (bytes 0x04 0x04 0x04 0x02 0 0 0 0) (all 0xFF000044)
-    ∷ shows 0 (picture EacR) (bytes 0x80 0x10 0 0 0 0 0 0x07) (replicate 15 0xFF7D0000 ++ (0xFF8E0000 ∷ []))
+-- "Specimens from the fitting bench", S1 to S18
+unfoldable pub bench : List Row
+bench =
+    -- S1
+    one (picture Etc1) 0x0000000000000000 (all 0xFF020202)
+    ∷ one (picture Etc2Rgb) 0x0000000000000000 (all 0xFF020202)
+    ∷ one (picture Etc2Rgba1) 0x0000000000000000 (all 0xFF000000)
+    -- S2
+    ∷ one (picture Etc1) 0x0400000200000000 (columns 0xFF020202 0xFFE90202)
+    ∷ one (picture Etc2Rgb) 0x0400000200000000 (all 0xFF000000)
+    ∷ stays strict 0x0400000200000000 (4 ∷ 0 ∷ [])
+    -- S3
+    ∷ one (picture Etc2Rgb) 0x0004000200000000 (all 0xFF060606)
+    -- S4
+    ∷ one (picture Etc2Rgb) 0x000004020000003F (rows 0xFF000000 0xFF000040 0xFF000080 0xFF0000BF)
+    -- S5
+    ∷ one (picture Etc2Rgba1) 0x80000000FFFF0000 (all 0)
+    -- S6 to S9; of the accepted ones the document has the verdict, and the crate the pixels
+    ∷ one strict 0xF800000200000000 (all 0xFFFF0202)
+    ∷ stays strict 0xF900000200000000 (4 ∷ 0 ∷ [])
+    ∷ one strict 0x2400000200000000 (columns 0xFF230202 0xFF020202)
+    ∷ stays strict 0x1C00000200000000 (4 ∷ 0 ∷ [])
+    -- S10 to S12
+    ∷ alpha 0x8010000000000000 0x7D111111
+    ∷ alpha 0x8000000000000000 0x80111111
+    ∷ alpha 0x0210000000000000 0x00111111
+    -- S13 to S15
+    ∷ one (picture EacR) 0x8010000000000000 (all 0xFF7D0000)
+    ∷ one (picture EacR) 0x8000000000000000 (all 0xFF800000)
+    ∷ one (picture EacRSigned) 0x0010000000000000 (all 0xFF7C0000)
+    -- S16
+    ∷ shows (picture Etc1) 5 1 (0x0400000200000000 ∷ 0x0000000000000000 ∷ [])
+    (0xFF020202 ∷ 0xFF020202 ∷ 0xFFE90202 ∷ 0xFFE90202 ∷ 0xFF020202 ∷ [])
+    1
+    ∷ refuses strict 5 1 (0x0400000200000000 ∷ 0x0000000000000000 ∷ []) 6 (4 ∷ 0 ∷ [])
+    -- S17
+    ∷ answers (picture Etc1) 5 5 31 25 (2 ∷ [])
+    ∷ answers (picture Etc1) 5 5 32 24 (3 ∷ [])
+    ∷ answers (picture Etc1) 5 5 31 24 (2 ∷ [])
+    ∷ shows (picture Etc1) 5 5 (0 ∷ 0 ∷ 0 ∷ 0x8000000200000000 ∷ []) (replicate 24 0xFF020202 ++ (0xFF860202 ∷ [])) 0
+    -- S18
+    ∷ answers (picture Etc1) 16384 0 0 0 (0 ∷ [])
+    ∷ answers (picture Etc1) 16385 0 0 0 (1 ∷ [])
     ∷ []
 
-hold : T (every specimens)
-unfolding says paints same before holds every shows refuses all rows columns bytes two s2 specimens painted firstOf differential wrapped kindBySums outOfRange tBases tDistance hBases hDistance planarBases planarChannel indexed rgbPixel rgba1Pixel etc1Pixel alphaStep alphaByte rgba8Pixel eacValue eacByte redPixel redGreenPixel sizeOf showsOf
-hold = tt
+-- 1 "width or height above 16,384", 2 "fewer bytes than blocks * block size", 3 "fewer image elements than width * height",
+-- "in that order"; "Width 0 or height 0, where the checks pass, is accepted and changes nothing": one byte short, just enough
+abbrev pub refusals : Reader → ℕ → ℕ → List Row
+refusals reader short enough =
+    answers reader 16384 0 0 1 (0 ∷ [])
+    ∷ answers reader 0 16384 0 1 (0 ∷ [])
+    ∷ answers reader 16385 0 0 1 (1 ∷ [])
+    ∷ answers reader 0 16385 0 1 (1 ∷ [])
+    ∷ answers reader 16385 1 0 0 (1 ∷ [])
+    ∷ answers reader 5 9 short 45 (2 ∷ [])
+    ∷ answers reader 5 9 enough 44 (3 ∷ [])
+    ∷ answers reader 5 9 short 44 (2 ∷ [])
+    ∷ []
+
+-- "block readers check 5, then 2 (fewer than 8 or 16 bytes), then 3 (fewer than 16 elements)"
+abbrev pub blockRefusals : Reader → ℕ → ℕ → List Row
+blockRefusals reader short enough =
+    answers reader 4 4 short 16 (2 ∷ []) ∷ answers reader 4 4 enough 15 (3 ∷ []) ∷ answers reader 4 4 short 15 (2 ∷ []) ∷ []
+
+-- "channel above 3"
+abbrev pub channelRefusals : Bool → List Row
+channelRefusals signed =
+    answers (channel signed 4) 4 4 8 16 (5 ∷ [])
+    ∷ answers (channel signed 4) 4 4 7 15 (5 ∷ [])
+    ∷ blockRefusals (channel signed 3) 7 8
+
+unfoldable pub table : List Row
+table =
+    refusals (picture Etc1) 47 48
+    ++ refusals (picture Etc2Rgb) 47 48
+    ++ refusals (picture Etc2Rgba1) 47 48
+    ++ refusals (picture Etc2Rgba8) 95 96
+    ++ refusals (picture EacR) 47 48
+    ++ refusals (picture EacRSigned) 47 48
+    ++ refusals (picture EacRg) 95 96
+    ++ refusals (picture EacRgSigned) 95 96
+    ++ refusals strict 47 48
+    ++ (refuses strict 4 4 (0x0400000200000000 ∷ []) 15 (3 ∷ []) ∷ [])
+    ++ blockRefusals (block Etc1) 7 8
+    ++ blockRefusals (block Etc2Rgb) 7 8
+    ++ blockRefusals (block Etc2Rgba1) 7 8
+    ++ blockRefusals (block Etc2Rgba8) 15 16
+    ++ blockRefusals (block EacR) 7 8
+    ++ blockRefusals (block EacRSigned) 7 8
+    ++ blockRefusals (block EacRg) 15 16
+    ++ blockRefusals (block EacRgSigned) 15 16
+    ++ blockRefusals alphaHalf 7 8
+    ++ channelRefusals false
+    ++ channelRefusals true

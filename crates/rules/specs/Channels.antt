@@ -39,7 +39,7 @@ alphaSteps =
 -- "Pixel i's three-bit index lies at bits 45 - 3i to 47 - 3i of b2..b7 read big-endian."
 abbrev pub indexWord : List ℕ → ℕ
 indexWord d =
-    byte d 2 * 1099511627776 + byte d 3 * 4294967296 + byte d 4 * 16777216 + byte d 5 * 65536 + byte d 6 * 256 + byte d 7
+    byte d 2 * 2 ^ 40 + byte d 3 * 2 ^ 32 + byte d 4 * 2 ^ 24 + byte d 5 * 2 ^ 16 + byte d 6 * 2 ^ 8 + byte d 7
 
 abbrev pub alphaIndex : List ℕ → ℕ → ℕ
 alphaIndex d i = indexWord d / 2 ^ (45 - 3 * i) % 8
@@ -54,17 +54,20 @@ alphaByte d x y = clamp 255 (pos (byte d 0) +ℤ pos (bits 7 4 (byte d 1)) *ℤ 
 
 -- "The alpha half replaces the top byte of each and keeps the rest."
 abbrev pub withAlpha : ℕ → ℕ → ℕ
-withAlpha p a = a * 16777216 + p % 16777216
+withAlpha p a = a * 2 ^ 24 + p % 2 ^ 24
 
 -- "In RGBA8 the alpha half is bytes 0 to 7; the colour half begins at byte 8 of the same lent bytes."
 unfoldable pub rgba8Pixel : List ℕ → ℕ → ℕ → ℕ
 rgba8Pixel d x y = withAlpha (rgbPixel (drop 8 d) x y) (alphaByte d x y)
 
--- "EAC unsigned: v = 8 * b0 + 4 + .."; "EAC signed: the same with b0 as two's complement, -128 to 127 as the crate has it,
--- and 1023 in place of 4."
+-- "b0 as two's complement, -128 to 127 as the crate has it": the signed base
+abbrev pub signedBase : ℕ → ℤ
+signedBase b = twos 8 b
+
+-- "EAC unsigned: v = 8 * b0 + 4 + .."; "EAC signed: the same with" the signed base, "and 1023 in place of 4."
 abbrev pub centre : Bool → ℕ → ℤ
 centre false b = pos 8 *ℤ pos b +ℤ pos 4
-centre true b = pos 8 *ℤ twos 8 b +ℤ pos 1023
+centre true b = pos 8 *ℤ signedBase b +ℤ pos 1023
 
 -- ".. + M * step, with M = 8m, or 1 where m = 0"
 abbrev pub multiplier : ℕ → ℕ

@@ -3,13 +3,14 @@
 -- Assumes nothing.
 use mathlib.Core.Bool.{Bool, true, false, cond}
 use mathlib.Core.List.{List, [], _∷_}
-use Prim.Native.Nat.{ℕ, zero, suc, _+_, _*_, _/_, _%_}
+use Prim.Native.Nat.{ℕ, _+_, _*_, _/_}
 use lib.Dec.{eqb, leb, ltb}
-use lib.IntN.{ℤ, pos, _+ℤ_, _-ℤ_, _*ℤ_}
+use lib.IntN.{pos, _+ℤ_, _-ℤ_, _*ℤ_}
 use lib.ListN.{getD}
 use Rattle.rules.specs.Notation.{byte, bit, bits, minus, clamp, quarter}
 use Rattle.rules.specs.Pixel.{word}
-use Rattle.rules.specs.Colour.{index, half, code, differs, unused, individual, differential, wrapping, kindBySums, kindOf, stepsOf, shaded, halfColours}
+use Rattle.rules.specs.Colour.{index, half, code, differs, unused, individual, differential, wrapping}
+use Rattle.rules.specs.Colour.{kindBySums, kindOf, stepsOf, shaded, halfColours}
 use Rattle.rules.specs.declared.Kind.{Kind}
 use Rattle.rules.specs.declared.Kind.the-variants.{Individual, Differential, T, H, Planar}
 
@@ -42,7 +43,10 @@ tColours c m =
 -- H: c0 is bits 62..59, 58..56 with 52, 51 with 49..47; c1 is bits 46..43, 42..39, 38..35; each four bits times 17
 unfoldable pub hBases : List ℕ → List (List ℕ)
 hBases d =
-    (bits 6 3 (byte d 0) * 17 ∷ (2 * bits 2 0 (byte d 0) + bit 4 (byte d 1)) * 17 ∷ (8 * bit 3 (byte d 1) + 2 * bits 1 0 (byte d 1) + bit 7 (byte d 2)) * 17 ∷ [])
+    (bits 6 3 (byte d 0) * 17
+    ∷ (2 * bits 2 0 (byte d 0) + bit 4 (byte d 1)) * 17
+    ∷ (8 * bit 3 (byte d 1) + 2 * bits 1 0 (byte d 1) + bit 7 (byte d 2)) * 17
+    ∷ [])
     ∷ (bits 6 3 (byte d 2) * 17 ∷ (2 * bits 2 0 (byte d 2) + bit 7 (byte d 3)) * 17 ∷ bits 6 3 (byte d 3) * 17 ∷ [])
     ∷ unused
     ∷ []
@@ -81,9 +85,18 @@ seven v = 2 * v + v / 64
 -- 18..13, 12..6, 5..0; red and blue have six bits, green seven
 unfoldable pub planarBases : List ℕ → List (List ℕ)
 planarBases d =
-    (six (bits 6 1 (byte d 0)) ∷ seven (64 * bit 0 (byte d 0) + bits 6 1 (byte d 1)) ∷ six (32 * bit 0 (byte d 1) + 8 * bits 4 3 (byte d 2) + 2 * bits 1 0 (byte d 2) + bit 7 (byte d 3)) ∷ [])
-    ∷ (six (2 * bits 6 2 (byte d 3) + bit 0 (byte d 3)) ∷ seven (bits 7 1 (byte d 4)) ∷ six (32 * bit 0 (byte d 4) + bits 7 3 (byte d 5)) ∷ [])
-    ∷ (six (8 * bits 2 0 (byte d 5) + bits 7 5 (byte d 6)) ∷ seven (4 * bits 4 0 (byte d 6) + bits 7 6 (byte d 7)) ∷ six (bits 5 0 (byte d 7)) ∷ [])
+    (six (bits 6 1 (byte d 0))
+    ∷ seven (64 * bit 0 (byte d 0) + bits 6 1 (byte d 1))
+    ∷ six (32 * bit 0 (byte d 1) + 8 * bits 4 3 (byte d 2) + 2 * bits 1 0 (byte d 2) + bit 7 (byte d 3))
+    ∷ [])
+    ∷ (six (2 * bits 6 2 (byte d 3) + bit 0 (byte d 3))
+    ∷ seven (bits 7 1 (byte d 4))
+    ∷ six (32 * bit 0 (byte d 4) + bits 7 3 (byte d 5))
+    ∷ [])
+    ∷ (six (8 * bits 2 0 (byte d 5) + bits 7 5 (byte d 6))
+    ∷ seven (4 * bits 4 0 (byte d 6) + bits 7 6 (byte d 7))
+    ∷ six (bits 5 0 (byte d 7))
+    ∷ [])
     ∷ []
 
 -- "floor((x(H - O) + y(V - O) + 4O + 2) / 4), clamped"

@@ -1,92 +1,120 @@
-// Whether a strict ETC1 reader accepts a picture, row of blocks by row of blocks: crates/rows proves that the first row which
-// it refuses names the first block.
+// Whether a strict ETC1 reader accepts a picture, row of blocks by row of blocks. What is said follows from the bytes of each
+// row by functions whose contracts are equations; reading them and writing the words is all that no contract speaks of.
 use header::Texture;
+use rules::Answer;
 use rules::Format;
+ghost use mathlib.Core.Path.{_≡_};
 ghost use Prim.Native.Nat.{_+_, _*_, _<_, _≤_};
 ghost use lib.ListN.{length};
+ghost use Rattle.rules.specs.Places.{sized};
+ghost use Rattle.rules.specs.Answers.{said, limit};
+ghost use Rattle.rows.specs.Rows.{scannedRow};
+ghost use Rattle.scan.specs.Scan.{isColour, numberOf, ScansRow, Scans, Checked};
 
-// What a row of blocks has: no block out of range, a first one, or an end before its time.
-pub enum Scanned {
-    Clear,
-    At(usize),
-    Short,
+// What a strict reader says of all blocks up to row j of n blocks, from the bytes of that row, where it had nothing to say
+// before.
+fn after_row(row: &[u8], n: usize, j: usize) -> Answer
+    requires { ⌜ (n ≤ 4096) × (j < 4096) × (n * 8 ≤ length (now row)) ⌝ }
+    ensures { λ r. ⌜ said r ≡ scannedRow n j (now (row .entry)) ⌝ }
+{
+    let first = picture::first_out_of_range(row, n);
+    if first < n {
+        return Answer::OutOfRange(j * n + first);
+    }
+    Answer::Done
 }
 
-// Reads a row of n blocks of 8 bytes, which is next in the file, and scans it.
-fn scan_row(fd: i32, n: usize, bytes: &mut [u8]) -> Scanned
-    requires { ⌜ (n ≤ 4096) × (65536 ≤ length (now bytes)) ⌝ }
+// Reads row j of n blocks, which is next in the file, and scans it.
+fn scan_row(fd: i32, n: usize, j: usize, bytes: &mut [u8]) -> Answer
+    requires { ⌜ (n ≤ 4096) × (j < 4096) × (65536 ≤ length (now bytes)) ⌝ }
+    ensures { λ r. ⌜ ScansRow n j (now (bytes .exit)) r ⌝ }
 {
     let size = n * 8;
     let got = io::read_full(fd, &mut bytes[..size]);
     if got < size {
-        return Scanned::Short;
+        return Answer::ShortData;
     }
-    let first = picture::first_out_of_range(&bytes[..size], n);
-    if first < n {
-        Scanned::At(first)
-    } else {
-        Scanned::Clear
-    }
+    after_row(&bytes[..size], n, j)
 }
 
-// Scans rows of n blocks, and says what is found.
-fn scan_rows(fd: i32, n: usize, rows: usize) -> u64
-    requires { ⌜ (n ≤ 4096) × (rows ≤ 4096) ⌝ }
+// Scans a picture, until a row is refused or the file ends.
+fn scan_rows(fd: i32, width: usize, height: usize) -> Answer
+    requires { ⌜ (width ≤ limit) × (height ≤ limit) ⌝ }
+    ensures { λ r. ⌜ Scans (sized width height) r ⌝ }
 {
+    let n = rows::across(width);
+    let rows = rows::across(height);
     let mut room = io::large_buffer();
     let bytes: &mut [u8] = &mut room;
     let mut j: usize = 0;
     while j < rows {
-        match scan_row(fd, n, bytes) {
-            Scanned::Short => {
-                words::refusal(2);
-                return 2;
-            }
-            Scanned::At(first) => {
-                say_block(n, j, first);
-                return 4;
-            }
-            Scanned::Clear => {}
-        }
+        let answer = scan_row(fd, n, j, bytes);
+        let Answer::Done = answer else {
+            return answer;
+        };
         j += 1;
     }
-    words::accepted();
-    0
+    Answer::Done
 }
 
-// Says which block was found: the one of this number in row j of n blocks.
-fn say_block(n: usize, j: usize, first: usize)
-    requires { ⌜ (n ≤ 4096) × (j < 4096) ⌝ }
+// The number of an answer, as the tool answers it.
+fn number(answer: Answer) -> u64
+    ensures { λ r. ⌜ r ≡ numberOf answer ⌝ }
 {
-    if first < n {
-        words::refused_block(j * n + first, first * 4, j * 4);
+    etc::number(answer) as u64
+}
+
+// Says what a strict reader says of a picture: the words follow from the answer alone.
+fn say(answer: Answer, width: usize, height: usize)
+    requires { ⌜ (width ≤ limit) × (height ≤ limit) × Scans (sized width height) answer ⌝ }
+{
+    match answer {
+        Answer::Done => words::accepted(),
+        Answer::OutOfRange(block) => words::refused_block(block, rows::across(width)),
+        _ => words::refusal(number(answer)),
     }
 }
 
 // Whether a format is one that an ETC1 reader may be handed.
-fn is_colour(f: Format) -> bool {
+fn is_colour(f: Format) -> bool
+    ensures { λ r. ⌜ r ≡ isColour f ⌝ }
+{
     match f {
-        Format::Etc1 | Format::Etc2Rgb => true,
-        _ => false,
+        Format::Etc1 => true,
+        Format::Etc2Rgb => true,
+        Format::Etc2Rgba1 => false,
+        Format::Etc2Rgba8 => false,
+        Format::EacR => false,
+        Format::EacRSigned => false,
+        Format::EacRg => false,
+        Format::EacRgSigned => false,
     }
 }
 
-// Says whether a strict ETC1 reader accepts the picture of an opened file, and answers the number of that.
-pub fn picture(fd: i32, t: Texture) -> u64 {
+// Says why there is nothing to scan, and answers the number of that.
+fn refused(number: u64) -> u64
+    ensures { λ r. ⌜ r ≡ number ⌝ }
+{
+    words::refusal(number);
+    number
+}
+
+// Says whether a strict ETC1 reader accepts the picture of a file whose next byte is that of its first block, and answers the
+// number of that.
+pub fn picture(fd: i32, t: Texture) -> u64
+    ensures { λ r. ⌜ ((r ≡ 0 → Checked (sized (t .width) (t .height)) r) × (r ≡ 4 → Checked (sized (t .width) (t .height)) r)) ⌝ }
+{
     let f = t.format;
     if !is_colour(f) {
-        words::refusal(27);
-        return 27;
+        return refused(27);
     }
     if 16384 < t.width {
-        return 1;
+        return refused(1);
     }
     if 16384 < t.height {
-        return 1;
+        return refused(1);
     }
-    if !writer::seek(fd, t.start) {
-        words::refusal(30);
-        return 30;
-    }
-    scan_rows(fd, (t.width + 3) / 4, (t.height + 3) / 4)
+    let answer = scan_rows(fd, t.width, t.height);
+    say(answer, t.width, t.height);
+    number(answer)
 }

@@ -1,6 +1,6 @@
 -- The bits of an index word, and what a turn of the pick reads.
 -- Assumes nothing.
-use mathlib.Core.Path.{_≡_, _∙_, refl, sym, ap}
+use mathlib.Core.Path.{_≡_, _∙_, ap}
 use mathlib.Core.Bool.{Bool, true, false, cond}
 use mathlib.Core.List.{List, [], _∷_}
 use Prim.Native.Nat.{ℕ, _+_, _*_, _/_, _%_, _<_}
@@ -12,7 +12,8 @@ use Rattle.laws.proofs.Filled.{is-build, length-build, getD-build}
 use Rattle.shade.specs.Pick.{lowWord, highWord, halfAt, eight, taken}
 
 -- what a turn reads is what the pixel takes
-pub takes : (d colours : List ℕ) (i h low high : ℕ) → i < 16 → h ≡ halfAt (flipped d) (i / 4) (i % 4) → low % 2 ≡ bit i (lowWord d) → high % 2 ≡ bit i (highWord d) → getD colours (h * 4 + (high % 2 * 2 + low % 2)) 0 ≡ taken d colours (4 * (i % 4) + i / 4)
+pub takes : (d colours : List ℕ) (i h low high : ℕ) → i < 16 → h ≡ halfAt (flipped d) (i / 4) (i % 4) → low % 2 ≡ bit i (lowWord d)
+    → high % 2 ≡ bit i (highWord d) → getD colours (h * 4 + (high % 2 * 2 + low % 2)) 0 ≡ taken d colours (4 * (i % 4) + i / 4)
 unfolding taken
 takes d colours i h low high p eh el ek =
     let x : (4 * (i % 4) + i / 4) % 4 ≡ i / 4 = omega arith in
@@ -45,5 +46,6 @@ picks d colours set e =
     ∙ one colours (half d x y) (index d x y) (small-half (flipped d) x y (omega arith) (omega arith)) (omega arith))
 
 -- the colours of two halves, one after the other, are the eight
-pub halves : (colours : ℕ → List ℕ) (a b : List ℕ) → a ≡ colours 0 → b ≡ colours 1 → getD a 0 0 ∷ getD a 1 0 ∷ getD a 2 0 ∷ getD a 3 0 ∷ getD b 0 0 ∷ getD b 1 0 ∷ getD b 2 0 ∷ getD b 3 0 ∷ [] ≡ eight colours
+pub halves : (colours : ℕ → List ℕ) (a b : List ℕ) → a ≡ colours 0 → b ≡ colours 1
+    → getD a 0 0 ∷ getD a 1 0 ∷ getD a 2 0 ∷ getD a 3 0 ∷ getD b 0 0 ∷ getD b 1 0 ∷ getD b 2 0 ∷ getD b 3 0 ∷ [] ≡ eight colours
 halves colours a b p q = rw (p, q)

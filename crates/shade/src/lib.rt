@@ -2,14 +2,13 @@
 // kind of ETC2 block but planar share. Colours are made first and picked then, since sixteen sums and clamps take twice as long.
 ghost use mathlib.Core.Path.{_≡_};
 ghost use mathlib.Core.List.{[], _∷_};
-ghost use Prim.Native.Nat.{ℕ, _+_, _*_, _/_, _%_, _≤_, _<_};
+ghost use Prim.Native.Nat.{ℕ, _+_, _*_, _/_, _%_, _^_, _≤_, _<_};
 ghost use lib.IntN.{pos, _+ℤ_};
 ghost use lib.ListN.{length, getD};
 ghost use lib.Signed.{mag};
-ghost use Rattle.rules.specs.Notation.{build, clamp, byte};
-ghost use Rattle.rules.specs.Colour.{shaded, halfColours, flipped};
-ghost use Rattle.consts.specs.Tables.{fourSteps};
-ghost use Rattle.shade.specs.Pick.{highWord, lowWord, halfAt, eight, taken};
+ghost use Rattle.rules.specs.Notation.{build, clamp};
+ghost use Rattle.rules.specs.Colour.{shaded};
+ghost use Rattle.shade.specs.Pick.{highWord, lowWord, halfAt, taken};
 
 // A channel with a step, clamped to a byte.
 fn stepped(channel: u8, step: i16) -> u32
@@ -53,18 +52,12 @@ pub fn joined(a: [u32; 4], b: [u32; 4]) -> [u32; 8]
     [a[0], a[1], a[2], a[3], b[0], b[1], b[2], b[3]]
 }
 
-fn wide(b: u8) -> u32
-    ensures { λ r. ⌜ (r ≡ b) × (r < 256) ⌝ }
-{
-    b as u32
-}
-
 // The index bits of a block: the high ones above the low ones.
 fn index_bits(d: &[u8]) -> u32
     requires { ⌜ 8 ≤ length (now d) ⌝ }
-    ensures { λ r. ⌜ (r ≡ highWord (now (d .entry)) * 65536 + lowWord (now (d .entry))) × (lowWord (now (d .entry)) < 65536) ⌝ }
+    ensures { λ r. ⌜ (r ≡ highWord (now (d .entry)) * 2 ^ 16 + lowWord (now (d .entry))) × (lowWord (now (d .entry)) < 2 ^ 16) ⌝ }
 {
-    wide(d[4]) * 16777216 + wide(d[5]) * 65536 + wide(d[6]) * 256 + wide(d[7])
+    color::two_bytes(d[4], d[5]) * 0x10000 + color::two_bytes(d[6], d[7])
 }
 
 // The half of pixel i = 4x + y.
@@ -83,7 +76,7 @@ pub fn picked(d: &[u8], colours: [u32; 8]) -> [u32; 16]
     let order = consts::write_order();
     let flip = d[3] % 2 == 1;
     let mut low = index_bits(d);
-    let mut high = low / 65536;
+    let mut high = low / 0x10000;
     let mut out = [0u32; 16];
     let mut i: usize = 0;
     while i < 16 {

@@ -3,7 +3,7 @@
 mod args;
 mod source;
 
-use args::Asked;
+use call::Asked;
 use header::Header;
 use source::Source;
 
@@ -30,6 +30,10 @@ fn checked(source: Source) -> u64 {
     let Header::Holds(t) = told else {
         return refused(told);
     };
+    if !source::seek(source.fd, t.start) {
+        words::refusal(30);
+        return 30;
+    }
     scan::picture(source.fd, t)
 }
 
@@ -44,6 +48,10 @@ fn unpacked(source: Source, place: usize) -> u64 {
     if os::errno() != 0 {
         words::refusal(32);
         return 32;
+    }
+    if !source::seek(source.fd, t.start) {
+        words::refusal(30);
+        return 30;
     }
     writer::picture(source.fd, t, &path[..n])
 }

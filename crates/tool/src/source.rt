@@ -1,6 +1,6 @@
 // A file that is read: its descriptor, its length and what its header tells.
-use crate::args::Asked;
-use crate::args::Number;
+use call::Asked;
+use call::Number;
 use header::Header;
 use header::Known;
 
@@ -39,6 +39,15 @@ fn header_of(fd: i32, len: usize) -> Header {
     let at = header::level_at(&head[..n]) as i64;
     let m = io::count(libc::pread(fd, &mut level, at), &level);
     header::read_header(&head[..n], &level[..m], len)
+}
+
+// Goes to a byte of a file.
+pub fn seek(fd: i32, start: usize) -> bool {
+    if 8589934592 < start {
+        return false;
+    }
+    let at = start as i64;
+    libc::lseek(fd, at, libc::SEEK_SET) == at
 }
 
 // What the arguments say of bare blocks in a file of so many bytes.

@@ -5,6 +5,7 @@ use libc::STDERR_FILENO;
 use libc::STDOUT_FILENO;
 use rules::Format;
 ghost use mathlib.Core.Path.{_≡_};
+ghost use Prim.Native.Nat.{_<_};
 ghost use Rattle.header.specs.Files.{numberOf};
 
 // The number of what a header tells.
@@ -146,13 +147,16 @@ pub fn accepted() {
     tell(b"A strict ETC1 reader accepts this picture: no block of it is newer than ETC1.\n");
 }
 
-// The first block that it does not accept, and the first pixel of that block.
-pub fn refused_block(block: usize, column: usize, row: usize) {
+// The first block that it does not accept, where n blocks are a row, and the first pixel of that block.
+pub fn refused_block(block: usize, n: usize)
+    requires { ⌜ (0 < n) × (block < 16777216) ⌝ }
+{
+    let corner = rows::corner_of(block, n);
     tell(b"A strict ETC1 reader must not show this picture: block ");
     count(block as u64);
     tell(b", at pixel column ");
-    count(column as u64);
+    count(corner.column as u64);
     tell(b" and row ");
-    count(row as u64);
+    count(corner.row as u64);
     tell(b", is an ETC2 block.\n");
 }

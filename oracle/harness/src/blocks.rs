@@ -1,9 +1,10 @@
-//! The bytes of blocks: random, of each kind in equal shares, of edge values, and
-//! each byte value in each position.
+//! The bytes of blocks: random, of each kind in equal shares, of edge values, each byte value
+//! in each position, and T and H with each distance number and each order of H's bases.
 
 use crate::random::Random;
 use crate::readers::{half, is_eac, Half};
 use crate::rules::is_outside;
+use std::cmp::Ordering;
 
 #[derive(Clone, Copy, PartialEq)]
 pub enum Fill {
@@ -17,7 +18,18 @@ pub enum Fill {
     CrateOrder,
     /// No block with a sum out of range, but for the one that is named, if any.
     InRange(Option<usize>),
+    /// T and H in each of their modes in its turn, counted on from this number of blocks.
+    Modes(usize),
 }
+
+/// T with each of its eight distance numbers; then H with each number that its two bits give
+/// and each way in which the order of its bases is decided.
+pub const MODES: usize = 8 + 4 * ORDERS.len();
+
+/// How the order of H's bases is decided: by which channel, red first, and whether c0 has
+/// more there than c1. None: the bases are equal.
+const ORDERS: [Option<(usize, bool)>; 7] =
+    [Some((0, false)), Some((0, true)), Some((1, false)), Some((1, true)), Some((2, false)), Some((2, true)), None];
 
 const EDGES: [u8; 20] = [
     0x00, 0x01, 0x02, 0x03, 0x04, 0x07, 0x08, 0x0f, 0x10, 0x1c, 0x24, 0x3f, 0x7f, 0x80, 0x81, 0xe0, 0xf8, 0xf9, 0xfe,
@@ -53,6 +65,7 @@ fn eight(half: Half, fill: Fill, number: usize, random: &mut Random) -> [u8; 8] 
         Fill::EveryByte(from) => background(half, (from + number) / 4096, random),
         Fill::InRange(new) if new == Some(number) => colour(2 + random.below(3), random),
         Fill::InRange(_) => colour(number % 2, random),
+        Fill::Modes(from) => of_mode(half, from + number, random),
     }
 }
 
@@ -81,9 +94,67 @@ fn of_kind(half: Half, number: usize, random: &mut Random) -> [u8; 8] {
     }
 }
 
+// A colour half's mode; RGBA1 has its opaque bit set in every second round. Other halves have none.
+fn of_mode(half: Half, number: usize, random: &mut Random) -> [u8; 8] {
+    if matches!(half, Half::Alpha | Half::Eac) {
+        return of_kind(half, number, random);
+    }
+    let mut block = mode(number % MODES, random);
+    if half == Half::Rgba1 && number / MODES % 2 == 0 {
+        block[3] &= !2;
+    }
+    block
+}
+
+fn mode(number: usize, random: &mut Random) -> [u8; 8] {
+    if number < 8 {
+        return t_numbered(number as u8, random);
+    }
+    let mut block = h_ordered(ORDERS[(number - 8) / 4], random);
+    let bits = (number % 4) as u8;
+    block[3] = block[3] & !5 | (bits & 2) << 1 | bits & 1;
+    block
+}
+
+// T with this distance number.
+fn t_numbered(number: u8, random: &mut Random) -> [u8; 8] {
+    let mut block = colour(2, random);
+    block[3] = block[3] & !13 | number >> 1 << 2 | number & 1;
+    block
+}
+
+// H with this order of its bases. Channels before the one that decides are equal, and later ones
+// say the contrary, so that a reading that leaves the deciding one out shows it.
+fn h_ordered(order: Option<(usize, bool)>, random: &mut Random) -> [u8; 8] {
+    let mut block = colour(3, random);
+    while h_first(&block).iter().any(|value| !(1..15).contains(value)) {
+        block = colour(3, random);
+    }
+    let mut second = h_first(&block);
+    if let Some((place, more)) = order {
+        for (channel, value) in second.iter_mut().enumerate().skip(place) {
+            let is_less = more == (channel == place);
+            let (low, high) = if is_less { (0, *value) } else { (*value + 1, 16) };
+            *value = low + random.below((high - low) as usize) as u8;
+        }
+    }
+    set_h_second(&mut block, second);
+    block
+}
+
+/// H's first base: red, green and blue of four bits.
+pub fn h_first(b: &[u8; 8]) -> [u8; 3] {
+    [b[0] >> 3 & 15, (b[0] & 7) << 1 | b[1] >> 4 & 1, b[1] & 8 | (b[1] & 3) << 1 | b[2] >> 7]
+}
+
+fn set_h_second(b: &mut [u8; 8], [red, green, blue]: [u8; 3]) {
+    b[2] = b[2] & 0x80 | red << 3 | green >> 1;
+    b[3] = b[3] & 7 | (green & 1) << 7 | blue << 3;
+}
+
 // 0 individual, 1 differential, 2 T, 3 H, 4 planar; the bits that the kind leaves
 // open are random.
-fn colour(kind: usize, random: &mut Random) -> [u8; 8] {
+pub fn colour(kind: usize, random: &mut Random) -> [u8; 8] {
     let mut block = random.next().to_le_bytes();
     if kind == 0 {
         block[3] &= !2;
@@ -100,23 +171,26 @@ fn colour(kind: usize, random: &mut Random) -> [u8; 8] {
         }
     }
     if kind == 3 && random.below(4) == 0 {
-        tie(&mut block);
+        // Equal base colours, where the distance number must gain 1.
+        let first = h_first(&block);
+        set_h_second(&mut block, first);
     }
     block
 }
 
-// Gives an H block equal base colours, where its distance number must gain 1.
-fn tie(b: &mut [u8; 8]) {
-    let red = b[0] >> 3 & 15;
-    let green = (b[0] & 7) << 1 | b[1] >> 4 & 1;
-    let blue = b[1] & 8 | (b[1] & 3) << 1 | b[2] >> 7;
-    b[2] = b[2] & 0x80 | red << 3 | green >> 1;
-    b[3] = b[3] & 7 | (green & 1) << 7 | blue << 3;
+/// The second base colour of an H block.
+pub fn h_second(b: &[u8; 8]) -> [u8; 3] {
+    [b[2] >> 3 & 15, (b[2] & 7) << 1 | b[3] >> 7, b[3] >> 3 & 15]
+}
+
+/// How red, green and blue of the first base colour of an H block stand to the second's.
+pub fn h_orders(b: &[u8; 8]) -> [Ordering; 3] {
+    std::array::from_fn(|k| h_first(b)[k].cmp(&h_second(b)[k]))
 }
 
 // Alpha and EAC: multiplier 0, then bases at which values clamp low or high, the
 // signed turning points, and the middle.
-fn channel(kind: usize, random: &mut Random) -> [u8; 8] {
+pub fn channel(kind: usize, random: &mut Random) -> [u8; 8] {
     let mut block = random.next().to_le_bytes();
     let near = random.below(16) as u8;
     match kind {

@@ -1,10 +1,10 @@
 //! Which cases are run: a list of shapes for each reader, each made into a case by
 //! its own seed when its turn comes.
 
-use crate::blocks::{bytes, Fill};
+use crate::blocks::{bytes, Fill, MODES};
 use crate::protocol::{Case, MOST_DATA, MOST_IMAGE};
 use crate::random::Random;
-use crate::readers::{block_size, has_channel, is_block, is_eac, room, STRICT};
+use crate::readers::{block_size, has_channel, has_modes, is_block, is_eac, room, RGBA1, STRICT};
 use crate::rules::blocks_across;
 
 #[derive(Clone, Copy)]
@@ -97,6 +97,7 @@ pub fn plan(reader: u32, seed: u64, blocks: usize) -> Vec<Shape> {
         plan.large_pictures();
         plan.limits();
         plan.bulk(blocks);
+        plan.modes(blocks / 8);
     }
     if reader == STRICT {
         plan.single_byte_pictures();
@@ -120,6 +121,7 @@ pub fn accepted_plan(reader: u32, seed: u64, blocks: usize) -> Vec<Shape> {
         }
     }
     plan.bulk(blocks);
+    plan.modes(blocks / 8);
     let exact = |shape: &mut Shape| {
         shape.data = needed(shape.reader, shape.width, shape.height).0;
         shape.image = needed(shape.reader, shape.width, shape.height).1;
@@ -149,6 +151,7 @@ pub fn stored_plan(reader: u32, seed: u64) -> Vec<Shape> {
     for size in [(16_384, 0), (0, 16_384), (16_385, 0), (0, 16_385), (u32::MAX, u32::MAX)] {
         plan.add(size, (8, 2), 0, Fill::Random);
     }
+    plan.stored_modes();
     plan.shapes
 }
 
@@ -162,6 +165,7 @@ pub fn stored_accepted_plan(reader: u32, seed: u64, in_range: bool) -> Vec<Shape
             plan.picture(width, height, 0, 0, fill);
         }
     }
+    plan.stored_modes();
     plan.shapes
 }
 
@@ -255,6 +259,25 @@ impl Plan {
         // Four backgrounds, 4,096 blocks each: every value in up to sixteen positions.
         for from in (0..4 * 4096).step_by(BULK_BLOCKS) {
             self.picture(BULK.0, BULK.1, 3, 5, Fill::EveryByte(from));
+        }
+    }
+
+    // Every mode of T and H, as often as there are blocks for it.
+    fn modes(&mut self, blocks: usize) {
+        if has_modes(self.reader) {
+            for turn in 0..blocks / BULK_BLOCKS {
+                self.picture(BULK.0, BULK.1, 0, 0, Fill::Modes(turn * BULK_BLOCKS));
+            }
+        }
+    }
+
+    // Every mode of T and H once, in RGBA1 with the opaque bit clear and with it set.
+    fn stored_modes(&mut self) {
+        let rounds = if self.reader == RGBA1 { 2 } else { 1 };
+        if has_modes(self.reader) {
+            for round in 0..rounds {
+                self.picture(4 * MODES as u32, 4, 0, 0, Fill::Modes(round * MODES));
+            }
         }
     }
 

@@ -13,6 +13,7 @@ mod random;
 mod readers;
 mod record;
 mod report;
+mod rows;
 mod rules;
 mod second;
 mod specimens;
@@ -63,7 +64,8 @@ fn main() -> ExitCode {
         Some("compare") => compare(&options),
         Some("second") => second(&options),
         Some("record") => record::record(&options),
-        _ => Err(std::io::Error::other("the first word is compare, second or record")),
+        Some("specimens") => rows::write(&options),
+        _ => Err(std::io::Error::other("the first word is compare, second, record or specimens")),
     };
     match same {
         Ok(true) => ExitCode::SUCCESS,

@@ -123,6 +123,11 @@ pub fn half(reader: u32, second: bool) -> Half {
     }
 }
 
+/// The readers of pictures that read T and H blocks as such.
+pub fn has_modes(reader: u32) -> bool {
+    matches!(reader, RGB | RGBA1 | RGBA8)
+}
+
 pub fn is_signed(reader: u32) -> bool {
     matches!(reader, EACR_SIGNED | EACRG_SIGNED | BLOCK_EAC_SIGNED | BLOCK_EACR_SIGNED | BLOCK_EACRG_SIGNED)
 }

@@ -25,14 +25,26 @@ struct List {
 }
 
 impl List {
+    /// A group of cases none of which may differ.
     fn group(&mut self, name: &str, pairs: &[Pair]) {
+        self.put(name, pairs);
+        self.lines += &format!("{name:<NAME$}{} cases, 0 differ\n", pairs.len());
+    }
+
+    /// A group of answers that are wrong on purpose: every case has to be named.
+    fn wrong(&mut self, name: &str, pairs: &[Pair]) {
+        self.put(name, pairs);
+        self.lines.extend((0..pairs.len()).map(|i| format!("  case {i} differs\n")));
+        self.lines += &format!("{name:<NAME$}{0} cases, {0} differ\n", pairs.len());
+    }
+
+    fn put(&mut self, name: &str, pairs: &[Pair]) {
         self.bytes.extend(format!("{name:<NAME$}").into_bytes());
         self.bytes.extend((pairs.len() as u32).to_le_bytes());
         for (case, due) in pairs {
             self.bytes.extend(case.bytes());
             self.bytes.extend(due.bytes());
         }
-        self.lines += &format!("{name:<NAME$}{} cases, 0 differ\n", pairs.len());
     }
 }
 
@@ -40,11 +52,13 @@ pub fn record(options: &crate::Options) -> Result<bool> {
     let mut list = List { bytes: text(&options.about)?, lines: String::new() };
     list.group("document 01's specimens", &document(&options.listed)?);
     let mut added = Vec::new();
+    let mut shown = Vec::new();
     for reader in PICTURES.chain(BLOCKS) {
         let cases = stored_plan(reader, options.seed).into_iter().map(|shape| shape.case());
         let answered = cases.map(|case| (case.clone(), expected(&case, &options.listed).answer));
         let (theirs, ours): (Vec<Pair>, Vec<Pair>) = answered.partition(|(case, _)| is_of_crate(case));
         list.group(&format!("crate: {}", name(reader)), &theirs);
+        shown.extend(theirs.iter().find(|(_, due)| due.number == 0).cloned());
         added.extend(ours);
     }
     list.group("document 01's added refusals", &added);
@@ -55,6 +69,8 @@ pub fn record(options: &crate::Options) -> Result<bool> {
         list.group(&format!("counted: {}", name(reader)), &pairs);
     }
     seconds(options, &mut list)?;
+    list.wrong("wrong on purpose: a bit of an image", &wrong_images(&shown));
+    list.wrong("wrong on purpose: a bit of an answer", &wrong_answers(&shown[0], &added)?);
     std::fs::write(format!("{}/stdin", options.folder), &list.bytes)?;
     std::fs::write(format!("{}/stdout", options.folder), &list.lines)?;
     Ok(true)
@@ -86,6 +102,38 @@ fn is_of_crate(case: &Case) -> bool {
         2 | 3 => !is_block(case.reader),
         _ => false,
     }
+}
+
+// Each reader's answer with one bit wrong: in the first, a middle and the last element, and in each byte of one.
+fn wrong_images(shown: &[Pair]) -> Vec<Pair> {
+    let mut wrong = Vec::new();
+    for (turn, (case, due)) in shown.iter().enumerate() {
+        let last = due.image.len() - 1;
+        for (element, bit) in [(0, turn % 8), (last / 2, 8 + turn % 16), (last, 24 + turn % 8)] {
+            let mut due = due.clone();
+            due.image[element] ^= 1 << bit;
+            wrong.push((case.clone(), due));
+        }
+    }
+    wrong
+}
+
+// An acceptance, a refusal, and one that names a block, with one bit wrong in each byte of the number and of the block.
+fn wrong_answers(accepted: &Pair, refusals: &[Pair]) -> Result<Vec<Pair>> {
+    let refused = |number| refusals.iter().find(|(_, due)| due.number == number);
+    let (Some(larger), Some(newer)) = (refused(1), refused(4)) else {
+        return Err(Error::other("no refusal 1 or 4 is stored"));
+    };
+    let mut wrong = Vec::new();
+    for (case, due) in [accepted, larger, newer] {
+        for byte in 0..4 {
+            let (mut number, mut block) = (due.clone(), due.clone());
+            number.number ^= 1 << (9 * byte);
+            block.block ^= 1 << (9 * byte);
+            wrong.extend([(case.clone(), number), (case.clone(), block)]);
+        }
+    }
+    Ok(wrong)
 }
 
 fn seconds(options: &crate::Options, list: &mut List) -> Result<()> {

@@ -86,7 +86,7 @@ pub fn from_mesa(case: &Case, seen: Answer, asked: u32) -> Answer {
 
 // Of ETC1 blocks with a sum out of range Mesa does not wrap the second base, so their
 // second halves are taken as answered: Android's reading is held to those.
-fn wrapped_halves(case: &Case) -> Vec<usize> {
+pub fn wrapped_halves(case: &Case) -> Vec<usize> {
     if case.reader != ETC1 {
         return Vec::new();
     }

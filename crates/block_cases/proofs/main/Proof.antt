@@ -11,47 +11,36 @@ Inv-loop reader₀ reader = reader ≤ 11
 abbrev μ-loop : tie.MeasureT-loop
 μ-loop reader₀ reader = 11 - reader
 
--- src/main.rt:169:5
 colour-specimens-requires : tie.Need-colour-specimens-requires Inv-loop μ-loop
 colour-specimens-requires c κs = search needs
 
--- src/main.rt:170:5
 range-and-alpha-specimens-requires : tie.Need-range-and-alpha-specimens-requires Inv-loop μ-loop
 range-and-alpha-specimens-requires c κs = search needs
 
--- src/main.rt:171:5
 channel-specimens-requires : tie.Need-channel-specimens-requires Inv-loop μ-loop
 channel-specimens-requires c κs = search needs
 
--- src/main.rt:172:5
 channels-requires : tie.Need-channels-requires Inv-loop μ-loop
 channels-requires c κs = search needs
 
--- src/main.rt:173:5
 channels-requires-2 : tie.Need-channels-requires-2 Inv-loop μ-loop
 channels-requires-2 c κs = search needs
 
--- src/main.rt:175:5
 loop-holds : tie.Need-loop-holds Inv-loop μ-loop
 loop-holds c = search needs
 
--- src/main.rt:176:9
 edges-requires : tie.Need-edges-requires Inv-loop μ-loop
 edges-requires c κs = search needs
 
--- src/main.rt:177:9
 add-reader : tie.Need-add-reader Inv-loop μ-loop
 add-reader c = search needs
 
--- src/main.rt:175:5
 loop-less : tie.Need-loop-less Inv-loop μ-loop
 loop-less c = search needs
 
--- src/main.rt:175:5
 loop-again : tie.Need-loop-again Inv-loop μ-loop
 loop-again c = search needs
 
--- src/main.rt:168:1
 returns : tie.Need-returns Inv-loop μ-loop
 returns c = search needs
 

@@ -9,7 +9,7 @@ use Rattle.rules.specs.Readers.{strictChecks}
 use Rattle.rules.specs.declared.Answer.{Answer}
 use Rattle.rules.specs.declared.Answer.the-variants.{OutOfRange}
 use Rattle.laws.proofs.Unique.{others}
-use Rattle.capi.specs.Told.{numberOf, blockOr}
+use Rattle.capi.specs.Told.{answerNumber, blockOr}
 use Rattle.capi.proofs.Block.{unnamed}
 use borrow.Author.Needs.{needs}
 use Rattle.capi.proofs.yalivucu_decode_etc1_strict.Statement.{statement}
@@ -54,7 +54,7 @@ returns-2 c =
     let r = k .decode-etc1-strict in
     let e = c .before .answer .given .1 in
     let stood = now (k .before .before .before .before .args .block) in
-    record { answer = r .result; reads = (r .ensures, sym (ap (λ (a : Answer). blockOr a stood) e)); says = sym (ap numberOf e) }
+    record { answer = r .result; reads = (r .ensures, sym (ap (λ (a : Answer). blockOr a stood) e)); says = sym (ap answerNumber e) }
 
 pub yalivucu-decode-etc1-strict-spec : {M : Type 1} → statement M
 yalivucu-decode-etc1-strict-spec =

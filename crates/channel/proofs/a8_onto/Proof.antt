@@ -71,13 +71,15 @@ loop-less : tie.Need-loop-less Inv-loop μ-loop
 loop-less c = omega arith
 
 -- the alpha of the turn
-value : (c : tie.After-alpha Inv-loop μ-loop) → c .alpha .result ≡ alphaByte (c .before .before .before .before .before .before .before .before .before .args .d .now) (c .before .before .before .loop .i % 4) (c .before .before .before .loop .i / 4)
+value : (c : tie.After-alpha Inv-loop μ-loop)
+    → c .alpha .result ≡ alphaByte (c .before .before .before .before .before .before .before .before .before .args .d .now) (c .before .before .before .loop .i % 4) (c .before .before .before .loop .i / 4)
 unfolding alphaByte
 value c =
     let i = c .before .before .before .loop .i in
     let b = c .before .before .before .before in
     c .alpha .ensures .0
-    ∙ moved-same 255 {a = pos (byte (b .before .before .before .before .before .args .d .now) 0)} refl (b .before .multiplier-of .ensures .0) (step-held _ (b .steps-of .result) i (b .steps-of .ensures) (omega arith))
+    ∙ moved-same 255 {a = pos (byte (b .before .before .before .before .before .args .d .now) 0)} refl (b .before .multiplier-of .ensures .0)
+    (step-held _ (b .steps-of .result) i (b .steps-of .ensures) (omega arith))
 
 loop-again : tie.Need-loop-again Inv-loop μ-loop
 loop-again c =

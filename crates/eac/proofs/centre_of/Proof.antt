@@ -10,8 +10,7 @@ use lib.IntN.{ℤ, pos, _+ℤ_, _*ℤ_, +ℤ-comm}
 use lib.Signed.{mag}
 use mir.Syntax.{w16}
 use mir.Val.{SFits}
-use Rattle.rules.specs.Notation.{twos}
-use Rattle.rules.specs.Channels.{centre}
+use Rattle.rules.specs.Channels.{signedBase, centre}
 use Rattle.laws.proofs.Every.{below}
 use Rattle.laws.proofs.Signed.{held, mag-add, mag-mul, by-fits, on-fits, on-held}
 use Rattle.eac.proofs.centre_of.Statement.{statement}
@@ -27,7 +26,8 @@ module _ (n : ℕ) (z : ℤ) (h : n < 1024) (b : mag z < 256) where
   moved : SFits w16 (held w16 (pos n) +ℤ held w16 (pos 8 *ℤ held w16 z))
   moved = on-fits w16 (pos n) (pos 8) z 8 refl (fits (pos n) h) (fits (pos 8) (omega arith)) (fits z (omega arith)) (omega arith)
 
-  ends : (t : Bool) (m : ℕ) → pos 8 *ℤ z +ℤ pos n ≡ centre t m → (held w16 (held w16 (pos n) +ℤ held w16 (pos 8 *ℤ held w16 z)) ≡ centre t m) × (mag (held w16 (held w16 (pos n) +ℤ held w16 (pos 8 *ℤ held w16 z))) < 4096)
+  ends : (t : Bool) (m : ℕ) → pos 8 *ℤ z +ℤ pos n ≡ centre t m
+      → (held w16 (held w16 (pos n) +ℤ held w16 (pos 8 *ℤ held w16 z)) ≡ centre t m) × (mag (held w16 (held w16 (pos n) +ℤ held w16 (pos 8 *ℤ held w16 z))) < 4096)
   ends t m e =
       let r : held w16 (held w16 (pos n) +ℤ held w16 (pos 8 *ℤ held w16 z)) ≡ pos n +ℤ pos 8 *ℤ z =
       on-held w16 (pos n) (pos 8) z 8 refl (fits (pos n) h) (fits (pos 8) (omega arith)) (fits z (omega arith)) (omega arith) in
@@ -37,7 +37,7 @@ module _ (n : ℕ) (z : ℤ) (h : n < 1024) (b : mag z < 256) where
 small : (c : tie.After-signed-byte) → mag (c .signed-byte .result) < 256
 small c =
     subst (λ (z : ℤ). mag z < 256) (sym (c .signed-byte .ensures))
-    (ltb→lt _ _ (below (λ b. ltb (mag (twos 8 b)) 256) 256 tt (c .before .before .args .b) (omega arith)))
+    (ltb→lt _ _ (below (λ b. ltb (mag (signedBase b)) 256) 256 tt (c .before .before .args .b) (omega arith)))
 
 signed-byte-requires : tie.Need-signed-byte-requires
 signed-byte-requires c κs = search needs

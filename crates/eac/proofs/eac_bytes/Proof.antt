@@ -63,8 +63,13 @@ add-i c = omega arith
 loop-less : tie.Need-loop-less Inv-loop μ-loop
 loop-less c = omega arith
 
+-- what the function was given
+abbrev given : tie.After-eac-value Inv-loop μ-loop → tie.Start Inv-loop μ-loop
+given c = c .before .before .before .before .before .before .before .before .before .before .before
+
 -- the byte of the turn
-value : (c : tie.After-eac-value Inv-loop μ-loop) → c .eac-value .result / 8 ≡ eacByte (c .before .before .before .before .before .before .before .before .before .before .before .args .signed) (c .before .before .before .before .before .before .before .before .before .before .before .args .d .now) (c .before .before .before .loop .i % 4) (c .before .before .before .loop .i / 4)
+value : (c : tie.After-eac-value Inv-loop μ-loop)
+    → c .eac-value .result / 8 ≡ eacByte (given c .args .signed) (given c .args .d .now) (c .before .before .before .loop .i % 4) (c .before .before .before .loop .i / 4)
 unfolding eacByte eacValue
 value c =
     let i = c .before .before .before .loop .i in

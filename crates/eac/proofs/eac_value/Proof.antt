@@ -31,7 +31,10 @@ v c = held w16 (c .args .base) +ℤ held w16 (held w16 (pos (c .args .m)) *ℤ h
 
 -- and the value that it is
 told : (c : tie.Start) → clamp 2047 (v c) ≡ clamp 2047 (c .args .base +ℤ pos (c .args .m) *ℤ c .args .s)
-told c = ap (clamp 2047) (sym (toZ-ofZ w16 (v c) (add-v c)) ∙ on-held w16 (c .args .base) (pos (c .args .m)) (c .args .s) (c .args .m) refl (c .fits .base) (record { sfits = omega arith }) (c .fits .s) (fit c))
+told c =
+    ap (clamp 2047)
+    (sym (toZ-ofZ w16 (v c) (add-v c))
+    ∙ on-held w16 (c .args .base) (pos (c .args .m)) (c .args .s) (c .args .m) refl (c .fits .base) (record { sfits = omega arith }) (c .fits .s) (fit c))
 
 cast-result : tie.Need-cast-result
 cast-result c =

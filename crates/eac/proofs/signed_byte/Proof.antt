@@ -1,15 +1,43 @@
--- A byte above 127 is 256 less: as a difference of two natural numbers it fits.
+-- What the code makes of a byte is its signed base: one test that antt computes over all 256.
 -- Assumes nothing.
-use mathlib.Core.Path.{_∙_, ap}
+use mathlib.Core.Path.{_≡_, ap}
+use mathlib.Core.Bool.{Bool, false, cond}
+use Prim.Native.Nat.{ℕ, _<_}
 use native.Mathlib.Omega.{arith}
 use borrow.Author.Needs.{needs}
 use borrow.Author.Tests.{lt-ltb, le-ltb}
-use lib.IntN.{ℤ, pos, _-ℤ_}
+use lib.Dec.{T, eqb, eqb→eq, ltb}
+use lib.IntN.{ℤ, pos, negsuc, _-ℤ_}
 use mir.Syntax.{w16}
-use mir.ValLaws.{toZ-ofZ, toZ-pos}
+use mir.Val.{toZ}
+use Rattle.rules.specs.Channels.{signedBase}
+use Rattle.laws.proofs.Every.{below}
+use Rattle.laws.proofs.Signed.{held}
 use Rattle.laws.proofs.Diff.{is-gap, is-cast, is-pos, is-fits}
 use Rattle.eac.proofs.signed_byte.Statement.{statement}
 use Rattle.eac.proofs.signed_byte.Tie as tie
+
+-- two signed numbers are equal: a test, and what it says
+alike : ℤ → ℤ → Bool
+alike (pos m) (pos n) = eqb m n
+alike (pos m) (negsuc n) = false
+alike (negsuc m) (pos n) = false
+alike (negsuc m) (negsuc n) = eqb m n
+
+equal : (y z : ℤ) → T (alike y z) → y ≡ z
+unfolding alike
+equal (pos m) (pos n) t = ap pos (eqb→eq m n t)
+equal (pos m) (negsuc n) t = absurd t
+equal (negsuc m) (pos n) t = absurd t
+equal (negsuc m) (negsuc n) t = ap negsuc (eqb→eq m n t)
+
+-- what the code makes of a byte
+abbrev made : ℕ → ℤ
+made b = cond (ltb 127 b) (held w16 (toZ w16 b -ℤ pos 256)) (toZ w16 b)
+
+right : (b : ℕ) → b < 256 → made b ≡ signedBase b
+unfolding alike
+right b h = equal (made b) (signedBase b) (below (λ k. alike (made k) (signedBase k)) 256 tt b h)
 
 cast-result : tie.Need-cast-result
 cast-result c = search needs
@@ -21,14 +49,10 @@ cast-result-2 : tie.Need-cast-result-2
 cast-result-2 c = search needs
 
 returns : tie.Need-returns
-returns c =
-    let b = c .before .args .b in
-    rw (le-ltb b 128 (omega arith)) (toZ-ofZ w16 _ (sub-result c) ∙ ap (λ (z : ℤ). z -ℤ pos 256) (toZ-pos w16 b (omega arith)))
+returns c = let b = c .before .args .b in rw (lt-ltb 127 b (c .if1 .taken)) at (right b (omega arith))
 
 returns-2 : tie.Need-returns-2
-returns-2 c =
-    let b = c .before .args .b in
-    rw (lt-ltb b 128 (omega arith)) (toZ-pos w16 b (omega arith))
+returns-2 c = let b = c .before .args .b in rw (le-ltb 127 b (c .if1 .left)) at (right b (omega arith))
 
 pub signed-byte-spec : {M : Type 1} → statement M
 signed-byte-spec = tie.close (tie.spec cast-result sub-result cast-result-2 returns returns-2)

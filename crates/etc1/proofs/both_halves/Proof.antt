@@ -3,57 +3,65 @@
 use mathlib.Core.Path.{_∙_}
 use mathlib.Core.List.{[]}
 use lib.ListN.{getD}
-use Rattle.rules.specs.Colour.{code, halfColours}
-use Rattle.etc1.specs.Halves.{stepsWhere}
 use Rattle.shade.proofs.Pick.{halves}
+use Rattle.etc1.specs.Halves.{shades, ofHalf}
 use borrow.Author.Needs.{needs}
 use Rattle.etc1.proofs.both_halves.Statement.{statement}
 use Rattle.etc1.proofs.both_halves.Tie as tie
 
-array-copy-out-half : tie.Need-array-copy-out-half
-array-copy-out-half c = search needs
+array-copy-out-t9 : tie.Need-array-copy-out-t9
+array-copy-out-t9 c = search needs
 
-shared-slice-read-half : tie.Need-shared-slice-read-half
-shared-slice-read-half c = search needs
+array-copy-out-t12 : tie.Need-array-copy-out-t12
+array-copy-out-t12 c = search needs
 
-cast-half : tie.Need-cast-half
-cast-half c = search needs
+array-copy-out-t15 : tie.Need-array-copy-out-t15
+array-copy-out-t15 c = search needs
 
-half-requires : tie.Need-half-requires
-half-requires c κs = search needs
+array-copy-out-t18 : tie.Need-array-copy-out-t18
+array-copy-out-t18 c = search needs
 
-array-copy-out-half-2 : tie.Need-array-copy-out-half-2
-array-copy-out-half-2 c = search needs
+four-colours-requires : tie.Need-four-colours-requires
+four-colours-requires c κs k = c .before .before .before .before .pre k .0
 
-shared-slice-read-half-2 : tie.Need-shared-slice-read-half-2
-shared-slice-read-half-2 c = search needs
+array-copy-out-t9-2 : tie.Need-array-copy-out-t9-2
+array-copy-out-t9-2 c = search needs
 
-cast-half-2 : tie.Need-cast-half-2
-cast-half-2 c = search needs
+array-copy-out-t12-2 : tie.Need-array-copy-out-t12-2
+array-copy-out-t12-2 c = search needs
 
-half-requires-2 : tie.Need-half-requires-2
-half-requires-2 c κs = search needs
+array-copy-out-t18-2 : tie.Need-array-copy-out-t18-2
+array-copy-out-t18-2 c = search needs
+
+array-copy-out-t15-2 : tie.Need-array-copy-out-t15-2
+array-copy-out-t15-2 c = search needs
+
+four-colours-requires-2 : tie.Need-four-colours-requires-2
+four-colours-requires-2 c κs k = c .before .before .before .before .before .before .before .before .before .pre k .1
 
 joined-requires : tie.Need-joined-requires
 joined-requires c κs = search needs
 
 returns : tie.Need-returns
 returns c =
-    let s = c .before .before .before .before .before .before .before .before in
+    let a = c .before .before .before .before .before .before .before .before .before .before .before .args in
     c .joined .ensures
-    ∙ halves (λ h. halfColours (getD (s .args .t2) h []) (stepsWhere (s .args .opaque) (code (s .args .d .now) h))) _ _ (c .before .before .before .before .half .ensures) (c .before .half2 .ensures)
+    ∙ halves (λ h. shades (getD (a .t1) h []) (ofHalf (a .first) (a .second) h)) _ _ (c .before .before .before .before .before .before .four-colours .ensures)
+    (c .before .four-colours2 .ensures)
 
 pub both-halves-spec : {M : Type 1} → statement M
 both-halves-spec =
     tie.close
     (tie.spec
-    array-copy-out-half
-    shared-slice-read-half
-    cast-half
-    half-requires
-    array-copy-out-half-2
-    shared-slice-read-half-2
-    cast-half-2
-    half-requires-2
+    array-copy-out-t9
+    array-copy-out-t12
+    array-copy-out-t15
+    array-copy-out-t18
+    four-colours-requires
+    array-copy-out-t9-2
+    array-copy-out-t12-2
+    array-copy-out-t18-2
+    array-copy-out-t15-2
+    four-colours-requires-2
     joined-requires
     returns)

@@ -42,7 +42,11 @@ second-base-requires-3 : tie.Need-second-base-requires-3
 second-base-requires-3 c κs = search needs
 
 returns : tie.Need-returns
-returns c = rows (c .before .before .before .before .before .before .before .before .before .before .first-base .ensures) (c .before .before .before .before .before .before .before .before .first-base2 .ensures) (c .before .before .before .before .before .before .first-base3 .ensures) (c .before .before .before .before .second-base .ensures) (c .before .before .second-base2 .ensures) (c .second-base3 .ensures)
+returns c =
+    let u = c .before .before .before .before in
+    let v = u .before .before .before .before .before .before in
+    rows (v .first-base .ensures) (u .before .before .before .before .first-base2 .ensures) (u .before .before .first-base3 .ensures) (u .second-base .ensures)
+    (c .before .before .second-base2 .ensures) (c .second-base3 .ensures)
 
 pub differential-bases-spec : {M : Type 1} → statement M
 differential-bases-spec =

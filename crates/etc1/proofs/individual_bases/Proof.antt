@@ -42,7 +42,11 @@ low-nibble-requires-3 : tie.Need-low-nibble-requires-3
 low-nibble-requires-3 c κs = search needs
 
 returns : tie.Need-returns
-returns c = rows (c .before .before .before .before .before .before .before .before .before .before .high-nibble .ensures) (c .before .before .before .before .before .before .before .before .high-nibble2 .ensures) (c .before .before .before .before .before .before .high-nibble3 .ensures) (c .before .before .before .before .low-nibble .ensures) (c .before .before .low-nibble2 .ensures) (c .low-nibble3 .ensures)
+returns c =
+    let u = c .before .before .before .before in
+    let v = u .before .before .before .before .before .before in
+    rows (v .high-nibble .ensures) (u .before .before .before .before .high-nibble2 .ensures) (u .before .before .high-nibble3 .ensures) (u .low-nibble .ensures)
+    (c .before .before .low-nibble2 .ensures) (c .low-nibble3 .ensures)
 
 pub individual-bases-spec : {M : Type 1} → statement M
 individual-bases-spec =

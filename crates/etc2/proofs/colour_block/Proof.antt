@@ -3,8 +3,7 @@
 use mathlib.Core.Path.{_∙_, sym, ap}
 use Rattle.rules.specs.Places.{tile}
 use Rattle.rules.specs.declared.Kind.{Kind}
-use Rattle.etc1.specs.Halves.{stepsWhere}
-use Rattle.etc2.specs.Colours.{madeColours, colourPixel}
+use Rattle.etc2.specs.Colours.{stepsWhere, madeColours, colourPixel}
 use Rattle.etc2.proofs.Colours.{not-planar, punch, picked}
 use borrow.Author.Needs.{needs}
 use Rattle.etc2.proofs.colour_block.Statement.{statement}

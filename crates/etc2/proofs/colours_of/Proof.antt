@@ -44,12 +44,14 @@ enum-told-5 c = search needs
 returns : tie.Need-returns
 returns c =
     let a = c .before .before .before .before .before .args in
-    told (a .opaque) (a .d .now) (a .kind) Individual _ (c .before .before .enum-told .given .1) (made-individual (a .opaque) (a .d .now) _ _ (c .both-halves .ensures) (c .before .individual-bases .ensures))
+    told (a .opaque) (a .d .now) (a .kind) Individual _ (c .before .before .enum-told .given .1)
+    (made-individual (a .opaque) (a .d .now) _ _ (c .both-halves .ensures) (c .before .individual-bases .ensures))
 
 returns-2 : tie.Need-returns-2
 returns-2 c =
     let a = c .before .before .before .before .before .args in
-    told (a .opaque) (a .d .now) (a .kind) Differential _ (c .before .before .enum-told2 .given .1) (made-differential (a .opaque) (a .d .now) _ _ (c .both-halves2 .ensures) (c .before .differential-bases .ensures))
+    told (a .opaque) (a .d .now) (a .kind) Differential _ (c .before .before .enum-told2 .given .1)
+    (made-differential (a .opaque) (a .d .now) _ _ (c .both-halves2 .ensures) (c .before .differential-bases .ensures))
 
 returns-3 : tie.Need-returns-3
 unfolding madeColours

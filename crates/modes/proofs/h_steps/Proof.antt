@@ -18,7 +18,10 @@ sub-t4 : tie.Need-sub-t4
 sub-t4 c = opposite-fits w16 (c .args .distance) (omega arith)
 
 returns : tie.Need-returns
-returns c = four (cast-pos w16 (c .args .distance) (omega arith)) (opposite-held w16 (c .args .distance) (omega arith)) (cast-pos w16 (c .args .distance) (omega arith)) (opposite-held w16 (c .args .distance) (omega arith))
+returns c =
+    let up = cast-pos w16 (c .args .distance) (omega arith) in
+    let down = opposite-held w16 (c .args .distance) (omega arith) in
+    four up down up down
 
 pub h-steps-spec : {M : Type 1} → statement M
 h-steps-spec = tie.close (tie.spec cast-m sub-t3 sub-t4 returns)

@@ -7,34 +7,27 @@ use Prim.Native.Nat.{_*_, _≤_}
 use Rattle.picture_cases.proofs.bytes_of.Statement.{statement}
 use Rattle.picture_cases.proofs.bytes_of.Tie as tie
 
--- src/main.rt:181:18
 across-requires : tie.Need-across-requires
 across-requires c κs = search needs
 
--- src/main.rt:181:34
 across-requires-2 : tie.Need-across-requires-2
 across-requires-2 c κs = search needs
 
--- src/main.rt:181:18
 few : (c : tie.After-across2) → c .before .across .result * c .across2 .result ≤ 9
 few c = times-le (c .before .across .result) 3 (c .across2 .result) 3 (omega arith) (omega arith)
 
 mul-blocks : tie.Need-mul-blocks
 mul-blocks c = omega (arith, few c)
 
--- src/main.rt:184:14
 mul-result : tie.Need-mul-result
 mul-result c = omega (arith, few (c .before .before))
 
--- src/main.rt:183:22
 mul-result-2 : tie.Need-mul-result-2
 mul-result-2 c = omega (arith, few (c .before))
 
--- src/main.rt:177:1
 returns : tie.Need-returns
 returns c = omega (arith, few (c .before .before))
 
--- src/main.rt:177:1
 returns-2 : tie.Need-returns-2
 returns-2 c = omega (arith, few (c .before))
 

@@ -11,59 +11,45 @@ Inv-loop width height reader₀ t6 reader = reader ≤ 9
 abbrev μ-loop : tie.MeasureT-loop
 μ-loop width height reader₀ t6 reader = 9 - reader
 
--- src/main.rt:110:5
 say-number-requires : tie.Need-say-number-requires Inv-loop μ-loop
 say-number-requires c κs = search needs
 
--- src/main.rt:111:19
 slice-aggregate-say : tie.Need-slice-aggregate-say Inv-loop μ-loop
 slice-aggregate-say c = search needs
 
--- src/main.rt:111:5
 say-requires : tie.Need-say-requires Inv-loop μ-loop
 say-requires c κs = search needs
 
--- src/main.rt:112:5
 say-number-requires-2 : tie.Need-say-number-requires-2 Inv-loop μ-loop
 say-number-requires-2 c κs = search needs
 
--- src/main.rt:113:19
 slice-aggregate-say-2 : tie.Need-slice-aggregate-say-2 Inv-loop μ-loop
 slice-aggregate-say-2 c = search needs
 
--- src/main.rt:113:5
 say-requires-2 : tie.Need-say-requires-2 Inv-loop μ-loop
 say-requires-2 c κs = search needs
 
--- src/main.rt:115:5
 loop-holds : tie.Need-loop-holds Inv-loop μ-loop
 loop-holds c = search needs
 
--- src/main.rt:116:9
 nothing-requires : tie.Need-nothing-requires Inv-loop μ-loop
 nothing-requires c κs = search needs
 
--- src/main.rt:117:9
 add-reader : tie.Need-add-reader Inv-loop μ-loop
 add-reader c = search needs
 
--- src/main.rt:115:5
 loop-less : tie.Need-loop-less Inv-loop μ-loop
 loop-less c = search needs
 
--- src/main.rt:115:5
 loop-again : tie.Need-loop-again Inv-loop μ-loop
 loop-again c = search needs
 
--- src/main.rt:119:19
 slice-aggregate-say-3 : tie.Need-slice-aggregate-say-3 Inv-loop μ-loop
 slice-aggregate-say-3 c = search needs
 
--- src/main.rt:119:5
 say-requires-3 : tie.Need-say-requires-3 Inv-loop μ-loop
 say-requires-3 c κs = search needs
 
--- src/main.rt:109:1
 returns : tie.Need-returns Inv-loop μ-loop
 returns c = search needs
 

@@ -11,67 +11,51 @@ Inv-loop reader width height₀ t7 height = height ≤ 10
 abbrev μ-loop : tie.MeasureT-loop
 μ-loop reader width height₀ t7 height = 10 - height
 
--- src/main.rt:280:19
 slice-aggregate-say : tie.Need-slice-aggregate-say Inv-loop μ-loop
 slice-aggregate-say c = search needs
 
--- src/main.rt:280:5
 say-requires : tie.Need-say-requires Inv-loop μ-loop
 say-requires c κs = search needs
 
--- src/main.rt:281:5
 say-number-requires : tie.Need-say-number-requires Inv-loop μ-loop
 say-number-requires c κs = search needs
 
--- src/main.rt:282:19
 slice-aggregate-say-2 : tie.Need-slice-aggregate-say-2 Inv-loop μ-loop
 slice-aggregate-say-2 c = search needs
 
--- src/main.rt:282:5
 say-requires-2 : tie.Need-say-requires-2 Inv-loop μ-loop
 say-requires-2 c κs = search needs
 
--- src/main.rt:283:5
 say-number-requires-2 : tie.Need-say-number-requires-2 Inv-loop μ-loop
 say-number-requires-2 c κs = search needs
 
--- src/main.rt:284:19
 slice-aggregate-say-3 : tie.Need-slice-aggregate-say-3 Inv-loop μ-loop
 slice-aggregate-say-3 c = search needs
 
--- src/main.rt:284:5
 say-requires-3 : tie.Need-say-requires-3 Inv-loop μ-loop
 say-requires-3 c κs = search needs
 
--- src/main.rt:286:5
 loop-holds : tie.Need-loop-holds Inv-loop μ-loop
 loop-holds c = search needs
 
--- src/main.rt:287:9
 fresh-case-requires : tie.Need-fresh-case-requires Inv-loop μ-loop
 fresh-case-requires c κs = search needs
 
--- src/main.rt:288:9
 add-height : tie.Need-add-height Inv-loop μ-loop
 add-height c = search needs
 
--- src/main.rt:286:5
 loop-less : tie.Need-loop-less Inv-loop μ-loop
 loop-less c = search needs
 
--- src/main.rt:286:5
 loop-again : tie.Need-loop-again Inv-loop μ-loop
 loop-again c = search needs
 
--- src/main.rt:290:19
 slice-aggregate-say-4 : tie.Need-slice-aggregate-say-4 Inv-loop μ-loop
 slice-aggregate-say-4 c = search needs
 
--- src/main.rt:290:5
 say-requires-4 : tie.Need-say-requires-4 Inv-loop μ-loop
 say-requires-4 c κs = search needs
 
--- src/main.rt:277:1
 returns : tie.Need-returns Inv-loop μ-loop
 returns c = search needs
 

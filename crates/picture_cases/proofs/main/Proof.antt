@@ -11,59 +11,45 @@ Inv-loop reader₀ reader = reader ≤ 9
 abbrev μ-loop : tie.MeasureT-loop
 μ-loop reader₀ reader = 9 - reader
 
--- src/main.rt:322:5
 s16-requires : tie.Need-s16-requires Inv-loop μ-loop
 s16-requires c κs = search needs
 
--- src/main.rt:323:5
 s16-requires-2 : tie.Need-s16-requires-2 Inv-loop μ-loop
 s16-requires-2 c κs = search needs
 
--- src/main.rt:324:5
 s17-requires : tie.Need-s17-requires Inv-loop μ-loop
 s17-requires c κs = search needs
 
--- src/main.rt:325:5
 s17-requires-2 : tie.Need-s17-requires-2 Inv-loop μ-loop
 s17-requires-2 c κs = search needs
 
--- src/main.rt:326:5
 s17-requires-3 : tie.Need-s17-requires-3 Inv-loop μ-loop
 s17-requires-3 c κs = search needs
 
--- src/main.rt:327:5
 s17-requires-4 : tie.Need-s17-requires-4 Inv-loop μ-loop
 s17-requires-4 c κs = search needs
 
--- src/main.rt:328:5
 s17-requires-5 : tie.Need-s17-requires-5 Inv-loop μ-loop
 s17-requires-5 c κs = search needs
 
--- src/main.rt:329:5
 largest-requires : tie.Need-largest-requires Inv-loop μ-loop
 largest-requires c κs = search needs
 
--- src/main.rt:331:5
 loop-holds : tie.Need-loop-holds Inv-loop μ-loop
 loop-holds c = search needs
 
--- src/main.rt:332:9
 widths-requires : tie.Need-widths-requires Inv-loop μ-loop
 widths-requires c κs = search needs
 
--- src/main.rt:333:9
 add-reader : tie.Need-add-reader Inv-loop μ-loop
 add-reader c = search needs
 
--- src/main.rt:331:5
 loop-less : tie.Need-loop-less Inv-loop μ-loop
 loop-less c = search needs
 
--- src/main.rt:331:5
 loop-again : tie.Need-loop-again Inv-loop μ-loop
 loop-again c = search needs
 
--- src/main.rt:321:1
 returns : tie.Need-returns Inv-loop μ-loop
 returns c = search needs
 

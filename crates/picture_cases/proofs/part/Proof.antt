@@ -6,35 +6,27 @@ use lib.ListN.{length-take}
 use Rattle.picture_cases.proofs.part.Statement.{statement}
 use Rattle.picture_cases.proofs.part.Tie as tie
 
--- src/main.rt:45:9
 returns : tie.Need-returns
 returns c = search needs
 
--- src/main.rt:48:9
 returns-2 : tie.Need-returns-2
 returns-2 c = search needs
 
--- src/main.rt:50:18
 slice-aggregate-read : tie.Need-slice-aggregate-read
 slice-aggregate-read c = simp length-take (omega arith)
 
--- src/main.rt:50:45
 slice-relend-prefix-read : tie.Need-slice-relend-prefix-read
 slice-relend-prefix-read c = search needs
 
--- src/main.rt:50:45
 slice-aggregate-read-2 : tie.Need-slice-aggregate-read-2
 slice-aggregate-read-2 c = simp length-take (omega arith)
 
--- src/main.rt:50:5
 read-requires : tie.Need-read-requires
 read-requires c κs = search needs
 
--- src/main.rt:35:1
 same-length : tie.Need-same-length
 same-length c = search needs
 
--- src/main.rt:35:1
 returns-3 : tie.Need-returns-3
 returns-3 c = search needs
 

@@ -1,18 +1,16 @@
 -- At most nine by nine.
 -- Assumes nothing.
-use borrow.Author.Needs.{needs}
+use mathlib.Core.Path.{refl}
 use native.Mathlib.Omega.{arith}
 use Rattle.laws.proofs.Signed.{times-le}
 use Rattle.picture_cases.proofs.pixels_of.Statement.{statement}
 use Rattle.picture_cases.proofs.pixels_of.Tie as tie
 
--- src/main.rt:193:5
 mul-result : tie.Need-mul-result
 mul-result c = omega (arith, times-le (c .args .width) 9 (c .args .height) 9 (omega arith) (omega arith))
 
--- src/main.rt:189:1
 returns : tie.Need-returns
-returns c = omega (arith, times-le (c .args .width) 9 (c .args .height) 9 (omega arith) (omega arith))
+returns c = (refl, omega (arith, times-le (c .args .width) 9 (c .args .height) 9 (omega arith) (omega arith)))
 
 pub pixels-of-spec : {M : Type 1} → statement M
 pixels-of-spec = tie.close (tie.spec mul-result returns)

@@ -1,23 +1,22 @@
 -- `place::first_sixteen` meets its contract: turn i copies element i.
 -- Assumes nothing.
-use mathlib.Core.Path.{_≡_, refl}
-use Prim.Native.Nat.{ℕ, _-_, _<_, _≤_}
+use mathlib.Core.Path.{refl}
+use Prim.Native.Nat.{_-_}
 use native.Mathlib.Omega.{arith}
-use lib.ListN.{length, getD}
-use denote.Ref.{now}
-use Rattle.laws.proofs.Filled.{fills, is-build}
+use lib.ListN.{getD}
+use Rattle.laws.proofs.Filling.{Filling, inOrder, begun, stored-next, filled-all}
 use borrow.Author.Needs.{needs}
 use Rattle.place.proofs.first_sixteen.Statement.{statement}
 use Rattle.place.proofs.first_sixteen.Tie as tie
 
 abbrev Inv-loop : tie.InvT-loop
-Inv-loop image first₀ i₀ first i = (i ≤ 16) × (length first ≡ 16) × ((k : ℕ) → k < i → getD first k 0 ≡ getD image k 0)
+Inv-loop image first₀ i₀ first i = Filling inOrder (λ k. getD image k 0) 0 16 i first
 
 abbrev μ-loop : tie.MeasureT-loop
 μ-loop image first₀ i₀ first i = 16 - i
 
 loop-holds : tie.Need-loop-holds Inv-loop μ-loop
-loop-holds c = (search needs, search needs, λ k h. omega arith)
+loop-holds c = begun inOrder _ 0 16 _ refl
 
 mul-first : tie.Need-mul-first Inv-loop μ-loop
 mul-first c = search needs
@@ -39,15 +38,13 @@ loop-less c = search needs
 
 loop-again : tie.Need-loop-again Inv-loop μ-loop
 loop-again c =
-    let l = c .before .before in
-    let d = now (l .before .args .image) in
-    (search needs, search needs, fills (λ k. getD d k 0) 0 (l .loop .first) (l .loop .i) (getD d (l .loop .i) 0) (omega arith) (l .loop .inv .2) refl)
+    let l = c .before .before .loop in
+    stored-next _ 0 16 (l .first) (l .i) (l .inv) _ (omega arith) refl
 
 returns : tie.Need-returns Inv-loop μ-loop
 returns c =
-    let l = c .before in
-    let d = now (l .before .args .image) in
-    is-build (λ k. getD d k 0) 0 16 (l .loop .first) (l .loop .inv .1) (λ k h. l .loop .inv .2 k (omega arith))
+    let l = c .before .loop in
+    filled-all _ 0 16 (l .first) (l .i) (l .inv) (omega arith)
 
 pub first-sixteen-spec : {M : Type 1} → statement M
 first-sixteen-spec =

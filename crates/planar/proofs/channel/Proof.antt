@@ -22,19 +22,28 @@ cast-n-3 : tie.Need-cast-n-3
 cast-n-3 c = search needs
 
 small : (c : tie.Start) → (more (c .args .o) (c .args .h) (c .args .v) (c .args .x) (c .args .y) < 3000) × (fewer (c .args .o) (c .args .x) (c .args .y) < 3000)
-small c = (small-more (c .args .o) (c .args .h) (c .args .v) (c .args .x) (c .args .y) (omega arith) (omega arith) (omega arith) (omega arith) (omega arith), small-fewer (c .args .o) (c .args .h) (c .args .v) (c .args .x) (c .args .y) (omega arith) (omega arith) (omega arith) (omega arith) (omega arith))
+small c = (
+  small-more (c .args .o) (c .args .h) (c .args .v) (c .args .x) (c .args .y) (omega arith) (omega arith) (omega arith) (omega arith) (omega arith),
+  small-fewer (c .args .o) (c .args .h) (c .args .v) (c .args .x) (c .args .y) (omega arith) (omega arith) (omega arith) (omega arith) (omega arith),
+)
 
-number : (c : tie.Start) → Is (held w16 (allM (c .args .o) (c .args .h) (c .args .v) (c .args .x) (c .args .y))) (more (c .args .o) (c .args .h) (c .args .v) (c .args .x) (c .args .y)) (fewer (c .args .o) (c .args .x) (c .args .y))
-number c = is-held w16 (all (c .args .o) (c .args .h) (c .args .v) (c .args .x) (c .args .y) (omega arith) (omega arith) (omega arith) (omega arith) (omega arith)) (omega (arith, small c)) (omega (arith, small c))
+number : (c : tie.Start)
+    → Is (held w16 (allM (c .args .o) (c .args .h) (c .args .v) (c .args .x) (c .args .y)))
+    (more (c .args .o) (c .args .h) (c .args .v) (c .args .x) (c .args .y)) (fewer (c .args .o) (c .args .x) (c .args .y))
+number c = is-held w16 (all (c .args .o) (c .args .h) (c .args .v) (c .args .x) (c .args .y) (omega arith) (omega arith) (omega arith) (omega arith) (omega arith))
+    (omega (arith, small c)) (omega (arith, small c))
 
-value : (c : tie.Start) → planarChannel (c .args .o) (c .args .h) (c .args .v) (c .args .x) (c .args .y) ≡ min ((more (c .args .o) (c .args .h) (c .args .v) (c .args .x) (c .args .y) - fewer (c .args .o) (c .args .x) (c .args .y)) / 4) 255
+value : (c : tie.Start)
+    → planarChannel (c .args .o) (c .args .h) (c .args .v) (c .args .x) (c .args .y)
+    ≡ min ((more (c .args .o) (c .args .h) (c .args .v) (c .args .x) (c .args .y) - fewer (c .args .o) (c .args .x) (c .args .y)) / 4) 255
 value c = planar-is (c .args .o) (c .args .h) (c .args .v) (c .args .x) (c .args .y)
 
 sub-n : tie.Need-sub-n
 sub-n c = is-fits w16 (gap (c .args .h) (c .args .o) (omega arith) (omega arith)) (omega arith) (omega arith)
 
 mul-n : tie.Need-mul-n
-mul-n c = is-fits w16 (part (c .args .x) (c .args .h) (c .args .o) (omega arith) (omega arith) (omega arith)) (omega (arith, small c)) (omega (arith, small c))
+mul-n c = is-fits w16 (part (c .args .x) (c .args .h) (c .args .o) (omega arith) (omega arith) (omega arith))
+    (omega (arith, small c)) (omega (arith, small c))
 
 cast-n-4 : tie.Need-cast-n-4
 cast-n-4 c = search needs
@@ -49,10 +58,12 @@ sub-n-2 : tie.Need-sub-n-2
 sub-n-2 c = is-fits w16 (gap (c .args .v) (c .args .o) (omega arith) (omega arith)) (omega arith) (omega arith)
 
 mul-n-2 : tie.Need-mul-n-2
-mul-n-2 c = is-fits w16 (part (c .args .y) (c .args .v) (c .args .o) (omega arith) (omega arith) (omega arith)) (omega (arith, small c)) (omega (arith, small c))
+mul-n-2 c = is-fits w16 (part (c .args .y) (c .args .v) (c .args .o) (omega arith) (omega arith) (omega arith))
+    (omega (arith, small c)) (omega (arith, small c))
 
 add-n : tie.Need-add-n
-add-n c = is-fits w16 (two (c .args .o) (c .args .h) (c .args .v) (c .args .x) (c .args .y) (omega arith) (omega arith) (omega arith) (omega arith) (omega arith)) (omega (arith, small c)) (omega (arith, small c))
+add-n c = is-fits w16 (two (c .args .o) (c .args .h) (c .args .v) (c .args .x) (c .args .y) (omega arith) (omega arith) (omega arith) (omega arith) (omega arith))
+    (omega (arith, small c)) (omega (arith, small c))
 
 cast-n-7 : tie.Need-cast-n-7
 cast-n-7 c = search needs
@@ -61,10 +72,12 @@ mul-n-3 : tie.Need-mul-n-3
 mul-n-3 c = is-fits w16 (four (c .args .o) (omega arith)) (omega arith) (omega arith)
 
 add-n-2 : tie.Need-add-n-2
-add-n-2 c = is-fits w16 (three (c .args .o) (c .args .h) (c .args .v) (c .args .x) (c .args .y) (omega arith) (omega arith) (omega arith) (omega arith) (omega arith)) (omega (arith, small c)) (omega (arith, small c))
+add-n-2 c = is-fits w16 (three (c .args .o) (c .args .h) (c .args .v) (c .args .x) (c .args .y) (omega arith) (omega arith) (omega arith) (omega arith) (omega arith))
+    (omega (arith, small c)) (omega (arith, small c))
 
 add-n-3 : tie.Need-add-n-3
-add-n-3 c = is-fits w16 (all (c .args .o) (c .args .h) (c .args .v) (c .args .x) (c .args .y) (omega arith) (omega arith) (omega arith) (omega arith) (omega arith)) (omega (arith, small c)) (omega (arith, small c))
+add-n-3 c = is-fits w16 (all (c .args .o) (c .args .h) (c .args .v) (c .args .x) (c .args .y) (omega arith) (omega arith) (omega arith) (omega arith) (omega arith))
+    (omega (arith, small c)) (omega (arith, small c))
 
 div-clamp : tie.Need-div-clamp
 div-clamp c =

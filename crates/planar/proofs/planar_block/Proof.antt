@@ -1,19 +1,17 @@
 -- The loop has made the pixels passed, each from its column and its row.
 -- Assumes nothing.
-use mathlib.Core.Path.{_≡_, _∙_, refl, ap}
+use mathlib.Core.Path.{_∙_, refl, ap}
 use mathlib.Core.List.{List}
-use Prim.Native.Nat.{ℕ, _/_, _%_, _<_, _≤_, _-_}
+use Prim.Native.Nat.{ℕ, _/_, _%_, _-_}
 use native.Mathlib.Omega.{arith}
 use borrow.Author.Needs.{needs}
-use lib.ListN.{length, getD, length-set}
 use Rattle.rules.specs.Modes.{planarPixel, planarBases}
-use Rattle.laws.proofs.Filled.{fills, is-build}
+use Rattle.laws.proofs.Filling.{Filling, inOrder, begun, stored-next, filled-all}
 use Rattle.planar.proofs.planar_block.Statement.{statement}
 use Rattle.planar.proofs.planar_block.Tie as tie
 
 abbrev Inv-loop : tie.InvT-loop
-Inv-loop d c out₀ i₀ out i =
-    (i ≤ 16) × (length out ≡ 16) × ((k : ℕ) → k < i → getD out k 0 ≡ planarPixel (planarBases d) (k % 4) (k / 4))
+Inv-loop d c out₀ i₀ out i = Filling inOrder (λ k. planarPixel (planarBases d) (k % 4) (k / 4)) 0 16 i out
 
 abbrev μ-loop : tie.MeasureT-loop
 μ-loop d c out₀ i₀ out i = 16 - i
@@ -22,7 +20,7 @@ planar-bases-requires : tie.Need-planar-bases-requires Inv-loop μ-loop
 planar-bases-requires c κs = search needs
 
 loop-holds : tie.Need-loop-holds Inv-loop μ-loop
-loop-holds c = (omega arith, refl, λ k h. absurd (omega arith))
+loop-holds c = begun inOrder _ 0 16 _ refl
 
 cast-planar-pixel : tie.Need-cast-planar-pixel Inv-loop μ-loop
 cast-planar-pixel c = omega arith
@@ -49,17 +47,13 @@ loop-again : tie.Need-loop-again Inv-loop μ-loop
 loop-again c =
     let l = c .before .before .loop in
     let b = c .before .before .before .planar-bases in
-    let d = c .before .before .before .before .before .args .d .now in (
-      omega arith,
-      length-set (l .out) (l .i) _ ∙ l .inv .1,
-      fills (λ k. planarPixel (planarBases d) (k % 4) (k / 4)) 0 (l .out) (l .i) _ (omega arith) (l .inv .2)
-          (c .planar-pixel .ensures ∙ ap (λ (a : List (List ℕ)). planarPixel a (l .i % 4) (l .i / 4)) (b .ensures)),
-    )
+    stored-next _ 0 16 (l .out) (l .i) (l .inv) _ (omega arith)
+    (c .planar-pixel .ensures ∙ ap (λ (a : List (List ℕ)). planarPixel a (l .i % 4) (l .i / 4)) (b .ensures))
 
 returns : tie.Need-returns Inv-loop μ-loop
 returns c =
     let l = c .before .loop in
-    is-build _ 0 16 (l .out) (l .inv .1) (λ k h. l .inv .2 k (omega arith))
+    filled-all _ 0 16 (l .out) (l .i) (l .inv) (omega arith)
 
 pub planar-block-spec : {M : Type 1} → statement M
 planar-block-spec =

@@ -1,15 +1,19 @@
--- The count stays below the place, so it fits.
+-- The elements counted, with those that are changed from the place on, are all; and the count stays below the place, so it fits.
 -- Assumes nothing.
 use borrow.Author.Needs.{needs}
-use Prim.Native.Nat.{_≤_, _-_}
-use lib.ListN.{length}
+use mathlib.Core.Path.{_≡_}
+use mathlib.Core.List.{List}
+use Prim.Native.Nat.{ℕ, _+_, _≤_, _<_, _-_}
+use lib.ListN.{length, drop}
 use mathlib.Core.Logic.{⊎-elim}
 use native.Mathlib.Omega.{arith}
+use Rattle.printing.specs.Changed.{others}
+use Rattle.printing.proofs.Count.{kept, other, none}
 use Rattle.printing.proofs.changed.Statement.{statement}
 use Rattle.printing.proofs.changed.Tie as tie
 
 abbrev Inv-loop : tie.InvT-loop
-Inv-loop image from n₀ i₀ n i = n ≤ i
+Inv-loop image from n₀ i₀ n i = (n ≤ i) × (n + others (drop i image) ≡ others (drop from image))
 
 abbrev μ-loop : tie.MeasureT-loop
 μ-loop image from n₀ i₀ n i = length image - i
@@ -33,10 +37,17 @@ loop-less : tie.Need-loop-less Inv-loop μ-loop
 loop-less c = search needs
 
 loop-again : tie.Need-loop-again Inv-loop μ-loop
-loop-again c = ⊎-elim (λ w. omega arith) (λ w. omega arith) (c .if1 .came)
+loop-again c =
+    let image : List ℕ = c .before .before .before .before .args .image .now in
+    let i : ℕ = c .before .before .before .loop .i in
+    let h : i < length image = omega arith in
+    ⊎-elim
+    (λ w. (omega arith, omega (arith, other image i h (w .0 .taken))))
+    (λ w. (omega arith, omega (arith, kept image i h (w .0 .left))))
+    (c .if1 .came)
 
 returns : tie.Need-returns Inv-loop μ-loop
-returns c = search needs
+returns c = omega (arith, none (c .before .before .args .image .now) (c .before .loop .i) (omega arith))
 
 pub changed-spec : {M : Type 1} → statement M
 changed-spec =

@@ -1,5 +1,7 @@
--- `scan::scan_row` is safe: a row of blocks fits its buffer.
+-- `scan::scan_row` meets its contract: what it says is what the bytes say that were read.
 -- Assumes nothing.
+use mathlib.Core.Path.{refl}
+use mathlib.Core.Logic.{inl, inr}
 use native.Mathlib.Omega.{arith}
 use lib.ListN.{length-take, length-drop, length-append}
 use borrow.Author.Needs.{needs}
@@ -22,28 +24,22 @@ same-length : tie.Need-same-length
 same-length c = search needs
 
 returns : tie.Need-returns
-returns c = search needs
+returns c = inl refl
 
-slice-reshare-prefix-first-out-of-range : tie.Need-slice-reshare-prefix-first-out-of-range
-slice-reshare-prefix-first-out-of-range c = search needs
+slice-reshare-prefix-after-row : tie.Need-slice-reshare-prefix-after-row
+slice-reshare-prefix-after-row c = search needs
 
-slice-aggregate-first-out-of-range : tie.Need-slice-aggregate-first-out-of-range
-slice-aggregate-first-out-of-range c = simp (length-take, length-append, length-drop) (omega arith)
+slice-aggregate-after-row : tie.Need-slice-aggregate-after-row
+slice-aggregate-after-row c = simp (length-take, length-append, length-drop) (omega arith)
 
-first-out-of-range-requires : tie.Need-first-out-of-range-requires
-first-out-of-range-requires c κs = simp (length-take, length-append, length-drop) (omega arith)
+after-row-requires : tie.Need-after-row-requires
+after-row-requires c κs = simp (length-take, length-append, length-drop) (omega arith)
 
 same-length-2 : tie.Need-same-length-2
 same-length-2 c = search needs
 
 returns-2 : tie.Need-returns-2
-returns-2 c = search needs
-
-same-length-3 : tie.Need-same-length-3
-same-length-3 c = search needs
-
-returns-3 : tie.Need-returns-3
-returns-3 c = search needs
+returns-2 c = inr (c .after-row .ensures)
 
 pub scan-row-spec : {M : Type 1} → statement M
 scan-row-spec =
@@ -55,10 +51,8 @@ scan-row-spec =
     read-full-requires
     same-length
     returns
-    slice-reshare-prefix-first-out-of-range
-    slice-aggregate-first-out-of-range
-    first-out-of-range-requires
+    slice-reshare-prefix-after-row
+    slice-aggregate-after-row
+    after-row-requires
     same-length-2
-    returns-2
-    same-length-3
-    returns-3)
+    returns-2)

@@ -1,16 +1,26 @@
--- `scan::scan_rows` is safe and ends: the buffer keeps its length, and the rows that are left grow fewer.
+-- `scan::scan_rows` meets its contract: whenever the loop's test is reached, a strict reader has nothing to say of the rows that
+-- were read.
 -- Assumes nothing.
 use Prim.Native.Nat.{_-_, _≤_}
+use native.Mathlib.Omega.{arith}
 use lib.ListN.{length}
+use Rattle.laws.proofs.Outcome.{refusal}
+use Rattle.scan.proofs.Laws.{Clear, begin, further, stops, ends}
 use borrow.Author.Needs.{needs}
 use Rattle.scan.proofs.scan_rows.Statement.{statement}
 use Rattle.scan.proofs.scan_rows.Tie as tie
 
 abbrev Inv-loop : tie.InvT-loop
-Inv-loop fd n rows bytes₀ j₀ bytes j = 65536 ≤ length bytes
+Inv-loop fd width height n rows bytes₀ j₀ bytes j = (65536 ≤ length bytes) × (j ≤ rows) × Clear n j
 
 abbrev μ-loop : tie.MeasureT-loop
-μ-loop fd n rows bytes₀ j₀ bytes j = rows - j
+μ-loop fd width height n rows bytes₀ j₀ bytes j = rows - j
+
+across-requires : tie.Need-across-requires Inv-loop μ-loop
+across-requires c κs = search needs
+
+across-requires-2 : tie.Need-across-requires-2 Inv-loop μ-loop
+across-requires-2 c κs = search needs
 
 large-buffer-requires : tie.Need-large-buffer-requires Inv-loop μ-loop
 large-buffer-requires c κs = search needs
@@ -19,7 +29,7 @@ slice-aggregate-bytes : tie.Need-slice-aggregate-bytes Inv-loop μ-loop
 slice-aggregate-bytes c = search needs
 
 loop-holds : tie.Need-loop-holds Inv-loop μ-loop
-loop-holds c = search needs
+loop-holds c = (search needs, search needs, begin _)
 
 scan-row-requires : tie.Need-scan-row-requires Inv-loop μ-loop
 scan-row-requires c κs = search needs
@@ -27,23 +37,21 @@ scan-row-requires c κs = search needs
 enum-told : tie.Need-enum-told Inv-loop μ-loop
 enum-told c = search needs
 
-refusal-requires : tie.Need-refusal-requires Inv-loop μ-loop
-refusal-requires c κs = search needs
+-- the places before a row was scanned
+abbrev scan : tie.After-slice-known Inv-loop μ-loop → tie.After-scan-row Inv-loop μ-loop
+scan c = c .before .before
+
+abbrev loop : tie.After-slice-known Inv-loop μ-loop → tie.At-loop Inv-loop μ-loop
+loop c = scan c .before .before .before
 
 returns : tie.Need-returns Inv-loop μ-loop
-returns c = search needs
-
-enum-known-first : tie.Need-enum-known-first Inv-loop μ-loop
-enum-known-first c = search needs
-
-say-block-requires : tie.Need-say-block-requires Inv-loop μ-loop
-say-block-requires c κs = search needs
-
-returns-2 : tie.Need-returns-2 Inv-loop μ-loop
-returns-2 c = search needs
-
-enum-told-2 : tie.Need-enum-told-2 Inv-loop μ-loop
-enum-told-2 c = search needs
+returns c =
+    let k = c .before .before in
+    let l = loop k in
+    let a = l .before .before .before in
+    stops _ _ _ _ (omega (arith, a .before .across .ensures, l .loop .inv .0)) (l .loop .inv .2) _ _ (a .before .across .ensures .0)
+    (omega (arith, a .across2 .ensures .0, scan k .before .before .loop-test .taken)) (scan k .scan-row .ensures)
+    (refusal (scan k .scan-row .result) (c .before .match .keys2))
 
 add-j : tie.Need-add-j Inv-loop μ-loop
 add-j c = search needs
@@ -52,13 +60,17 @@ loop-less : tie.Need-loop-less Inv-loop μ-loop
 loop-less c = search needs
 
 loop-again : tie.Need-loop-again Inv-loop μ-loop
-loop-again c = search needs
+loop-again c =
+    let k = c .before .before in
+    let l = loop k in
+    let a = l .before .before .before in
+    (search needs, search needs, further _ _ _ _ (omega (arith, a .before .across .ensures, l .loop .inv .0)) (l .loop .inv .2) (scan k .scan-row .ensures) (c .enum-told .given .1))
 
-accepted-requires : tie.Need-accepted-requires Inv-loop μ-loop
-accepted-requires c κs = search needs
-
-returns-3 : tie.Need-returns-3 Inv-loop μ-loop
-returns-3 c = search needs
+returns-2 : tie.Need-returns-2 Inv-loop μ-loop
+returns-2 c =
+    let l = c .before .before in
+    let a = l .before .before .before in
+    ends _ _ _ _ (a .before .across .ensures .0) (omega (arith, a .across2 .ensures .0, c .before .loop-test .left, l .loop .inv .1)) (l .loop .inv .2)
 
 pub scan-rows-spec : {M : Type 1} → statement M
 scan-rows-spec =
@@ -66,19 +78,15 @@ scan-rows-spec =
     (tie.spec
     Inv-loop
     μ-loop
+    across-requires
+    across-requires-2
     large-buffer-requires
     slice-aggregate-bytes
     loop-holds
     scan-row-requires
     enum-told
-    refusal-requires
     returns
-    enum-known-first
-    say-block-requires
-    returns-2
-    enum-told-2
     add-j
     loop-less
     loop-again
-    accepted-requires
-    returns-3)
+    returns-2)

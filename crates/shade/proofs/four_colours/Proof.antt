@@ -2,26 +2,25 @@
 -- Assumes nothing.
 use mathlib.Core.Path.{_≡_, _∙_, refl, ap}
 use mathlib.Core.List.{[]}
-use Prim.Native.Nat.{ℕ, _<_, _≤_, _-_}
+use Prim.Native.Nat.{ℕ, _-_}
 use native.Mathlib.Omega.{arith}
 use lib.IntN.{pos}
-use lib.ListN.{length, getD, length-set}
+use lib.ListN.{getD}
 use mir.Syntax.{w16}
 use Rattle.rules.specs.Colour.{shaded}
 use Rattle.laws.proofs.Signed.{held, held-small}
-use Rattle.laws.proofs.Filled.{fills, is-build}
+use Rattle.laws.proofs.Filling.{Filling, inOrder, begun, stored-next, filled-all}
 use Rattle.shade.proofs.four_colours.Statement.{statement}
 use Rattle.shade.proofs.four_colours.Tie as tie
 
 abbrev Inv-loop : tie.InvT-loop
-Inv-loop bases steps colours₀ i₀ colours i =
-    (i ≤ 4) × (length colours ≡ 4) × ((k : ℕ) → k < i → getD colours k 0 ≡ shaded (getD bases k []) (getD steps k (pos 0)))
+Inv-loop bases steps colours₀ i₀ colours i = Filling inOrder (λ k. shaded (getD bases k []) (getD steps k (pos 0))) 0 4 i colours
 
 abbrev μ-loop : tie.MeasureT-loop
 μ-loop bases steps colours₀ i₀ colours i = 4 - i
 
 loop-holds : tie.Need-loop-holds Inv-loop μ-loop
-loop-holds c = (omega arith, refl, λ k h. absurd (omega arith))
+loop-holds c = begun inOrder _ 0 4 _ refl
 
 mul-applicate-color : tie.Need-mul-applicate-color Inv-loop μ-loop
 mul-applicate-color c = omega arith
@@ -59,17 +58,14 @@ loop-less c = omega arith
 loop-again : tie.Need-loop-again Inv-loop μ-loop
 loop-again c =
     let l = c .before .before .before .before .loop in
-    let s = c .before .before .before .before .before in (
-      omega arith,
-      length-set (l .colours) (l .i) _ ∙ l .inv .1,
-      fills (λ k. shaded (getD (s .args .t1) k []) (getD (s .args .t2) k (pos 0))) 0 (l .colours) (l .i) _ (omega arith) (l .inv .2)
-          (c .applicate-color .ensures ∙ ap (shaded (getD (s .args .t1) (l .i) [])) (small s (l .i))),
-    )
+    let s = c .before .before .before .before .before in
+    stored-next _ 0 4 (l .colours) (l .i) (l .inv) _ (omega arith)
+    (c .applicate-color .ensures ∙ ap (shaded (getD (s .args .t1) (l .i) [])) (small s (l .i)))
 
 returns : tie.Need-returns Inv-loop μ-loop
 returns c =
     let l = c .before .loop in
-    is-build _ 0 4 (l .colours) (l .inv .1) (λ k h. l .inv .2 k (omega arith))
+    filled-all _ 0 4 (l .colours) (l .i) (l .inv) (omega arith)
 
 pub four-colours-spec : {M : Type 1} → statement M
 four-colours-spec =

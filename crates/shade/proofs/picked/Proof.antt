@@ -1,14 +1,14 @@
 -- The loop has passed the pixels whose number is below i: the words have lost their bits, and each has what it takes.
 -- Assumes nothing.
 use mathlib.Core.Path.{_≡_, _∙_, refl, sym, ap}
-use Prim.Native.Nat.{ℕ, _+_, _*_, _/_, _%_, _^_, _<_, _≤_, _-_}
+use Prim.Native.Nat.{ℕ, _+_, _*_, _/_, _%_, _^_, _-_}
 use native.Mathlib.Nat.{div-one}
 use native.Mathlib.Omega.{arith}
 use borrow.Author.Needs.{needs}
-use lib.ListN.{length, getD, length-set}
+use lib.ListN.{getD}
 use Rattle.rules.specs.Notation.{bit}
-use Rattle.laws.proofs.Filled.{fills-by, is-build}
-use Rattle.laws.proofs.Order.{shifted, low-field}
+use Rattle.laws.proofs.Filling.{Filling, begun, stored, filled}
+use Rattle.laws.proofs.Order.{shifted, low-field, place}
 use Rattle.consts.proofs.Order.{order-at}
 use Rattle.shade.specs.Pick.{taken, lowWord, highWord}
 use Rattle.shade.proofs.Pick.{takes}
@@ -17,7 +17,7 @@ use Rattle.shade.proofs.picked.Tie as tie
 
 abbrev Inv-loop : tie.InvT-loop
 Inv-loop d colours order flip low₀ high₀ out₀ i₀ low high out i =
-    (i ≤ 16) × (low ≡ low₀ / 2 ^ (1 * i)) × (high ≡ high₀ / 2 ^ (1 * i)) × (length out ≡ 16) × ((m : ℕ) → m < 16 → 4 * (m % 4) + m / 4 < i → getD out m 0 ≡ taken d colours m)
+    (low ≡ low₀ / 2 ^ (1 * i)) × (high ≡ high₀ / 2 ^ (1 * i)) × Filling place (taken d colours) 0 16 i out
 
 abbrev μ-loop : tie.MeasureT-loop
 μ-loop d colours order flip low₀ high₀ out₀ i₀ low high out i = 16 - i
@@ -32,7 +32,7 @@ index-bits-requires : tie.Need-index-bits-requires Inv-loop μ-loop
 index-bits-requires c κs = search needs
 
 loop-holds : tie.Need-loop-holds Inv-loop μ-loop
-loop-holds c = (omega arith, omega arith, omega arith, refl, λ m h p. absurd (omega arith))
+loop-holds c = (omega arith, omega arith, begun place _ 0 16 _ refl)
 
 half-of-requires : tie.Need-half-of-requires Inv-loop μ-loop
 half-of-requires c κs = search needs
@@ -91,20 +91,18 @@ loop-again c =
     let o = at (c .before) in
     let top : w .result / 65536 ≡ highWord d = omega arith in
     let n : 1 * l .i ≡ l .i = omega arith in
-    let lb : l .low % 2 ≡ bit (l .i) (lowWord d) = rw (l .inv .1, n, w .ensures .0) (low-field 16 (highWord d) (lowWord d) (l .i) 1 (w .ensures .1) (omega arith)) in
-    let hb : l .high % 2 ≡ bit (l .i) (highWord d) = rw (l .inv .2, n, top) in (
-      omega arith,
-      ap (λ (n : ℕ). n / 2) (l .inv .1) ∙ shifted (w .result) 1 (l .i),
-      ap (λ (n : ℕ). n / 2) (l .inv .2) ∙ shifted (w .result / 65536) 1 (l .i),
-      length-set (l .out) (getD order (l .i) 0) _ ∙ l .inv .3,
-      fills-by (taken d colours) 0 (λ m. 4 * (m % 4) + m / 4) 16 (l .out) (l .i) (getD order (l .i) 0) _ (omega arith) (λ k h e. omega arith) (l .inv .4)
+    let lb : l .low % 2 ≡ bit (l .i) (lowWord d) = rw (l .inv .0, n, w .ensures .0) (low-field 16 (highWord d) (lowWord d) (l .i) 1 (w .ensures .1) (omega arith)) in
+    let hb : l .high % 2 ≡ bit (l .i) (highWord d) = rw (l .inv .1, n, top) in (
+      ap (λ (n : ℕ). n / 2) (l .inv .0) ∙ shifted (w .result) 1 (l .i),
+      ap (λ (n : ℕ). n / 2) (l .inv .1) ∙ shifted (w .result / 65536) 1 (l .i),
+      stored place (taken d colours) 0 16 (l .out) (l .i) (getD order (l .i) 0) _ (l .inv .2) (omega arith) (omega arith) (λ k h e. omega arith)
           (takes d colours (l .i) _ (l .low) (l .high) (omega arith) (rw div-one (c .half-of .ensures .0)) lb hb ∙ ap (taken d colours) (sym o)),
     )
 
 returns : tie.Need-returns Inv-loop μ-loop
 returns c =
     let l = c .before .loop in
-    is-build _ 0 16 (l .out) (l .inv .3) (λ k h. l .inv .4 k h (omega arith))
+    filled place _ 0 16 (l .out) (l .i) (l .inv .2) (λ k h. omega arith)
 
 pub picked-spec : {M : Type 1} → statement M
 picked-spec =

@@ -1,0 +1,68 @@
+//! The functions of the archive, as include/yalivucu.h declares them. A slice goes over as its
+//! pointer and its length.
+
+pub type Picture = unsafe extern "C" fn(*const u8, usize, usize, usize, *mut u32, usize) -> u32;
+pub type Block = unsafe extern "C" fn(*const u8, usize, *mut u32, usize) -> u32;
+pub type Channel = unsafe extern "C" fn(*const u8, usize, usize, *mut u32, usize) -> u32;
+
+macro_rules! declared {
+    ($($name:ident)*) => {$(
+        pub fn $name(data: *const u8, data_len: usize, width: usize, height: usize, image: *mut u32, image_len: usize) -> u32;
+    )*};
+}
+macro_rules! declared_block {
+    ($($name:ident)*) => {$(
+        pub fn $name(data: *const u8, data_len: usize, out: *mut u32, out_len: usize) -> u32;
+    )*};
+}
+macro_rules! declared_channel {
+    ($($name:ident)*) => {$(
+        pub fn $name(data: *const u8, data_len: usize, channel: usize, out: *mut u32, out_len: usize) -> u32;
+    )*};
+}
+macro_rules! declared_census {
+    ($($name:ident)*) => {$(
+        pub fn $name(data: *const u8, data_len: usize, width: usize, height: usize, counts: *mut usize, counts_len: usize) -> u32;
+    )*};
+}
+
+extern "C" {
+    declared! {
+        yalivucu_decode_etc1
+        yalivucu_decode_etc2_rgb
+        yalivucu_decode_etc2_rgba1
+        yalivucu_decode_etc2_rgba8
+        yalivucu_decode_eacr
+        yalivucu_decode_eacr_signed
+        yalivucu_decode_eacrg
+        yalivucu_decode_eacrg_signed
+    }
+    declared_block! {
+        yalivucu_decode_etc1_block
+        yalivucu_decode_etc2_rgb_block
+        yalivucu_decode_etc2_rgba1_block
+        yalivucu_decode_etc2_rgba8_block
+        yalivucu_decode_eacr_block
+        yalivucu_decode_eacr_signed_block
+        yalivucu_decode_eacrg_block
+        yalivucu_decode_eacrg_signed_block
+        yalivucu_decode_etc2_a8_block
+    }
+    declared_channel! {
+        yalivucu_decode_eac_block
+        yalivucu_decode_eac_signed_block
+    }
+    declared_census! {
+        yalivucu_census_etc2_rgb
+        yalivucu_census_etc2_rgba1
+    }
+    pub fn yalivucu_decode_etc1_strict(
+        data: *const u8,
+        data_len: usize,
+        width: usize,
+        height: usize,
+        image: *mut u32,
+        image_len: usize,
+        block: *mut usize,
+    ) -> u32;
+}

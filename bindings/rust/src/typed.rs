@@ -1,0 +1,257 @@
+//! What is ours alone, with Rust's own habits: a [`Format`] as a value, a [`Picture`] as a
+//! description, and a [`Refusal`] that says why not. Nothing here panics.
+//!
+//! ```
+//! use yalivucu::typed::{read, Format, Picture, Refusal};
+//!
+//! let data = [0x04, 0, 0, 0x02, 0, 0, 0, 0]; // one block of 8 bytes
+//! let mut image = [0; 16];
+//! read(Format::Etc1, &data, Picture::new(4, 4), &mut image)?;
+//! assert_eq!(image[..4], [0xff020202, 0xff020202, 0xffe90202, 0xffe90202]);
+//! # Ok::<(), Refusal>(())
+//! ```
+pub use crate::census::{census_etc2_rgb, census_etc2_rgba1, KindCounts, Rgba1Counts, RgbCounts};
+pub use crate::refusal::Refusal;
+use crate::sys;
+
+/// The formats that can be read.
+#[derive(Clone, Copy, Debug, PartialEq, Eq, Hash)]
+#[non_exhaustive]
+pub enum Format {
+    /// ETC1, in blocks of 8 bytes; sums out of range wrap.
+    Etc1,
+    /// ETC2 RGB, in blocks of 8 bytes.
+    Etc2Rgb,
+    /// ETC2 RGB with one bit of alpha, in blocks of 8 bytes.
+    Etc2Rgba1,
+    /// ETC2 RGB with eight bits of alpha, in blocks of 16 bytes.
+    Etc2Rgba8,
+    /// EAC R into red, in blocks of 8 bytes.
+    EacR,
+    /// Signed EAC R into red, in blocks of 8 bytes.
+    EacRSigned,
+    /// EAC RG into red and green, in blocks of 16 bytes.
+    EacRg,
+    /// Signed EAC RG into red and green, in blocks of 16 bytes.
+    EacRgSigned,
+}
+
+impl Format {
+    /// Every format.
+    pub const ALL: [Format; 8] = [
+        Format::Etc1,
+        Format::Etc2Rgb,
+        Format::Etc2Rgba1,
+        Format::Etc2Rgba8,
+        Format::EacR,
+        Format::EacRSigned,
+        Format::EacRg,
+        Format::EacRgSigned,
+    ];
+
+    /// The bytes of a block.
+    ///
+    /// ```
+    /// assert_eq!(yalivucu::typed::Format::EacRg.block_size(), 16);
+    /// ```
+    pub const fn block_size(self) -> usize {
+        match self {
+            Format::Etc2Rgba8 | Format::EacRg | Format::EacRgSigned => 16,
+            _ => 8,
+        }
+    }
+
+    fn picture_reader(self) -> sys::Picture {
+        match self {
+            Format::Etc1 => sys::yalivucu_decode_etc1,
+            Format::Etc2Rgb => sys::yalivucu_decode_etc2_rgb,
+            Format::Etc2Rgba1 => sys::yalivucu_decode_etc2_rgba1,
+            Format::Etc2Rgba8 => sys::yalivucu_decode_etc2_rgba8,
+            Format::EacR => sys::yalivucu_decode_eacr,
+            Format::EacRSigned => sys::yalivucu_decode_eacr_signed,
+            Format::EacRg => sys::yalivucu_decode_eacrg,
+            Format::EacRgSigned => sys::yalivucu_decode_eacrg_signed,
+        }
+    }
+
+    fn block_reader(self) -> sys::Block {
+        match self {
+            Format::Etc1 => sys::yalivucu_decode_etc1_block,
+            Format::Etc2Rgb => sys::yalivucu_decode_etc2_rgb_block,
+            Format::Etc2Rgba1 => sys::yalivucu_decode_etc2_rgba1_block,
+            Format::Etc2Rgba8 => sys::yalivucu_decode_etc2_rgba8_block,
+            Format::EacR => sys::yalivucu_decode_eacr_block,
+            Format::EacRSigned => sys::yalivucu_decode_eacr_signed_block,
+            Format::EacRg => sys::yalivucu_decode_eacrg_block,
+            Format::EacRgSigned => sys::yalivucu_decode_eacrg_signed_block,
+        }
+    }
+}
+
+/// A picture's description: its size in pixels. Pixel (x, y) is `image[y * width + x]`.
+#[derive(Clone, Copy, Debug, PartialEq, Eq, Hash)]
+#[non_exhaustive]
+pub struct Picture {
+    /// The width in pixels.
+    pub width: usize,
+    /// The height in pixels.
+    pub height: usize,
+}
+
+impl Picture {
+    /// A picture of that size, whose rows follow each other.
+    pub const fn new(width: usize, height: usize) -> Picture {
+        Picture { width, height }
+    }
+
+    /// How many bytes the picture's blocks have, unless that is more than can be counted.
+    ///
+    /// ```
+    /// use yalivucu::typed::{Format, Picture};
+    /// assert_eq!(Picture::new(5, 5).bytes(Format::Etc1), Some(32));
+    /// ```
+    pub fn bytes(self, format: Format) -> Option<usize> {
+        let across = self.width.div_ceil(4);
+        let down = self.height.div_ceil(4);
+        across.checked_mul(down)?.checked_mul(format.block_size())
+    }
+
+    /// How many elements the image must have, unless that is more than can be counted.
+    pub fn elements(self) -> Option<usize> {
+        self.width.checked_mul(self.height)
+    }
+}
+
+/// Reads a picture of any format.
+///
+/// Refuses with [`Refusal::TooLarge`], [`Refusal::ShortData`] or [`Refusal::ShortImage`], tested
+/// in that order, and then `image` is as it was.
+///
+/// ```
+/// use yalivucu::typed::{read, Format, Picture, Refusal};
+///
+/// let mut image = [7; 16];
+/// let refused = read(Format::Etc2Rgba8, &[0; 15], Picture::new(4, 4), &mut image);
+/// assert_eq!(refused, Err(Refusal::ShortData));
+/// assert_eq!(image, [7; 16]);
+/// ```
+pub fn read(format: Format, data: &[u8], picture: Picture, image: &mut [u32]) -> Result<(), Refusal> {
+    let reader = format.picture_reader();
+    // SAFETY: the pointers and lengths are those of two slices that live through the call.
+    let number = unsafe {
+        reader(
+            data.as_ptr(),
+            data.len(),
+            picture.width,
+            picture.height,
+            image.as_mut_ptr(),
+            image.len(),
+        )
+    };
+    Refusal::answered(number, 0)
+}
+
+/// Reads an ETC1 picture that holds no block out of range, and refuses any other with
+/// [`Refusal::OutOfRange`] and the number of the first such block. What it accepts, an ETC2
+/// decoder shows alike.
+///
+/// Refuses with [`Refusal::TooLarge`], [`Refusal::ShortData`], [`Refusal::ShortImage`] or
+/// [`Refusal::OutOfRange`], tested in that order, and then `image` is as it was.
+///
+/// ```
+/// use yalivucu::typed::{read_strict, Picture, Refusal};
+///
+/// let mut image = [7; 16];
+/// let refused = read_strict(&[0x04, 0, 0, 0x02, 0, 0, 0, 0], Picture::new(4, 4), &mut image);
+/// assert_eq!(refused, Err(Refusal::OutOfRange { block: 0 }));
+/// assert_eq!(image, [7; 16]);
+/// ```
+pub fn read_strict(data: &[u8], picture: Picture, image: &mut [u32]) -> Result<(), Refusal> {
+    let mut block = 0;
+    // SAFETY: the pointers and lengths are those of two slices that live through the call, and
+    // `block` is a local of its own.
+    let number = unsafe {
+        sys::yalivucu_decode_etc1_strict(
+            data.as_ptr(),
+            data.len(),
+            picture.width,
+            picture.height,
+            image.as_mut_ptr(),
+            image.len(),
+            &mut block,
+        )
+    };
+    Refusal::answered(number, block)
+}
+
+/// Reads one block of any format into the elements 0 to 15 of `out`, row by row.
+///
+/// Refuses with [`Refusal::ShortData`] or, for fewer than 16 elements, [`Refusal::ShortImage`],
+/// tested in that order, and then `out` is as it was.
+///
+/// ```
+/// use yalivucu::typed::{read_block, Format, Refusal};
+///
+/// let mut out = [0; 16];
+/// assert_eq!(read_block(Format::Etc2Rgb, &[0; 7], &mut out), Err(Refusal::ShortData));
+/// assert_eq!(read_block(Format::Etc2Rgb, &[0; 8], &mut out), Ok(()));
+/// assert_eq!(out, [0xff020202; 16]);
+/// ```
+pub fn read_block(format: Format, data: &[u8], out: &mut [u32]) -> Result<(), Refusal> {
+    block_by(format.block_reader(), data, out)
+}
+
+/// Reads an alpha half of 8 bytes into the top bytes of the elements 0 to 15, and keeps the rest
+/// of them. Refuses as [`read_block`] does.
+///
+/// ```
+/// use yalivucu::typed::read_alpha;
+///
+/// let mut out = [0x00123456; 16];
+/// assert_eq!(read_alpha(&[0x80, 0x10, 0, 0, 0, 0, 0, 0], &mut out), Ok(()));
+/// assert_eq!(out, [0x7d123456; 16]);
+/// ```
+pub fn read_alpha(data: &[u8], out: &mut [u32]) -> Result<(), Refusal> {
+    block_by(sys::yalivucu_decode_etc2_a8_block, data, out)
+}
+
+/// Reads an EAC block of 8 bytes and ORs its bytes into channel 0 blue, 1 green, 2 red or 3
+/// alpha of the elements 0 to 15. Refuses with [`Refusal::NoChannel`] first, then as
+/// [`read_block`] does.
+///
+/// ```
+/// use yalivucu::typed::{read_channel, Refusal};
+///
+/// let mut out = [0; 16];
+/// assert_eq!(read_channel(&[0x80, 0x10, 0, 0, 0, 0, 0, 0], 2, &mut out), Ok(()));
+/// assert_eq!(out, [0x007d0000; 16]);
+/// assert_eq!(read_channel(&[0; 8], 4, &mut out), Err(Refusal::NoChannel));
+/// ```
+pub fn read_channel(data: &[u8], channel: usize, out: &mut [u32]) -> Result<(), Refusal> {
+    channel_by(sys::yalivucu_decode_eac_block, data, channel, out)
+}
+
+/// The same of a signed EAC block.
+///
+/// ```
+/// use yalivucu::typed::read_channel_signed;
+///
+/// let mut out = [0; 16];
+/// assert_eq!(read_channel_signed(&[0, 0x10, 0, 0, 0, 0, 0, 0], 2, &mut out), Ok(()));
+/// assert_eq!(out, [0x007c0000; 16]);
+/// ```
+pub fn read_channel_signed(data: &[u8], channel: usize, out: &mut [u32]) -> Result<(), Refusal> {
+    channel_by(sys::yalivucu_decode_eac_signed_block, data, channel, out)
+}
+
+fn block_by(reader: sys::Block, data: &[u8], out: &mut [u32]) -> Result<(), Refusal> {
+    // SAFETY: the pointers and lengths are those of two slices that live through the call.
+    let number = unsafe { reader(data.as_ptr(), data.len(), out.as_mut_ptr(), out.len()) };
+    Refusal::answered(number, 0)
+}
+
+fn channel_by(reader: sys::Channel, data: &[u8], channel: usize, out: &mut [u32]) -> Result<(), Refusal> {
+    // SAFETY: the pointers and lengths are those of two slices that live through the call.
+    let number = unsafe { reader(data.as_ptr(), data.len(), channel, out.as_mut_ptr(), out.len()) };
+    Refusal::answered(number, 0)
+}

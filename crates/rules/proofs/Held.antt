@@ -1,0 +1,120 @@
+-- The test of all specimens, which antt computes over the very definitions that the readers promise; and that these are what
+-- they promise. Document 01's rows are in Specimens.antt, those of other decoders in Recorded.antt.
+-- Assumes nothing.
+use mathlib.Core.Bool.{Bool, true, false, cond, _&&_}
+use mathlib.Core.List.{List, [], _∷_, _++_}
+use mathlib.Core.Path.{_≡_}
+use Prim.Native.Nat.{ℕ, zero, suc, _+_, _*_, _/_, _%_}
+use lib.Dec.{T, eqb}
+use lib.IntN.{pos}
+use lib.ListN.{length}
+use Rattle.rules.specs.Notation.{minus, modulo}
+use Rattle.rules.specs.Places.{sized, element, bytesOf, inTile, tile, painted}
+use Rattle.rules.specs.Answers.{said, left, firstOf}
+use Rattle.rules.specs.Colour.{differential, wrapped, kindBySums, outOfRange}
+use Rattle.rules.specs.Modes.{tBases, tDistance, hBases, hDistance, planarBases, planarChannel, indexed, rgbPixel, rgba1Pixel, etc1Pixel}
+use Rattle.rules.specs.Channels.{alphaStep, alphaByte, rgba8Pixel, eacValue, eacByte, redPixel, redGreenPixel}
+use Rattle.rules.specs.Formats.{sizeOf, showsOf}
+use Rattle.rules.specs.Readers.{pictureOf, pictureVerdict, ReadsPicture, strictVerdict, ReadsStrict, blockVerdict, blockPainted, ReadsBlock, alphaPainted, ReadsAlpha, channelVerdict, channelPainted, ReadsChannel}
+use Rattle.rules.specs.declared.Answer.{Answer}
+use Rattle.rules.specs.declared.Answer.the-variants.{Done, TooLarge, ShortData, ShortImage, OutOfRange, NoChannel}
+use Rattle.rules.specs.declared.Format.{Format}
+use Rattle.rules.specs.declared.Format.the-variants.{Etc1, Etc2Rgb, Etc2Rgba1, Etc2Rgba8, EacR, EacRSigned, EacRg, EacRgSigned}
+use Rattle.rules.proofs.Rows.{Reader, picture, strict, block, alphaHalf, channel, Row, same, eight}
+use Rattle.rules.proofs.Specimens.{rows, columns, bench, table}
+use Rattle.rules.proofs.Recorded.{recorded}
+
+-- what a reader says of the bytes and the image that it is lent, and what it would paint
+verdictOf : Reader → ℕ → ℕ → List ℕ → List ℕ → List ℕ
+verdictOf (picture f) w h d image = pictureVerdict f (sized w h) d image
+verdictOf strict w h d image = strictVerdict (sized w h) d image
+verdictOf (block f) w h d image = blockVerdict (sizeOf f) d image
+verdictOf alphaHalf w h d image = blockVerdict 8 d image
+verdictOf (channel s c) w h d image = channelVerdict c d image
+
+paints : Reader → ℕ → ℕ → List ℕ → List ℕ → List ℕ
+paints (picture f) w h d image = pictureOf f (sized w h) d image
+paints strict w h d image = pictureOf Etc2Rgb (sized w h) d image
+paints (block f) w h d image = blockPainted (λ k. showsOf f d (k % 4) (k / 4)) image
+paints alphaHalf w h d image = alphaPainted d image
+paints (channel s c) w h d image = channelPainted s d c image
+
+leaves : Reader → ℕ → ℕ → List ℕ → List ℕ → List ℕ
+leaves reader w h d image = left (verdictOf reader w h d image) (paints reader w h d image) image
+
+-- that is what it promises, no less and no more
+Promise : Reader → ℕ → ℕ → List ℕ → List ℕ → Answer → List ℕ → Type 0
+Promise (picture f) w h d image answer new = ReadsPicture f d (sized w h) image answer new
+Promise strict w h d image answer new = ReadsStrict d (sized w h) image answer new
+Promise (block f) w h d image answer new = ReadsBlock f d image answer new
+Promise alphaHalf w h d image answer new = ReadsAlpha d image answer new
+Promise (channel s c) w h d image answer new = ReadsChannel s d c image answer new
+
+no-less :
+    (reader : Reader) (w h : ℕ) (d image : List ℕ) (answer : Answer) (new : List ℕ)
+    → Promise reader w h d image answer new
+    → (said answer ≡ verdictOf reader w h d image) × (new ≡ leaves reader w h d image)
+unfolding Promise verdictOf paints leaves
+no-less (picture f) w h d image answer new o = (o .says, o .leaves)
+no-less strict w h d image answer new o = (o .says, o .leaves)
+no-less (block f) w h d image answer new o = (o .says, o .leaves)
+no-less alphaHalf w h d image answer new o = (o .says, o .leaves)
+no-less (channel s c) w h d image answer new o = (o .says, o .leaves)
+
+no-more :
+    (reader : Reader) (w h : ℕ) (d image : List ℕ) (answer : Answer) (new : List ℕ)
+    → said answer ≡ verdictOf reader w h d image
+    → new ≡ leaves reader w h d image
+    → Promise reader w h d image answer new
+unfolding Promise verdictOf paints leaves
+no-more (picture f) w h d image answer new a b = record { says = a; leaves = b }
+no-more strict w h d image answer new a b = record { says = a; leaves = b }
+no-more (block f) w h d image answer new a b = record { says = a; leaves = b }
+no-more alphaHalf w h d image answer new a b = record { says = a; leaves = b }
+no-more (channel s c) w h d image answer new a b = record { says = a; leaves = b }
+
+holds : Row → Bool
+holds r =
+    same (verdictOf (r .reader) (r .width) (r .height) (r .bytes) (r .lent)) (r .says)
+    && same (leaves (r .reader) (r .width) (r .height) (r .bytes) (r .lent)) (r .leaves)
+
+every : List Row → Bool
+every [] = true
+every (r ∷ rs) = holds r && every rs
+
+-- "When the reader says no": the numbers
+numbers : Bool
+numbers =
+    same (said Done) (0 ∷ [])
+    && same (said TooLarge) (1 ∷ [])
+    && same (said ShortData) (2 ∷ [])
+    && same (said ShortImage) (3 ∷ [])
+    && same (said (OutOfRange 7)) (4 ∷ 7 ∷ [])
+    && same (said NoChannel) (5 ∷ [])
+
+-- the places 0 .. n - 1 at which a test holds
+marked : (ℕ → Bool) → ℕ → List ℕ
+marked test zero = []
+marked test (suc n) = marked test n ++ cond (test n) (n ∷ []) []
+
+-- "pixel (x, y) is element y * width + x"; "Block 3 shows only element 24" of 5 by 5 (S17), and block 1 the fifth of each of
+-- four rows; the sixteen pixels of S2 and S4; a block's own bytes and no others; the first of places, or their number
+places : Bool
+places =
+    same (element (sized 5 3) 2 1 ∷ element (sized 7 9) 4 3 ∷ []) (7 ∷ 25 ∷ [])
+    && same (marked (inTile (sized 5 5) 3) 30) (24 ∷ [])
+    && same (marked (inTile (sized 5 5) 1) 30) (4 ∷ 9 ∷ 14 ∷ 19 ∷ [])
+    && same (tile etc1Pixel (eight 0x0400000200000000)) (columns 0xFF020202 0xFFE90202)
+    && same (tile rgbPixel (eight 0x000004020000003F)) (rows 0xFF000000 0xFF000040 0xFF000080 0xFF0000BF)
+    && same (bytesOf 2 (1 ∷ 2 ∷ 3 ∷ 4 ∷ 5 ∷ []) 1) (3 ∷ 4 ∷ [])
+    && same (firstOf (λ k. false) 0 ∷ firstOf (λ k. false) 3 ∷ firstOf (λ k. true) 3 ∷ []) (0 ∷ 3 ∷ 0 ∷ [])
+
+-- a remainder below 0 counts up from 0; "clamped to 0..2047" of the whole eleven bits
+words : Bool
+words =
+    same (modulo (minus 1) 5 ∷ modulo (minus 5) 5 ∷ modulo (minus 6) 5 ∷ modulo (pos 7) 5 ∷ []) (4 ∷ 0 ∷ 4 ∷ 2 ∷ [])
+    && same (eacValue false (eight 0xFFF0FFFFFFFFFFFF) 0 0 ∷ eacValue false (eight 0x00F0000000000000) 0 0 ∷ []) (2047 ∷ 0 ∷ [])
+
+hold : T (numbers && words && places && every (bench ++ recorded ++ table))
+unfolding numbers words places every bench table recorded verdictOf paints leaves holds marked painted firstOf differential wrapped kindBySums outOfRange tBases tDistance hBases hDistance planarBases planarChannel indexed rgbPixel rgba1Pixel etc1Pixel alphaStep alphaByte rgba8Pixel eacValue eacByte redPixel redGreenPixel sizeOf showsOf
+hold = tt

@@ -1,0 +1,335 @@
+//! Rows for the list of specimens in crates/rules, as antt text: blocks that between them see every entry of every table
+//! and every field of every kind, with the answers of the crate, which Mesa and Android must share where they can be
+//! asked. The program under test is not asked.
+
+use crate::blocks::{channel, colour, h_first, h_orders, h_second};
+use crate::expected::{expected, lowest_base_raised};
+use crate::protocol::{ask, Answer, Case, Pair};
+use crate::random::Random;
+use crate::readers::*;
+use crate::rules::verdict;
+use crate::second::{from_mesa, wrapped_halves};
+use std::cmp::Ordering::{self, Equal, Greater, Less};
+use std::fmt::Write;
+use std::io::{Error, Result};
+
+/// What stands in every element that a row does not give.
+const OLD: u32 = 0x1111_1111;
+/// Sixteen indices of three bits: 0 to 7 twice, and as often in another order.
+const EVERY_INDEX: [u64; 2] = [0x0539_7705_3977, 0x6353_d4ab_8999];
+
+struct Row {
+    about: &'static str,
+    case: Case,
+}
+
+type Block = [u8; 8];
+
+fn row(about: &'static str, reader: u32, (width, height): (u32, u32), blocks: &[Block], image: Vec<u32>) -> Row {
+    Row { about, case: Case { reader, channel: 0, width, height, data: blocks.concat(), image } }
+}
+
+// A picture, and one element behind it.
+fn picture(about: &'static str, reader: u32, size: (u32, u32), blocks: &[Block]) -> Row {
+    row(about, reader, size, blocks, vec![OLD; (size.0 * size.1) as usize + 1])
+}
+
+// Sixteen elements of any value, and one behind them.
+fn joined(about: &'static str, reader: u32, channel: u32, block: Block, random: &mut Random) -> Row {
+    let image = (0..17).map(|_| random.next() as u32).collect();
+    let mut row = row(about, reader, (4, 4), &[block], image);
+    row.case.channel = channel;
+    row
+}
+
+fn of_kinds(kinds: &[usize], random: &mut Random) -> Vec<Block> {
+    kinds.iter().map(|&kind| colour(kind, random)).collect()
+}
+
+// Each group has numbers of its own, so that a change in one leaves the others as they are.
+fn rows(seed: u64) -> Vec<Row> {
+    // Small rows stand first, so that most mistakes are seen by one of them.
+    let groups = [single, etc1, etc2, alphas, channels, places, strict];
+    let random = |group: usize| Random::new(seed << 8 | group as u64);
+    groups.into_iter().enumerate().flat_map(|(at, group)| group(&mut random(at))).collect()
+}
+
+fn etc1(random: &mut Random) -> Vec<Row> {
+    // Bases from which no step clamps in all three channels, and indices of which each half has all four.
+    let code = |n: u8| [0x21, 0x78, 0xde, 2 * n << 5 | (2 * n + 1) << 2 | n % 2, 0x3c, 0x3c, 0x55, 0xaa];
+    let codes: Vec<Block> = (0..4).map(code).collect();
+    vec![
+        picture("ETC1, individual: every code", ETC1, (16, 4), &codes),
+        picture(
+            "ETC1, differential: sums in range, and out of it",
+            ETC1,
+            (16, 8),
+            &of_kinds(&[1, 2, 3, 4, 1, 2, 3, 4], random),
+        ),
+    ]
+}
+
+fn cleared(blocks: Vec<Block>) -> Vec<Block> {
+    blocks.into_iter().map(|b| [b[0], b[1], b[2], b[3] & !2, b[4], b[5], b[6], b[7]]).collect()
+}
+
+fn etc2(random: &mut Random) -> Vec<Row> {
+    let t: Vec<Block> = (0..8).map(|number| t_block(number, random)).collect();
+    let h: Vec<Block> = (0..16).map(|number| h_block(number, random)).collect();
+    let mut planar = of_kinds(&[4, 4, 4], random);
+    planar.push(planar_at_the_turn(random));
+    let kinds = of_kinds(&[1, 2, 3, 4, 1, 2, 3, 4], random);
+    vec![
+        picture("ETC2 RGB, individual, whatever the sums are", RGB, (8, 8), &cleared(of_kinds(&[1, 2, 3, 4], random))),
+        picture("ETC2 RGB, differential", RGB, (8, 4), &of_kinds(&[1, 1], random)),
+        picture("ETC2 RGB, T: every distance", RGB, (16, 8), &t),
+        picture(
+            "ETC2 RGB, H: every distance, the order of the bases decided by each channel both ways, and a tie",
+            RGB,
+            (16, 16),
+            &h,
+        ),
+        picture("ETC2 RGB, planar", RGB, (8, 8), &planar),
+        picture("ETC2 RGBA1, opaque bit clear: differential, T, H, planar", RGBA1, (16, 8), &cleared(kinds)),
+        picture("ETC2 RGBA1, opaque bit set", RGBA1, (8, 8), &of_kinds(&[1, 2, 3, 4], random)),
+    ]
+}
+
+fn t_block(number: u8, random: &mut Random) -> Block {
+    let mut block = colour(2, random);
+    block[3] = block[3] & !0x0d | number / 2 * 4 | number % 2;
+    block
+}
+
+// How red, green and blue of the first base of an H block stand to the second's. The last bit of a distance number says
+// whether the first base is not less, so these see every number, and each channel decide with the later ones and against.
+const H_ORDERS: [[Ordering; 3]; 16] = [
+    [Less, Greater, Greater],
+    [Greater, Less, Less],
+    [Equal, Less, Greater],
+    [Equal, Greater, Less],
+    [Equal, Equal, Less],
+    [Equal, Equal, Greater],
+    [Less, Less, Less],
+    [Equal, Equal, Equal],
+    [Equal, Less, Less],
+    [Equal, Greater, Greater],
+    [Less, Equal, Greater],
+    [Greater, Equal, Less],
+    [Less, Equal, Less],
+    [Greater, Equal, Greater],
+    [Less, Less, Equal],
+    [Greater, Greater, Equal],
+];
+
+fn h_block(number: u8, random: &mut Random) -> Block {
+    loop {
+        let mut block = colour(3, random);
+        block[3] = block[3] & !5 | number / 4 % 2 * 4 | number / 2 % 2;
+        if h_orders(&block) == H_ORDERS[number as usize] && red_would_mislead(number, &block) {
+            return block;
+        }
+    }
+}
+
+// Where green decides, a red in place of either green would decide otherwise.
+fn red_would_mislead(number: u8, block: &Block) -> bool {
+    let (first, second) = (h_first(block), h_second(block));
+    match number {
+        2 => first[0] < first[1],
+        3 => first[0] >= first[1],
+        8 => first[0] > second[1],
+        9 => first[0] <= second[1],
+        _ => true,
+    }
+}
+
+// Greens of 64 and 63, between which the widening of seven bits to eight turns.
+fn planar_at_the_turn(random: &mut Random) -> Block {
+    loop {
+        let mut block = colour(4, random);
+        if block[0] % 2 == 1 && block[1] & 0x7e == 0 {
+            block[4] = 63 << 1 | block[4] % 2;
+            return block;
+        }
+    }
+}
+
+fn alphas(random: &mut Random) -> Vec<Row> {
+    let halves: Vec<Block> = [(0, 0), (2, 1), (1, 2), (7, 3)]
+        .into_iter()
+        .flat_map(|(alpha, kind)| [channel(alpha, random), colour(kind, random)])
+        .collect();
+    vec![picture("ETC2 RGBA8", RGBA8, (8, 8), &halves)]
+}
+
+fn channels(random: &mut Random) -> Vec<Row> {
+    let steps: Vec<Block> = (0..16)
+        .map(|table| {
+            let index = EVERY_INDEX[table as usize % 2].to_be_bytes();
+            [0x80, 0x10 + table, index[2], index[3], index[4], index[5], index[6], index[7]]
+        })
+        .collect();
+    let mut kinds = |count: usize| -> Vec<Block> { (0..count).map(|kind| channel(kind, random)).collect() };
+    vec![
+        picture("EAC R: every alpha step", EACR, (16, 16), &steps),
+        picture("EAC R: no multiplier, clamped low and high, the turning points", EACR, (16, 8), &kinds(8)),
+        picture("EAC R signed", EACR_SIGNED, (16, 8), &kinds(8)),
+        picture("EAC RG", EACRG, (8, 8), &kinds(8)),
+        picture("EAC RG signed", EACRG_SIGNED, (8, 8), &kinds(8)),
+    ]
+}
+
+// Clipped at both sides, with a block that is not read and elements that are not touched.
+fn places(random: &mut Random) -> Vec<Row> {
+    let five = of_kinds(&[0, 1, 2, 3, 4, 0, 1], random);
+    vec![
+        row("clipped, with bytes and elements to spare", RGB, (9, 6), &five, vec![OLD; 57]),
+        row("blocks of sixteen bytes, clipped", EACRG, (3, 5), &of_kinds(&[0, 1, 2, 3, 4], random)[..4], vec![OLD; 17]),
+    ]
+}
+
+// One block, and just as many elements as it takes.
+fn lone(reader: u32, blocks: &[Block]) -> Row {
+    row("one block", reader, (4, 4), blocks, vec![OLD; 16])
+}
+
+fn single(random: &mut Random) -> Vec<Row> {
+    let mut list = Vec::new();
+    for (reader, kinds) in [(BLOCK_ETC1, [2, 1]), (BLOCK_RGB, [3, 0]), (BLOCK_RGBA1, [1, 2]), (BLOCK_RGBA8, [4, 2])] {
+        list.push(lone(reader, &of_kinds(&kinds, random)));
+    }
+    for reader in [BLOCK_EACR, BLOCK_EACR_SIGNED, BLOCK_EACRG, BLOCK_EACRG_SIGNED] {
+        list.push(lone(reader, &[channel(7, random), channel(7, random)]));
+    }
+    for kind in [0, 1, 2, 7] {
+        list.push(joined("the alpha half alone", BLOCK_A8, 0, channel(kind, random), random));
+    }
+    for number in 0..4 {
+        list.push(joined("one channel", BLOCK_EAC, number, channel(7, random), random));
+        list.push(joined("one channel, signed", BLOCK_EAC_SIGNED, number, channel(7, random), random));
+    }
+    list
+}
+
+fn strict(random: &mut Random) -> Vec<Row> {
+    vec![
+        picture("strict: in range", STRICT, (8, 8), &of_kinds(&[0, 1, 0, 1], random)),
+        picture("strict: the first of two", STRICT, (12, 4), &of_kinds(&[1, 3, 2], random)),
+        picture("strict: the last of the picture", STRICT, (9, 4), &of_kinds(&[0, 1, 4, 2], random)),
+        picture("strict: out of range behind the picture", STRICT, (8, 4), &of_kinds(&[1, 0, 2], random)),
+    ]
+}
+
+pub fn write(options: &crate::Options) -> Result<bool> {
+    let rows = rows(options.seed);
+    let pairs: Vec<Pair> =
+        rows.iter().map(|row| (row.case.clone(), expected(&row.case, &options.listed).answer)).collect();
+    shared(options, &pairs)?;
+    let mut text = options.about.clone() + "\n";
+    for (number, (row, (case, due))) in rows.iter().zip(&pairs).enumerate() {
+        let sign = if number == 0 { "" } else { "∷ " };
+        let _ = writeln!(text, "    -- {}\n    {sign}{}", row.about, line(case, due));
+    }
+    text += "    ∷ []\n";
+    std::fs::write(format!("{}/Recorded.antt", options.folder), text)?;
+    println!("{} rows, {} pixels", rows.len(), pairs.iter().map(|(case, _)| case.image.len()).sum::<usize>());
+    Ok(true)
+}
+
+// Mesa and Android's libETC1 have to show the same in every picture.
+fn shared(options: &crate::Options, pairs: &[Pair]) -> Result<()> {
+    for (program, label) in [(&options.mesa, "Mesa"), (&options.android, "Android")] {
+        let readers = if label == "Mesa" { ETC1..=EACRG_SIGNED } else { ETC1..=ETC1 };
+        let cases: Vec<Case> = pairs
+            .iter()
+            .filter(|(case, due)| readers.contains(&case.reader) && due.number == 0)
+            .map(|(case, _)| exact(case))
+            .collect();
+        for (case, seen) in ask(program, cases)? {
+            let due = expected(&case, &options.listed).answer;
+            let left = if label == "Mesa" { wrapped_halves(&case) } else { Vec::new() };
+            let mut seen = if label == "Mesa" { from_mesa(&case, seen, case.reader) } else { seen };
+            left.iter().for_each(|&k| seen.image[k] = due.image[k]);
+            if seen != due {
+                return Err(Error::other(format!(
+                    "{label} has another answer than the crate to a row of {}",
+                    name(case.reader)
+                )));
+            }
+        }
+    }
+    Ok(())
+}
+
+// Lengths as a decoder without refusals wants them, and signed bases as Mesa reads them.
+fn exact(case: &Case) -> Case {
+    let mut case = lowest_base_raised(case);
+    case.image.truncate((case.width * case.height) as usize);
+    case.data.truncate(crate::rules::blocks(&case) * block_size(case.reader));
+    case
+}
+
+fn line(case: &Case, due: &Answer) -> String {
+    let (reader, blocks) = (antt_reader(case), blocks(&case.data));
+    let (width, height) = (case.width, case.height);
+    if due.number != 0 {
+        let (number, block) = verdict(case);
+        let elements = case.image.len();
+        return format!("refuses ({reader}) {width} {height}\n    {blocks}\n    {elements} ({number} ∷ {block} ∷ [])");
+    }
+    if case.image.iter().all(|&element| element == OLD) {
+        let painted = (width * height) as usize;
+        let spare = due.image.len() - painted;
+        let across = if width == 16 { 8 } else { width as usize };
+        let pixels = pixels(across, &due.image[..painted]);
+        return format!("shows ({reader}) {width} {height}\n    {blocks}\n    {pixels}\n    {spare}");
+    }
+    format!("joins ({reader})\n    {blocks}\n    {}\n    {}", pixels(17, &case.image), pixels(17, &due.image))
+}
+
+fn blocks(data: &[u8]) -> String {
+    let word = |b: &[u8]| u32::from_be_bytes([b[0], b[1], b[2], b[3]]);
+    list(data.chunks(8).map(|b| number(&[word(b), word(&b[4..])])), 5)
+}
+
+// So many pixels are one number.
+fn pixels(across: usize, image: &[u32]) -> String {
+    format!("(lines {across}\n    {})", list(image.chunks(across).map(number), 1))
+}
+
+fn number(words: &[u32]) -> String {
+    let words: Vec<String> = words.iter().map(|word| format!("{word:08X}")).collect();
+    format!("0x{}", words.join("_"))
+}
+
+fn list(items: impl Iterator<Item = String>, across: usize) -> String {
+    let items: Vec<String> = items.collect();
+    let lines: Vec<String> = items.chunks(across).map(|chunk| chunk.join(" ∷ ")).collect();
+    format!("({} ∷ [])", lines.join("\n    ∷ "))
+}
+
+fn antt_reader(case: &Case) -> String {
+    let format = ["Etc1", "Etc2Rgb", "Etc2Rgba1", "Etc2Rgba8", "EacR", "EacRSigned", "EacRg", "EacRgSigned"];
+    match case.reader {
+        STRICT => "strict".to_string(),
+        BLOCK_A8 => "alphaHalf".to_string(),
+        BLOCK_EAC => format!("channel false {}", case.channel),
+        BLOCK_EAC_SIGNED => format!("channel true {}", case.channel),
+        reader if !is_block(reader) => format!("picture {}", format[reader as usize]),
+        reader => {
+            let place = [
+                BLOCK_ETC1,
+                BLOCK_RGB,
+                BLOCK_RGBA1,
+                BLOCK_RGBA8,
+                BLOCK_EACR,
+                BLOCK_EACR_SIGNED,
+                BLOCK_EACRG,
+                BLOCK_EACRG_SIGNED,
+            ];
+            let at = place.iter().position(|&other| other == reader).unwrap_or(0);
+            format!("block {}", format[at])
+        }
+    }
+}
