@@ -1,7 +1,7 @@
 // The censuses, with their counts as the first elements of the lent image.
 use rules::Answer;
-use rules::Rgba1Census;
 use rules::RgbCensus;
+use rules::Rgba1Census;
 
 pub fn rgb(data: &[u8], width: usize, height: usize, image: &mut [u32]) -> Answer {
     match etc::census_etc2_rgb(data, width, height) {

@@ -3,8 +3,8 @@
 // nothing can check. include/yalivucu.h tells a C programmer the same in words.
 use rules::Answer;
 use rules::Format;
-use rules::Rgba1Census;
 use rules::RgbCensus;
+use rules::Rgba1Census;
 ghost use mathlib.Core.Path.{_≡_};
 ghost use mathlib.Core.Bool.{true, false};
 ghost use Rattle.rules.specs.Places.{sized};

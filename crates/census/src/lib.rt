@@ -2,10 +2,10 @@
 use rules::Kind;
 use rules::KindCounts;
 use rules::Picture;
-use rules::Rgba1Census;
-use rules::Rgba1Counts;
 use rules::RgbCensus;
 use rules::RgbCounts;
+use rules::Rgba1Census;
+use rules::Rgba1Counts;
 ghost use mathlib.Core.Bool.{true};
 ghost use mathlib.Core.Path.{_≡_};
 ghost use Prim.Native.Nat.{_*_, _<_, _≤_};

@@ -6,8 +6,8 @@
 use rules::Answer;
 use rules::Format;
 use rules::Picture;
-use rules::Rgba1Census;
 use rules::RgbCensus;
+use rules::Rgba1Census;
 ghost use mathlib.Core.Path.{_≡_};
 ghost use mathlib.Core.Bool.{true, false};
 ghost use lib.ListN.{getD};
