@@ -126,18 +126,20 @@ fn h_block(number: u8, random: &mut Random) -> Block {
     loop {
         let mut block = colour(3, random);
         block[3] = block[3] & !5 | number / 4 % 2 * 4 | number / 2 % 2;
-        if h_orders(&block) == H_ORDERS[number as usize] && red_would_mislead(number, &block) {
+        if h_orders(&block) == H_ORDERS[number as usize] && earlier_would_mislead(number, &block) {
             return block;
         }
     }
 }
 
-// Where green decides, a red in place of either green would decide otherwise.
-fn red_would_mislead(number: u8, block: &Block) -> bool {
+// Where green decides, a red in place of either green would decide otherwise; where blue does, a green.
+fn earlier_would_mislead(number: u8, block: &Block) -> bool {
     let (first, second) = (h_first(block), h_second(block));
     match number {
         2 => first[0] < first[1],
         3 => first[0] >= first[1],
+        4 => second[2] <= first[1],
+        5 => first[2] < first[1],
         8 => first[0] > second[1],
         9 => first[0] <= second[1],
         _ => true,
