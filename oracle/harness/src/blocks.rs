@@ -106,12 +106,12 @@ pub fn colour(kind: usize, random: &mut Random) -> [u8; 8] {
     block
 }
 
-/// The first base colour of an H block, and its second.
-pub fn h_first(b: &[u8; 8]) -> [u8; 3] {
+// The first base colour of an H block, and its second.
+fn h_first(b: &[u8; 8]) -> [u8; 3] {
     [b[0] >> 3 & 15, (b[0] & 7) << 1 | b[1] >> 4 & 1, b[1] & 8 | (b[1] & 3) << 1 | b[2] >> 7]
 }
 
-pub fn h_second(b: &[u8; 8]) -> [u8; 3] {
+fn h_second(b: &[u8; 8]) -> [u8; 3] {
     [b[2] >> 3 & 15, (b[2] & 7) << 1 | b[3] >> 7, b[3] >> 3 & 15]
 }
 
