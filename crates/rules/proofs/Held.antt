@@ -1,7 +1,7 @@
 -- The test of all specimens, which antt computes over the very definitions that the readers promise; and that these are what
 -- they promise. Document 01's rows are in Specimens.antt, those of other decoders in Recorded.antt.
 -- Assumes nothing.
-use mathlib.Core.Bool.{Bool, true, false, cond, _&&_}
+use mathlib.Core.Bool.{Bool, true, false, cond, not, _&&_}
 use mathlib.Core.List.{List, [], _∷_, _++_}
 use mathlib.Core.Path.{_≡_}
 use Prim.Native.Nat.{ℕ, zero, suc, _+_, _*_, _/_, _%_}
@@ -12,7 +12,7 @@ use Rattle.rules.specs.Notation.{minus, modulo}
 use Rattle.rules.specs.Places.{sized, element, bytesOf, inTile, tile, painted}
 use Rattle.rules.specs.Answers.{said, left, firstOf}
 use Rattle.rules.specs.Colour.{differential, wrapped, kindBySums, outOfRange}
-use Rattle.rules.specs.Modes.{tBases, tDistance, hBases, hDistance, planarBases, planarChannel, indexed, rgbPixel, rgba1Pixel, etc1Pixel}
+use Rattle.rules.specs.Modes.{tBases, tDistance, hBases, notLess, hDistance, planarBases, planarChannel, indexed, rgbPixel, rgba1Pixel, etc1Pixel}
 use Rattle.rules.specs.Channels.{alphaStep, alphaByte, rgba8Pixel, eacValue, eacByte, redPixel, redGreenPixel}
 use Rattle.rules.specs.Formats.{sizeOf, showsOf}
 use Rattle.rules.specs.Readers.{pictureOf, pictureVerdict, ReadsPicture, strictVerdict, ReadsStrict, blockVerdict, blockPainted, ReadsBlock, alphaPainted, ReadsAlpha, channelVerdict, channelPainted, ReadsChannel}
@@ -115,6 +115,19 @@ words =
     same (modulo (minus 1) 5 ∷ modulo (minus 5) 5 ∷ modulo (minus 6) 5 ∷ modulo (pos 7) 5 ∷ []) (4 ∷ 0 ∷ 4 ∷ 2 ∷ [])
     && same (eacValue false (eight 0xFFF0FFFFFFFFFFFF) 0 0 ∷ eacValue false (eight 0x00F0000000000000) 0 0 ∷ []) (2047 ∷ 0 ∷ [])
 
-hold : T (numbers && words && places && every (bench ++ recorded ++ table))
-unfolding numbers words places every bench table recorded verdictOf paints leaves holds marked painted firstOf differential wrapped kindBySums outOfRange tBases tDistance hBases hDistance planarBases planarChannel indexed rgbPixel rgba1Pixel etc1Pixel alphaStep alphaByte rgba8Pixel eacValue eacByte redPixel redGreenPixel sizeOf showsOf
+-- "compared red, then green, then blue; equal counts"
+orders : Bool
+orders =
+    notLess (5 ∷ 1 ∷ 1 ∷ []) (4 ∷ 9 ∷ 9 ∷ [])
+    && not (notLess (4 ∷ 9 ∷ 9 ∷ []) (5 ∷ 1 ∷ 1 ∷ []))
+    && notLess (5 ∷ 3 ∷ 1 ∷ []) (5 ∷ 2 ∷ 9 ∷ [])
+    && not (notLess (5 ∷ 2 ∷ 9 ∷ []) (5 ∷ 3 ∷ 1 ∷ []))
+    && notLess (5 ∷ 3 ∷ 2 ∷ []) (5 ∷ 3 ∷ 1 ∷ [])
+    && not (notLess (5 ∷ 3 ∷ 1 ∷ []) (5 ∷ 3 ∷ 2 ∷ []))
+    && notLess (5 ∷ 3 ∷ 1 ∷ []) (5 ∷ 3 ∷ 1 ∷ [])
+    && notLess (5 ∷ 3 ∷ 9 ∷ []) (5 ∷ 2 ∷ 1 ∷ [])
+    && notLess (5 ∷ 3 ∷ 9 ∷ []) (4 ∷ 2 ∷ 1 ∷ [])
+
+hold : T (numbers && words && orders && places && every (bench ++ recorded ++ table))
+unfolding numbers words orders places every bench table recorded verdictOf paints leaves holds marked painted firstOf differential wrapped kindBySums outOfRange tBases tDistance hBases hDistance planarBases planarChannel indexed rgbPixel rgba1Pixel etc1Pixel alphaStep alphaByte rgba8Pixel eacValue eacByte redPixel redGreenPixel sizeOf showsOf
 hold = tt
