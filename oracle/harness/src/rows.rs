@@ -262,10 +262,11 @@ fn line(case: &Case, due: &Answer) -> String {
         let painted = (width * height) as usize;
         let spare = due.image.len() - painted;
         let across = if width == 16 { 8 } else { width as usize };
-        let pixels = pixels(across, &due.image[..painted]);
-        return format!("shows ({reader}) {width} {height}\n    {blocks}\n    {pixels}\n    {spare}");
+        let pixels = lines(across, &due.image[..painted]);
+        return format!("packed ({reader}) {width} {height}\n    {blocks}\n    {across}\n    {pixels}\n    {spare}");
     }
-    format!("joins ({reader})\n    {blocks}\n    {}\n    {}", pixels(17, &case.image), pixels(17, &due.image))
+    let (old, new) = (lines(17, &case.image), lines(17, &due.image));
+    format!("joins ({reader}) {width} {height}\n    {blocks}\n    17\n    {old}\n    {new}")
 }
 
 fn blocks(data: &[u8]) -> String {
@@ -273,9 +274,9 @@ fn blocks(data: &[u8]) -> String {
     list(data.chunks(8).map(|b| number(&[word(b), word(&b[4..])])), 5)
 }
 
-// So many pixels are one number.
-fn pixels(across: usize, image: &[u32]) -> String {
-    format!("(lines {across}\n    {})", list(image.chunks(across).map(number), 1))
+// So many elements are one number.
+fn lines(across: usize, image: &[u32]) -> String {
+    list(image.chunks(across).map(number), 1)
 }
 
 fn number(words: &[u32]) -> String {
