@@ -10,7 +10,7 @@ use lib.Dec.{T}
 use lib.ListN.{drop}
 use Rattle.rules.specs.Places.{sized}
 use Rattle.rules.specs.Census.{Test, countOf, rgbTests, rgba1Tests, census}
-use Rattle.rules.proofs.Rows.{same, eights}
+use Rattle.rules.proofs.Rows.{same, bytes as eights}
 
 record Row : Type 0 where
   tests : List Test
