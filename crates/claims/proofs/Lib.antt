@@ -5,6 +5,7 @@ pub mod Pictures
 pub mod Guarded
 pub mod Strict
 pub mod Blocks
+pub mod Census
 pub mod Sheets
 pub mod Encoded
 pub mod Back

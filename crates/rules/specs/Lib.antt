@@ -15,6 +15,8 @@ pub mod Channels
 pub mod Formats
 pub mod Guards
 pub mod Readers
+-- document 02: which kinds of blocks a picture has
+pub mod Census
 -- sheets, of document 02
 pub mod Records
 pub mod Sheets
