@@ -5,6 +5,7 @@ use libc::STDOUT_FILENO;
 use rules::Sheet;
 ghost use mathlib.Core.Path.{_≡_};
 ghost use Prim.Native.Nat.{_+_, _%_, _≤_};
+ghost use lib.ListN.{length};
 
 // A proved loop has to end, and nothing says that the input does: it counts down from a number that no run uses up.
 fn main() {
@@ -27,13 +28,22 @@ fn answer_one(case: &mut [u8; 512]) -> bool {
     } else {
         write_case(case, &mut said);
     }
-    io::write_all(STDOUT_FILENO, &said)
+    give(&said)
+}
+
+fn give(said: &[u8; 512]) -> bool {
+    io::write_all(STDOUT_FILENO, said)
 }
 
 fn at_most(most: usize, n: usize) -> usize
     ensures { λ r. ⌜ r ≤ most ⌝ }
 {
     if most < n { most } else { n }
+}
+
+// An element as a wider number.
+fn wide(x: u32) -> usize {
+    x as usize
 }
 
 fn low(x: usize) -> u8
@@ -53,7 +63,9 @@ fn put_word(said: &mut [u8; 512], at: usize, x: usize)
 }
 
 // What the head's reader and the reader answer of a sheet of n bytes, over an image of m elements.
-fn read_case(case: &[u8; 512], said: &mut [u8; 512]) {
+fn read_case(case: &[u8], said: &mut [u8; 512])
+    requires { ⌜ 512 ≤ length (now case) ⌝ }
+{
     let end = 24 + at_most(488, records::little4(case, 16));
     let m = at_most(122, records::little4(case, 20));
     let mut image = [0x11111111u32; 122];
@@ -81,13 +93,15 @@ fn show(image: &[u32; 122], m: usize, said: &mut [u8; 512])
 {
     let mut i = 0;
     while i < m {
-        put_word(said, 24 + i * 4, image[i] as usize);
+        put_word(said, 24 + i * 4, wide(image[i]));
         i += 1;
     }
 }
 
 // What the writer answers for n bytes of blocks and m bytes of room, and the room afterwards.
-fn write_case(case: &[u8; 512], said: &mut [u8; 512]) {
+fn write_case(case: &[u8], said: &mut [u8; 512])
+    requires { ⌜ 512 ≤ length (now case) ⌝ }
+{
     let end = 24 + at_most(488, records::little4(case, 16));
     let m = at_most(488, records::little4(case, 20));
     let mut out = [0xEEu8; 488];
