@@ -12,9 +12,9 @@ folded f s [] = s
 folded f s (b ∷ l) = folded f (f s b) l
 
 -- The polynomial x^32 + x^26 + x^23 + x^22 + x^16 + x^12 + x^11 + x^10 + x^8 + x^7 + x^5 + x^4 + x^2 + x + 1, without its
--- first term and with its lowest term in the highest bit: EDB88320 in hex.
+-- first term and with its lowest term in the highest bit.
 abbrev pub polynomial : ℕ
-polynomial = 3988292384
+polynomial = 0xEDB88320
 
 -- one step of the division: a bit leaves, and where it was 1 the polynomial is taken away
 abbrev pub crcStep : ℕ → ℕ
@@ -32,17 +32,17 @@ crcByte c b = crcSteps 8 (bitXor c b)
 abbrev pub crcMore : ℕ → List ℕ → ℕ
 crcMore c l = folded crcByte c l
 
--- all bits set (FFFFFFFF in hex) go in before the first byte, and the bits are turned about after the last
+-- all bits set go in before the first byte, and the bits are turned about after the last
 abbrev pub crc : List ℕ → ℕ
-crc l = bitXor (crcMore 4294967295 l) 4294967295
+crc l = bitXor (crcMore 0xFFFFFFFF l) 0xFFFFFFFF
 
 -- Two sums modulo 65521, kept in one number: the first, of the bytes, in its low sixteen bits, and the second, of the
 -- first sums, in its high sixteen. An empty stream has 1.
 abbrev pub adlerFirst : ℕ → ℕ → ℕ
-adlerFirst s b = (s % 65536 + b) % 65521
+adlerFirst s b = (s % 0x10000 + b) % 65521
 
 abbrev pub adlerByte : ℕ → ℕ → ℕ
-adlerByte s b = (s / 65536 + adlerFirst s b) % 65521 * 65536 + adlerFirst s b
+adlerByte s b = (s / 0x10000 + adlerFirst s b) % 65521 * 0x10000 + adlerFirst s b
 
 abbrev pub adlerMore : ℕ → List ℕ → ℕ
 adlerMore s l = folded adlerByte s l

@@ -1,8 +1,7 @@
 // The two checksums of a PNG: CRC-32 over its chunks, and Adler-32 over what its zlib stream holds.
 ghost use mathlib.Core.Path.{_≡_};
 ghost use Prim.Native.Nat.{_<_};
-ghost use lib.ListN.{length};
-ghost use Rattle.checksum.specs.Sums.{crcByte, crcMore, crc as crcSum, adlerByte, adlerMore, folded};
+ghost use Rattle.checksum.specs.Sums.{crcByte, crcMore, crc as crcSum, adlerByte, adlerMore};
 
 // What eight steps make of each byte: a step divides by the polynomial, and this does a byte of steps at once.
 const REMAINDERS: [u32; 256] = [
@@ -297,16 +296,16 @@ pub fn crc_more(sum: u32, bytes: &[u8]) -> u32
 pub fn crc(bytes: &[u8]) -> u32
     ensures { λ r. ⌜ r ≡ crcSum (now (bytes .entry)) ⌝ }
 {
-    crc_more(4294967295, bytes) ^ 4294967295
+    crc_more(0xFFFFFFFF, bytes) ^ 0xFFFFFFFF
 }
 
 // The two sums after one byte more.
 fn adler_byte(sum: u32, b: u8) -> u32
     ensures { λ r. ⌜ r ≡ adlerByte sum b ⌝ }
 {
-    let first = (sum % 65536 + wide(b)) % 65521;
-    let second = (sum / 65536 + first) % 65521;
-    second * 65536 + first
+    let first = (sum % 0x10000 + wide(b)) % 65521;
+    let second = (sum / 0x10000 + first) % 65521;
+    second * 0x10000 + first
 }
 
 // The two sums after some bytes more.

@@ -1,6 +1,6 @@
 -- What the first bytes of a PKM or a KTX 1 file say: an answer for every list of bytes.
 -- Assumes nothing.
-use mathlib.Core.Bool.{Bool, true, false, cond, not, _&&_, _||_}
+use mathlib.Core.Bool.{Bool, true, false, cond, not, _&&_}
 use mathlib.Core.List.{List, [], _∷_}
 use Prim.Native.Nat.{ℕ, _+_, _*_, _/_}
 use lib.Dec.{eqb, ltb}
@@ -10,12 +10,12 @@ use Rattle.rules.specs.Answers.{tooLarge}
 use Rattle.rules.specs.Formats.{sizeOf}
 use Rattle.rules.specs.declared.Format.{Format}
 use Rattle.rules.specs.declared.Format.the-variants.{Etc1, Etc2Rgb, Etc2Rgba1, Etc2Rgba8, EacR, EacRSigned, EacRg, EacRgSigned}
-use Rattle.header.specs.Words.{big16, big32, word32}
+use Rattle.numbers.specs.Numbers.{little, big}
 use Rattle.header.specs.declared.Known.{Known}
 use Rattle.header.specs.declared.Known.the-variants.{As, Not}
-use Rattle.header.specs.declared.Texture.{Texture}
 use Rattle.header.specs.declared.Header.{Header}
-use Rattle.header.specs.declared.Header.the-variants.{Holds, TooLarge, ShortData, Cut, NoTexture, NoVersion, NoFormat, SizesDisagree, NotFlat, NoPixels}
+use Rattle.header.specs.declared.Header.the-variants.{Holds, TooLarge, ShortData, Cut, NoTexture}
+use Rattle.header.specs.declared.Header.the-variants.{NoVersion, NoFormat, SizesDisagree, NotFlat, NoPixels}
 
 -- the number of each answer: document 01's where it has one, and from 20 on for files
 abbrev pub numberOf : Header → ℕ
@@ -64,21 +64,21 @@ newRows =
     ∷ row 11 Etc2Rgba1
     ∷ []
 
--- KTX: OpenGL's numbers. 8D64 in hex is ETC1; 9270 to 9273 are R and RG, unsigned and signed; 9274 to 9279 are RGB, RGBA1
--- and RGBA8, each with its sRGB form, whose blocks are read alike.
+-- KTX: OpenGL's numbers, in its order: R and RG are unsigned and signed; RGB, RGBA1 and RGBA8 have each an sRGB form, whose
+-- blocks are read alike.
 abbrev pub glRows : List Row
 glRows =
-    row 36196 Etc1
-    ∷ row 37488 EacR
-    ∷ row 37489 EacRSigned
-    ∷ row 37490 EacRg
-    ∷ row 37491 EacRgSigned
-    ∷ row 37492 Etc2Rgb
-    ∷ row 37493 Etc2Rgb
-    ∷ row 37494 Etc2Rgba1
-    ∷ row 37495 Etc2Rgba1
-    ∷ row 37496 Etc2Rgba8
-    ∷ row 37497 Etc2Rgba8
+    row 0x8D64 Etc1
+    ∷ row 0x9270 EacR
+    ∷ row 0x9271 EacRSigned
+    ∷ row 0x9272 EacRg
+    ∷ row 0x9273 EacRgSigned
+    ∷ row 0x9274 Etc2Rgb
+    ∷ row 0x9275 Etc2Rgb
+    ∷ row 0x9276 Etc2Rgba1
+    ∷ row 0x9277 Etc2Rgba1
+    ∷ row 0x9278 Etc2Rgba8
+    ∷ row 0x9279 Etc2Rgba8
     ∷ []
 
 unfoldable pub oldPkm : ℕ → Known
@@ -116,23 +116,28 @@ padded n = (n + 3) / 4 * 4
 unfoldable pub pkmAs : Known → List ℕ → ℕ → Header
 pkmAs Not d len = NoFormat
 pkmAs (As f) d len =
-    cond (not (eqb (big16 d 8) (padded (big16 d 12)))) SizesDisagree
-    (cond (not (eqb (big16 d 10) (padded (big16 d 14)))) SizesDisagree
-    (laidOut f (big16 d 12) (big16 d 14) 16 len))
+    cond (not (eqb (big 2 8 d) (padded (big 2 12 d)))) SizesDisagree
+    (cond (not (eqb (big 2 10 d) (padded (big 2 14 d)))) SizesDisagree
+    (laidOut f (big 2 12 d) (big 2 14 d) 16 len))
 
 -- PKM: "10" or "20" at byte 4, and the format's number at byte 6
 unfoldable pub pkmOf : List ℕ → ℕ → Header
 pkmOf d len =
-    cond (eqb (big16 d 4) 12592) (pkmAs (oldPkm (big16 d 6)) d len)
-    (cond (eqb (big16 d 4) 12848) (pkmAs (newPkm (big16 d 6)) d len)
+    cond (eqb (big 2 4 d) 0x3130) (pkmAs (oldPkm (big 2 6 d)) d len)
+    (cond (eqb (big 2 4 d) 0x3230) (pkmAs (newPkm (big 2 6 d)) d len)
     NoVersion)
+
+-- the four bytes at a place, in a file's own order: the greatest first, or the least
+unfoldable pub word32 : Bool → List ℕ → ℕ → ℕ
+word32 true d at = big 4 at d
+word32 false d at = little 4 at d
 
 -- KTX: 04030201 in hex at byte 12, as the file's own order has it
 abbrev pub greatestFirst : List ℕ → Bool
-greatestFirst d = eqb (big32 d 12) 67305985
+greatestFirst d = eqb (big 4 12 d) 0x04030201
 
 abbrev pub leastFirst : List ℕ → Bool
-leastFirst d = eqb (big32 d 12) 16909060
+leastFirst d = eqb (big 4 12 d) 0x01020304
 
 -- the size of level 0 stands behind the header's 64 bytes and the key and value data, whose length is at byte 60
 unfoldable pub levelAt : List ℕ → ℕ
@@ -184,11 +189,11 @@ ktxOf d level len =
 
 -- "PKM "
 abbrev pub isPkm : List ℕ → Bool
-isPkm d = eqb (big32 d 0) 1347112224
+isPkm d = eqb (big 4 0 d) 0x504B4D20
 
 -- the twelve bytes AB 4B 54 58 20 31 31 BB 0D 0A 1A 0A, in hex
 abbrev pub isKtx : List ℕ → Bool
-isKtx d = eqb (big32 d 0) 2873840728 && (eqb (big32 d 4) 540094907 && eqb (big32 d 8) 218765834)
+isKtx d = eqb (big 4 0 d) 0xAB4B5458 && (eqb (big 4 4 d) 0x203131BB && eqb (big 4 8 d) 0x0D0A1A0A)
 
 -- What the first bytes of a file say, with the four bytes at `levelAt` and the file's length.
 unfoldable pub headerOf : List ℕ → List ℕ → ℕ → Header

@@ -4,8 +4,8 @@ use rules::Picture;
 ghost use mathlib.Core.Path.{_≡_};
 ghost use Prim.Native.Nat.{_+_, _<_, _≤_};
 ghost use lib.ListN.{length};
-ghost use Rattle.header.specs.Words.{big16, big32, little32, word32, pairOf};
-ghost use Rattle.header.specs.Files.{oldPkm, newPkm, glFormat, bytesFor, laidOut, pkmAs, pkmOf, levelAt, sizeTold, isFlat, ktxAs, ktxIn, ktxOf, isKtx, headerOf};
+ghost use Rattle.header.specs.Files.{word32, oldPkm, newPkm, glFormat, laidOut, pkmAs, pkmOf, levelAt};
+ghost use Rattle.header.specs.Files.{sizeTold, isFlat, ktxAs, ktxIn, ktxOf, isKtx, headerOf};
 
 // What a number stands for, in a list of formats.
 pub enum Known {
@@ -45,50 +45,16 @@ pub enum Header {
     NoPixels,
 }
 
-// A byte as a wider number.
-fn wide(b: u8) -> usize
-    ensures { λ r. ⌜ (r ≡ b) × (r < 256) ⌝ }
-{
-    b as usize
-}
-
-// Two bytes as a number, the greater first.
-fn pair(high: u8, low: u8) -> usize
-    ensures { λ r. ⌜ (r ≡ pairOf high low) × (r < 65536) ⌝ }
-{
-    wide(high) * 256 + wide(low)
-}
-
-// The two bytes at a place, the greater first.
-fn half(d: &[u8], at: usize) -> usize
-    requires { ⌜ at + 2 ≤ length (now d) ⌝ }
-    ensures { λ r. ⌜ (r ≡ big16 (now (d .entry)) at) × (r < 65536) ⌝ }
-{
-    pair(d[at], d[at + 1])
-}
-
-// The four bytes at a place, the greatest first.
-fn big(d: &[u8], at: usize) -> usize
-    requires { ⌜ at + 4 ≤ length (now d) ⌝ }
-    ensures { λ r. ⌜ (r ≡ big32 (now (d .entry)) at) × (r < 4294967296) ⌝ }
-{
-    pair(d[at], d[at + 1]) * 65536 + pair(d[at + 2], d[at + 3])
-}
-
-// The four bytes at a place, the least first.
-fn little(d: &[u8], at: usize) -> usize
-    requires { ⌜ at + 4 ≤ length (now d) ⌝ }
-    ensures { λ r. ⌜ (r ≡ little32 (now (d .entry)) at) × (r < 4294967296) ⌝ }
-{
-    pair(d[at + 3], d[at + 2]) * 65536 + pair(d[at + 1], d[at])
-}
-
 // The four bytes at a place, in a file's own order.
 fn word(order: bool, d: &[u8], at: usize) -> usize
     requires { ⌜ at + 4 ≤ length (now d) ⌝ }
-    ensures { λ r. ⌜ (r ≡ word32 order (now (d .entry)) at) × (r < 4294967296) ⌝ }
+    ensures { λ r. ⌜ (r ≡ word32 order (now (d .entry)) at) × (r < 0x100000000) ⌝ }
 {
-    if order { big(d, at) } else { little(d, at) }
+    if order {
+        numbers::big4(d, at)
+    } else {
+        numbers::little4(d, at)
+    }
 }
 
 // The format of a number in a PKM file of version 1.0.
@@ -127,24 +93,24 @@ fn gl_format(number: usize) -> Known
     ensures { λ r. ⌜ r ≡ glFormat number ⌝ }
 {
     match number {
-        36196 => Known::As(Format::Etc1),
-        37488 => Known::As(Format::EacR),
-        37489 => Known::As(Format::EacRSigned),
-        37490 => Known::As(Format::EacRg),
-        37491 => Known::As(Format::EacRgSigned),
-        37492 => Known::As(Format::Etc2Rgb),
-        37493 => Known::As(Format::Etc2Rgb),
-        37494 => Known::As(Format::Etc2Rgba1),
-        37495 => Known::As(Format::Etc2Rgba1),
-        37496 => Known::As(Format::Etc2Rgba8),
-        37497 => Known::As(Format::Etc2Rgba8),
+        0x8D64 => Known::As(Format::Etc1),
+        0x9270 => Known::As(Format::EacR),
+        0x9271 => Known::As(Format::EacRSigned),
+        0x9272 => Known::As(Format::EacRg),
+        0x9273 => Known::As(Format::EacRgSigned),
+        0x9274 => Known::As(Format::Etc2Rgb),
+        0x9275 => Known::As(Format::Etc2Rgb),
+        0x9276 => Known::As(Format::Etc2Rgba1),
+        0x9277 => Known::As(Format::Etc2Rgba1),
+        0x9278 => Known::As(Format::Etc2Rgba8),
+        0x9279 => Known::As(Format::Etc2Rgba8),
         _ => Known::Not,
     }
 }
 
 // A picture whose blocks start at a byte of a file of so many bytes.
 fn laid_out(f: Format, width: usize, height: usize, start: usize, len: usize) -> Header
-    requires { ⌜ start < 8589934592 ⌝ }
+    requires { ⌜ start < 0x200000000 ⌝ }
     ensures { λ r. ⌜ r ≡ laidOut f width height start len ⌝ }
 {
     let pic = Picture {
@@ -184,12 +150,12 @@ fn pkm_as(known: Known, d: &[u8], len: usize) -> Header
     let Known::As(f) = known else {
         return Header::NoFormat;
     };
-    let width = half(d, 12);
-    let height = half(d, 14);
-    if half(d, 8) != (width + 3) / 4 * 4 {
+    let width = numbers::big2(d, 12);
+    let height = numbers::big2(d, 14);
+    if numbers::big2(d, 8) != (width + 3) / 4 * 4 {
         return Header::SizesDisagree;
     }
-    if half(d, 10) != (height + 3) / 4 * 4 {
+    if numbers::big2(d, 10) != (height + 3) / 4 * 4 {
         return Header::SizesDisagree;
     }
     laid_out(f, width, height, 16, len)
@@ -200,12 +166,12 @@ fn pkm(d: &[u8], len: usize) -> Header
     requires { ⌜ 16 ≤ length (now d) ⌝ }
     ensures { λ r. ⌜ r ≡ pkmOf (now (d .entry)) len ⌝ }
 {
-    let version = half(d, 4);
-    let number = half(d, 6);
-    if version == 12592 {
+    let version = numbers::big2(d, 4);
+    let number = numbers::big2(d, 6);
+    if version == 0x3130 {
         return pkm_as(old_pkm(number), d, len);
     }
-    if version == 12848 {
+    if version == 0x3230 {
         return pkm_as(new_pkm(number), d, len);
     }
     Header::NoVersion
@@ -213,12 +179,12 @@ fn pkm(d: &[u8], len: usize) -> Header
 
 // Where a KTX header has the size of level 0: this many bytes into the file, or 0 where the header is cut short.
 pub fn level_at(d: &[u8]) -> usize
-    ensures { λ r. ⌜ (r ≡ levelAt (now (d .entry))) × (r < 4294967360) ⌝ }
+    ensures { λ r. ⌜ (r ≡ levelAt (now (d .entry))) × (r < 0x100000040) ⌝ }
 {
     if d.len() < 64 {
         return 0;
     }
-    64 + word(big(d, 12) == 67305985, d, 60)
+    64 + word(numbers::big4(d, 12) == 0x04030201, d, 60)
 }
 
 // A picture that is laid out well, held to the size of level 0 that the file tells.
@@ -287,11 +253,11 @@ fn ktx(d: &[u8], level: &[u8], len: usize) -> Header
     requires { ⌜ 64 ≤ length (now d) ⌝ }
     ensures { λ r. ⌜ r ≡ ktxOf (now (d .entry)) (now (level .entry)) len ⌝ }
 {
-    let mark = big(d, 12);
-    if mark == 67305985 {
+    let mark = numbers::big4(d, 12);
+    if mark == 0x04030201 {
         return ktx_in(true, d, level, len);
     }
-    if mark == 16909060 {
+    if mark == 0x01020304 {
         return ktx_in(false, d, level, len);
     }
     Header::NoVersion
@@ -302,13 +268,13 @@ fn is_ktx(d: &[u8]) -> bool
     requires { ⌜ 12 ≤ length (now d) ⌝ }
     ensures { λ r. ⌜ r ≡ isKtx (now (d .entry)) ⌝ }
 {
-    if big(d, 0) != 2873840728 {
+    if numbers::big4(d, 0) != 0xAB4B5458 {
         return false;
     }
-    if big(d, 4) != 540094907 {
+    if numbers::big4(d, 4) != 0x203131BB {
         return false;
     }
-    big(d, 8) == 218765834
+    numbers::big4(d, 8) == 0x0D0A1A0A
 }
 
 // Reads a header: the first bytes of a file, up to 64 of them, the four bytes at `level_at`, and the file's length.
@@ -318,7 +284,7 @@ pub fn read_header(d: &[u8], level: &[u8], len: usize) -> Header
     if d.len() < 16 {
         return Header::Cut;
     }
-    if big(d, 0) == 1347112224 {
+    if numbers::big4(d, 0) == 0x504B4D20 {
         return pkm(d, len);
     }
     if !is_ktx(d) {

@@ -44,7 +44,9 @@ snd true t h = h
 snd false t h = absurd h
 
 -- what passed
-step : (then : List ℕ) (c : Check) (cs : List Check) (t : Bool) → c .fails ≡ t → T (numbered (c ∷ cs)) → (T (numbered cs) → accepts (judged cs then) ≡ true → Clear cs) → accepts (cond t (c .number ∷ []) (judged cs then)) ≡ true → Clear (c ∷ cs)
+step : (then : List ℕ) (c : Check) (cs : List Check) (t : Bool) → c .fails ≡ t → T (numbered (c ∷ cs))
+    → (T (numbered cs) → accepts (judged cs then) ≡ true → Clear cs)
+    → accepts (cond t (c .number ∷ []) (judged cs then)) ≡ true → Clear (c ∷ cs)
 step then c cs true h n k e = absurd (refuses (c .number) (ltb→lt 0 (c .number) (fst (ltb 0 (c .number)) (numbered cs) n)) e)
 step then c cs false h n k e = record { first = h; rest = k (snd (ltb 0 (c .number)) (numbered cs) n) e }
 

@@ -18,7 +18,9 @@ use Rattle.rows.proofs.Whole.{row-painted}
 
 module _ (f : Format) (bytes : List ℕ) (w h j : ℕ) (image : List ℕ) (answer : Answer) (new : List ℕ) where
   -- what is accepted is painted, and every check has passed
-  shown : ReadsPicture f bytes (sized w (high h j)) image answer new → (d : List ℕ) → bytes ≡ rowBytes (sizeOf f) (sized w h) d j → answer ≡ Done → take (w * high h j) new ≡ rowPixels (showsOf f) (sizeOf f) (sized w h) d j
+  shown :
+      ReadsPicture f bytes (sized w (high h j)) image answer new → (d : List ℕ) → bytes ≡ rowBytes (sizeOf f) (sized w h) d j
+      → answer ≡ Done → take (w * high h j) new ≡ rowPixels (showsOf f) (sizeOf f) (sized w h) d j
   shown r d e a =
       let v : 0 ∷ [] ≡ pictureVerdict f (sized w (high h j)) bytes image = sym (ap said a) ∙ r .says in
       ap (take (w * high h j))

@@ -105,7 +105,9 @@ module _ (p : Picture) (j k : ℕ) (h : k < p .width * high (p .height) j) where
 
 module _ (shows : Shows) (s : ℕ) (p : Picture) (d : List ℕ) where
   -- an image over which row j was painted, from its own bytes, has the pixels of row j in front
-  pub row-painted : (j : ℕ) (image : List ℕ) → p .width * high (p .height) j ≤ length image → take (p .width * high (p .height) j) (painted (inside (rowOf p j)) (pixelAt shows s (rowOf p j) (rowBytes s p d j)) image) ≡ rowPixels shows s p d j
+  pub row-painted :
+      (j : ℕ) (image : List ℕ) → p .width * high (p .height) j ≤ length image
+      → take (p .width * high (p .height) j) (painted (inside (rowOf p j)) (pixelAt shows s (rowOf p j) (rowBytes s p d j)) image) ≡ rowPixels shows s p d j
   row-painted j image h =
       let n = p .width * high (p .height) j in
       let l = painted (inside (rowOf p j)) (pixelAt shows s (rowOf p j) (rowBytes s p d j)) image in

@@ -61,4 +61,6 @@ scannedRow n j row = cond (ltb (firstIn n row) n) (4 ∷ (j * n + firstIn n row)
 -- those of row j of some picture and it accepts, what it paints in front is what that row shows in the whole picture.
 pub record ReadsRow (f : Format) (bytes : List ℕ) (w h j : ℕ) (image : List ℕ) (answer : Answer) (new : List ℕ) : Type 0 where
   pub reads : ReadsPicture f bytes (sized w (high h j)) image answer new
-  pub shows : (d : List ℕ) → bytes ≡ rowBytes (sizeOf f) (sized w h) d j → answer ≡ Done → take (w * high h j) new ≡ rowPixels (showsOf f) (sizeOf f) (sized w h) d j
+  pub shows :
+      (d : List ℕ) → bytes ≡ rowBytes (sizeOf f) (sized w h) d j → answer ≡ Done
+      → take (w * high h j) new ≡ rowPixels (showsOf f) (sizeOf f) (sized w h) d j

@@ -1,26 +1,26 @@
 -- The test of all specimens, which antt computes over the very definitions that the readers promise; and that these are what
 -- they promise. Document 01's rows are in Specimens.antt, those of other decoders in Recorded.antt.
 -- Assumes nothing.
-use mathlib.Core.Bool.{Bool, true, false, cond, _&&_}
+use mathlib.Core.Bool.{Bool, true, false, cond, not, _&&_}
 use mathlib.Core.List.{List, [], _∷_, _++_}
 use mathlib.Core.Path.{_≡_}
-use Prim.Native.Nat.{ℕ, zero, suc, _+_, _*_, _/_, _%_}
-use lib.Dec.{T, eqb}
+use Prim.Native.Nat.{ℕ, zero, suc, _+_, _/_, _%_}
+use lib.Dec.{T}
 use lib.IntN.{pos}
-use lib.ListN.{length}
 use Rattle.rules.specs.Notation.{minus, modulo}
 use Rattle.rules.specs.Places.{sized, element, bytesOf, inTile, tile, painted}
 use Rattle.rules.specs.Answers.{said, left, firstOf}
 use Rattle.rules.specs.Colour.{differential, wrapped, kindBySums, outOfRange}
-use Rattle.rules.specs.Modes.{tBases, tDistance, hBases, hDistance, planarBases, planarChannel, indexed, rgbPixel, rgba1Pixel, etc1Pixel}
+use Rattle.rules.specs.Modes.{tBases, tDistance, hBases, notLess, hDistance, planarBases, planarChannel, indexed}
+use Rattle.rules.specs.Modes.{rgbPixel, rgba1Pixel, etc1Pixel}
 use Rattle.rules.specs.Channels.{alphaStep, alphaByte, rgba8Pixel, eacValue, eacByte, redPixel, redGreenPixel}
 use Rattle.rules.specs.Formats.{sizeOf, showsOf}
-use Rattle.rules.specs.Readers.{pictureOf, pictureVerdict, ReadsPicture, strictVerdict, ReadsStrict, blockVerdict, blockPainted, ReadsBlock, alphaPainted, ReadsAlpha, channelVerdict, channelPainted, ReadsChannel}
+use Rattle.rules.specs.Readers.{pictureOf, pictureVerdict, ReadsPicture, strictVerdict, ReadsStrict}
+use Rattle.rules.specs.Readers.{blockVerdict, blockPainted, ReadsBlock, alphaPainted, ReadsAlpha, channelVerdict, channelPainted, ReadsChannel}
 use Rattle.rules.specs.declared.Answer.{Answer}
 use Rattle.rules.specs.declared.Answer.the-variants.{Done, TooLarge, ShortData, ShortImage, OutOfRange, NoChannel}
-use Rattle.rules.specs.declared.Format.{Format}
-use Rattle.rules.specs.declared.Format.the-variants.{Etc1, Etc2Rgb, Etc2Rgba1, Etc2Rgba8, EacR, EacRSigned, EacRg, EacRgSigned}
-use Rattle.rules.proofs.Rows.{Reader, picture, strict, block, alphaHalf, channel, Row, same, eight}
+use Rattle.rules.specs.declared.Format.the-variants.{Etc2Rgb}
+use Rattle.rules.proofs.Rows.{Reader, picture, strict, block, alphaHalf, channel, Row, caseOf, bytes, same}
 use Rattle.rules.proofs.Specimens.{rows, columns, bench, table}
 use Rattle.rules.proofs.Recorded.{recorded}
 
@@ -74,9 +74,10 @@ no-more alphaHalf w h d image answer new a b = record { says = a; leaves = b }
 no-more (channel s c) w h d image answer new a b = record { says = a; leaves = b }
 
 holds : Row → Bool
-holds r =
-    same (verdictOf (r .reader) (r .width) (r .height) (r .bytes) (r .lent)) (r .says)
-    && same (leaves (r .reader) (r .width) (r .height) (r .bytes) (r .lent)) (r .leaves)
+holds row =
+    let c = caseOf row in
+    same (verdictOf (c .reader) (c .width) (c .height) (c .lent) (c .image)) (c .says)
+    && same (leaves (c .reader) (c .width) (c .height) (c .lent) (c .image)) (c .leaves)
 
 every : List Row → Bool
 every [] = true
@@ -104,8 +105,8 @@ places =
     same (element (sized 5 3) 2 1 ∷ element (sized 7 9) 4 3 ∷ []) (7 ∷ 25 ∷ [])
     && same (marked (inTile (sized 5 5) 3) 30) (24 ∷ [])
     && same (marked (inTile (sized 5 5) 1) 30) (4 ∷ 9 ∷ 14 ∷ 19 ∷ [])
-    && same (tile etc1Pixel (eight 0x0400000200000000)) (columns 0xFF020202 0xFFE90202)
-    && same (tile rgbPixel (eight 0x000004020000003F)) (rows 0xFF000000 0xFF000040 0xFF000080 0xFF0000BF)
+    && same (tile etc1Pixel (bytes (0x0400000200000000 ∷ []))) (columns 0xFF020202 0xFFE90202)
+    && same (tile rgbPixel (bytes (0x000004020000003F ∷ []))) (rows 0xFF000000 0xFF000040 0xFF000080 0xFF0000BF)
     && same (bytesOf 2 (1 ∷ 2 ∷ 3 ∷ 4 ∷ 5 ∷ []) 1) (3 ∷ 4 ∷ [])
     && same (firstOf (λ k. false) 0 ∷ firstOf (λ k. false) 3 ∷ firstOf (λ k. true) 3 ∷ []) (0 ∷ 3 ∷ 0 ∷ [])
 
@@ -113,8 +114,21 @@ places =
 words : Bool
 words =
     same (modulo (minus 1) 5 ∷ modulo (minus 5) 5 ∷ modulo (minus 6) 5 ∷ modulo (pos 7) 5 ∷ []) (4 ∷ 0 ∷ 4 ∷ 2 ∷ [])
-    && same (eacValue false (eight 0xFFF0FFFFFFFFFFFF) 0 0 ∷ eacValue false (eight 0x00F0000000000000) 0 0 ∷ []) (2047 ∷ 0 ∷ [])
+    && same (eacValue false (bytes (0xFFF0FFFFFFFFFFFF ∷ [])) 0 0 ∷ eacValue false (bytes (0x00F0000000000000 ∷ [])) 0 0 ∷ []) (2047 ∷ 0 ∷ [])
 
-hold : T (numbers && words && places && every (bench ++ recorded ++ table))
-unfolding numbers words places every bench table recorded verdictOf paints leaves holds marked painted firstOf differential wrapped kindBySums outOfRange tBases tDistance hBases hDistance planarBases planarChannel indexed rgbPixel rgba1Pixel etc1Pixel alphaStep alphaByte rgba8Pixel eacValue eacByte redPixel redGreenPixel sizeOf showsOf
+-- "compared red, then green, then blue; equal counts"
+orders : Bool
+orders =
+    notLess (5 ∷ 1 ∷ 1 ∷ []) (4 ∷ 9 ∷ 9 ∷ [])
+    && not (notLess (4 ∷ 9 ∷ 9 ∷ []) (5 ∷ 1 ∷ 1 ∷ []))
+    && notLess (5 ∷ 3 ∷ 1 ∷ []) (5 ∷ 2 ∷ 9 ∷ [])
+    && not (notLess (5 ∷ 2 ∷ 9 ∷ []) (5 ∷ 3 ∷ 1 ∷ []))
+    && notLess (5 ∷ 3 ∷ 2 ∷ []) (5 ∷ 3 ∷ 1 ∷ [])
+    && not (notLess (5 ∷ 3 ∷ 1 ∷ []) (5 ∷ 3 ∷ 2 ∷ []))
+    && notLess (5 ∷ 3 ∷ 1 ∷ []) (5 ∷ 3 ∷ 1 ∷ [])
+    && notLess (5 ∷ 3 ∷ 9 ∷ []) (5 ∷ 2 ∷ 1 ∷ [])
+    && notLess (5 ∷ 3 ∷ 9 ∷ []) (4 ∷ 2 ∷ 1 ∷ [])
+
+hold : T (numbers && words && orders && places && every (bench ++ recorded ++ table))
+unfolding numbers words orders places every bench table recorded verdictOf paints leaves holds marked painted firstOf differential wrapped kindBySums outOfRange tBases tDistance hBases hDistance planarBases planarChannel indexed rgbPixel rgba1Pixel etc1Pixel alphaStep alphaByte rgba8Pixel eacValue eacByte redPixel redGreenPixel sizeOf showsOf
 hold = tt

@@ -2,7 +2,7 @@
 -- Assumes nothing.
 use mathlib.Core.Bool.{Bool, true, false, _&&_}
 use mathlib.Core.List.{List, [], _∷_, _++_}
-use Prim.Native.Nat.{ℕ, zero, suc, _+_, _*_, _/_, _%_, _^_}
+use Prim.Native.Nat.{ℕ, zero, suc, _+_, _/_, _%_}
 use lib.Dec.{eqb}
 use lib.ListN.{length, replicate}
 use Rattle.rules.specs.declared.Format.{Format}
@@ -15,64 +15,60 @@ pub data Reader : Type 0 where
   alphaHalf : Reader
   channel : Bool → ℕ → Reader
 
-pub record Row : Type 0 where
-  pub reader : Reader
-  pub width : ℕ
-  pub height : ℕ
-  pub bytes : List ℕ
-  pub lent : List ℕ
-  pub says : List ℕ
-  pub leaves : List ℕ
+-- A row names the reader, the width and the height (4 and 4 of a block), and the blocks, each eight bytes as one number.
+-- shows: accepted, these pixels are painted over elements of 11111111 (hex), and so many more stay as they are
+-- packed: the same, with so many pixels as one number
+-- joins: accepted, with so many elements as one number, the image before and the image after
+-- refuses: so many elements of 11111111, what is said, and all stay as they are
+-- answers: the same, where all bytes are 00 and the row has their number
+pub data Row : Type 0 where
+  shows : Reader → ℕ → ℕ → List ℕ → List ℕ → ℕ → Row
+  packed : Reader → ℕ → ℕ → List ℕ → ℕ → List ℕ → ℕ → Row
+  joins : Reader → ℕ → ℕ → List ℕ → ℕ → List ℕ → List ℕ → Row
+  refuses : Reader → ℕ → ℕ → List ℕ → ℕ → List ℕ → Row
+  answers : Reader → ℕ → ℕ → ℕ → ℕ → List ℕ → Row
 
--- eight bytes written as one number, and the bytes of such blocks
-abbrev pub eight : ℕ → List ℕ
-eight n =
-    n / 2 ^ 56 % 256
-    ∷ n / 2 ^ 48 % 256
-    ∷ n / 2 ^ 40 % 256
-    ∷ n / 2 ^ 32 % 256
-    ∷ n / 2 ^ 24 % 256
-    ∷ n / 2 ^ 16 % 256
-    ∷ n / 2 ^ 8 % 256
-    ∷ n % 256
-    ∷ []
-
-abbrev pub eights : List ℕ → List ℕ
-eights [] = []
-eights (n ∷ ns) = eight n ++ eights ns
-
--- so many elements written as one number, and the elements of such lines
-abbrev pub apart : ℕ → ℕ → List ℕ
-apart zero n = []
-apart (suc k) n = n / 2 ^ (32 * k) % 2 ^ 32 ∷ apart k n
-
-abbrev pub lines : ℕ → List ℕ → List ℕ
-lines across [] = []
-lines across (n ∷ ns) = apart across n ++ lines across ns
-
--- so many elements that nobody touched
 abbrev pub untouched : ℕ → List ℕ
 untouched n = replicate n 0x11111111
 
--- accepted: these pixels, and then so many elements as they were
-abbrev pub shows : Reader → ℕ → ℕ → List ℕ → List ℕ → ℕ → Row
-shows reader width height blocks pixels spare =
-    record { reader = reader; width = width; height = height; bytes = eights blocks; lent = untouched (length pixels + spare); says = 0 ∷ []; leaves = pixels ++ untouched spare }
+-- a number of so many digits in base b, as the list of them; and such numbers one after the other
+abbrev pub digits : ℕ → ℕ → ℕ → List ℕ → List ℕ
+digits b zero n after = after
+digits b (suc k) n after = digits b k (n / b) (n % b ∷ after)
 
--- accepted: one block joins what stood there
-abbrev pub joins : Reader → List ℕ → List ℕ → List ℕ → Row
-joins reader blocks old new =
-    record { reader = reader; width = 4; height = 4; bytes = eights blocks; lent = old; says = 0 ∷ []; leaves = new }
+abbrev pub apart : ℕ → ℕ → List ℕ → List ℕ
+apart b k [] = []
+apart b k (n ∷ ns) = digits b k n (apart b k ns)
 
--- refused: so many elements, all as they were
-abbrev pub refuses : Reader → ℕ → ℕ → List ℕ → ℕ → List ℕ → Row
-refuses reader width height blocks elements verdict =
-    record { reader = reader; width = width; height = height; bytes = eights blocks; lent = untouched elements; says = verdict; leaves = untouched elements }
+abbrev pub bytes : List ℕ → List ℕ
+bytes blocks = apart 256 8 blocks
 
--- refused, or accepted with nothing to show, whatever the bytes are: so many of 00
-abbrev pub answers : Reader → ℕ → ℕ → ℕ → ℕ → List ℕ → Row
-answers reader width height bytes elements verdict =
-    record { reader = reader; width = width; height = height; bytes = replicate bytes 0; lent = untouched elements; says = verdict; leaves = untouched elements }
+abbrev pub elements : ℕ → List ℕ → List ℕ
+elements across lines = apart 4294967296 across lines
+
+-- what a row says of a reader's work: the reader and what it is lent, what it says, and what it leaves
+pub record Case : Type 0 where
+  pub reader : Reader
+  pub width : ℕ
+  pub height : ℕ
+  pub lent : List ℕ
+  pub image : List ℕ
+  pub says : List ℕ
+  pub leaves : List ℕ
+
+abbrev pub accepted : Reader → ℕ → ℕ → List ℕ → List ℕ → ℕ → Case
+accepted r w h d pixels spare =
+    record { reader = r; width = w; height = h; lent = d; image = untouched (length pixels + spare); says = 0 ∷ []; leaves = pixels ++ untouched spare }
+
+abbrev pub caseOf : Row → Case
+caseOf (shows r w h blocks pixels spare) = accepted r w h (bytes blocks) pixels spare
+caseOf (packed r w h blocks across lines spare) = accepted r w h (bytes blocks) (elements across lines) spare
+caseOf (joins r w h blocks across old new) =
+    record { reader = r; width = w; height = h; lent = bytes blocks; image = elements across old; says = 0 ∷ []; leaves = elements across new }
+caseOf (refuses r w h blocks n verdict) =
+    record { reader = r; width = w; height = h; lent = bytes blocks; image = untouched n; says = verdict; leaves = untouched n }
+caseOf (answers r w h count n verdict) =
+    record { reader = r; width = w; height = h; lent = replicate count 0; image = untouched n; says = verdict; leaves = untouched n }
 
 abbrev pub same : List ℕ → List ℕ → Bool
 same [] [] = true

@@ -5,7 +5,7 @@ use mathlib.Core.List.{List, [], _∷_, _++_}
 use Prim.Native.Nat.{ℕ}
 use lib.ListN.{replicate}
 use Rattle.rules.specs.declared.Format.the-variants.{Etc1, Etc2Rgb, Etc2Rgba1, Etc2Rgba8, EacR, EacRSigned, EacRg, EacRgSigned}
-use Rattle.rules.proofs.Rows.{Reader, picture, strict, block, alphaHalf, channel, Row, shows, joins, refuses, answers, untouched}
+use Rattle.rules.proofs.Rows.{Reader, picture, strict, block, alphaHalf, channel, Row, shows, refuses, answers}
 
 -- one colour everywhere; rows of the tile; two columns and two columns
 abbrev pub all : ℕ → List ℕ
@@ -23,10 +23,6 @@ one reader n pixels = shows reader 4 4 (n ∷ []) pixels 1
 
 abbrev pub stays : Reader → ℕ → List ℕ → Row
 stays reader n verdict = refuses reader 4 4 (n ∷ []) 17 verdict
-
--- over elements of 11111111
-abbrev pub alpha : ℕ → ℕ → Row
-alpha n v = joins alphaHalf (n ∷ []) (untouched 17) (all v ++ untouched 1)
 
 -- "Specimens from the fitting bench", S1 to S18
 unfoldable pub bench : List Row
@@ -51,9 +47,9 @@ bench =
     ∷ one strict 0x2400000200000000 (columns 0xFF230202 0xFF020202)
     ∷ stays strict 0x1C00000200000000 (4 ∷ 0 ∷ [])
     -- S10 to S12
-    ∷ alpha 0x8010000000000000 0x7D111111
-    ∷ alpha 0x8000000000000000 0x80111111
-    ∷ alpha 0x0210000000000000 0x00111111
+    ∷ one alphaHalf 0x8010000000000000 (all 0x7D111111)
+    ∷ one alphaHalf 0x8000000000000000 (all 0x80111111)
+    ∷ one alphaHalf 0x0210000000000000 (all 0x00111111)
     -- S13 to S15
     ∷ one (picture EacR) 0x8010000000000000 (all 0xFF7D0000)
     ∷ one (picture EacR) 0x8000000000000000 (all 0xFF800000)

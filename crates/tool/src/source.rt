@@ -25,8 +25,8 @@ fn length_of(end: i64) -> usize {
     if end < 0 {
         return 0;
     }
-    if 1099511627776 < end {
-        return 1099511627776;
+    if 0x10000000000 < end {
+        return 0x10000000000;
     }
     end as usize
 }
@@ -43,7 +43,7 @@ fn header_of(fd: i32, len: usize) -> Header {
 
 // Goes to a byte of a file.
 pub fn seek(fd: i32, start: usize) -> bool {
-    if 8589934592 < start {
+    if 0x200000000 < start {
         return false;
     }
     let at = start as i64;

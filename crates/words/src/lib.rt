@@ -33,7 +33,7 @@ fn complain(words: &[u8]) {
 }
 
 // Writes to standard output.
-pub fn tell(words: &[u8]) {
+fn tell(words: &[u8]) {
     io::write_all(STDOUT_FILENO, words);
 }
 

@@ -142,8 +142,8 @@ fn h_ordered(order: Option<(usize, bool)>, random: &mut Random) -> [u8; 8] {
     block
 }
 
-/// H's first base: red, green and blue of four bits.
-pub fn h_first(b: &[u8; 8]) -> [u8; 3] {
+// H's first base: red, green and blue of four bits.
+fn h_first(b: &[u8; 8]) -> [u8; 3] {
     [b[0] >> 3 & 15, (b[0] & 7) << 1 | b[1] >> 4 & 1, b[1] & 8 | (b[1] & 3) << 1 | b[2] >> 7]
 }
 
@@ -178,8 +178,8 @@ pub fn colour(kind: usize, random: &mut Random) -> [u8; 8] {
     block
 }
 
-/// The second base colour of an H block.
-pub fn h_second(b: &[u8; 8]) -> [u8; 3] {
+// The second base colour of an H block.
+fn h_second(b: &[u8; 8]) -> [u8; 3] {
     [b[2] >> 3 & 15, (b[2] & 7) << 1 | b[3] >> 7, b[3] >> 3 & 15]
 }
 

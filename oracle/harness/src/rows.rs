@@ -2,7 +2,7 @@
 //! and every field of every kind, with the answers of the crate, which Mesa and Android must share where they can be
 //! asked. The program under test is not asked.
 
-use crate::blocks::{channel, colour, h_first, h_orders, h_second};
+use crate::blocks::{channel, colour, h_orders};
 use crate::expected::{expected, lowest_base_raised};
 use crate::protocol::{ask, Answer, Case, Pair};
 use crate::random::Random;
@@ -15,8 +15,8 @@ use std::io::{Error, Result};
 
 /// What stands in every element that a row does not give.
 const OLD: u32 = 0x1111_1111;
-/// Sixteen indices of three bits: 0 to 7 twice, and as often in another order.
-const EVERY_INDEX: [u64; 2] = [0x0539_7705_3977, 0x6353_d4ab_8999];
+/// Sixteen indices of three bits, of which the two upper rows have 0 to 7, and the lower ones too; and in another order.
+const EVERY_INDEX: [u64; 2] = [0x07e4_ec95_adc8, 0x62ad_783e_6519];
 
 struct Row {
     about: &'static str,
@@ -48,22 +48,39 @@ fn of_kinds(kinds: &[usize], random: &mut Random) -> Vec<Block> {
 
 // Each group has numbers of its own, so that a change in one leaves the others as they are.
 fn rows(seed: u64) -> Vec<Row> {
-    // Small rows stand first, so that most mistakes are seen by one of them.
-    let groups = [single, etc1, etc2, alphas, channels, places, strict];
+    let groups = [glance, single, etc1, etc2, alphas, channels, places, strict];
     let random = |group: usize| Random::new(seed << 8 | group as u64);
     groups.into_iter().enumerate().flat_map(|(at, group)| group(&mut random(at))).collect()
 }
 
+// The first row of a block or two of each format and kind: most mistakes are seen here, at little cost.
+fn glance(random: &mut Random) -> Vec<Row> {
+    let about = "at a glance";
+    let mut halves = |count: usize| -> Vec<Block> { (0..count).map(|_| channel(7, random)).collect() };
+    let (red, signed, both, both_signed) = (halves(1), halves(1), halves(2), halves(2));
+    let alpha = halves(1)[0];
+    vec![
+        picture(about, RGB, (20, 1), &of_kinds(&[0, 1, 2, 3, 4], random)),
+        picture(about, ETC1, (8, 1), &of_kinds(&[0, 2], random)),
+        picture(about, RGBA1, (16, 1), &cleared(of_kinds(&[1, 2, 3, 4], random))),
+        picture(about, RGBA8, (4, 1), &[alpha, colour(1, random)]),
+        picture(about, EACR, (4, 1), &red),
+        picture(about, EACR_SIGNED, (4, 1), &signed),
+        picture(about, EACRG, (4, 1), &both),
+        picture(about, EACRG_SIGNED, (4, 1), &both_signed),
+    ]
+}
+
 fn etc1(random: &mut Random) -> Vec<Row> {
-    // Bases from which no step clamps in all three channels, and indices of which each half has all four.
-    let code = |n: u8| [0x21, 0x78, 0xde, 2 * n << 5 | (2 * n + 1) << 2 | n % 2, 0x3c, 0x3c, 0x55, 0xaa];
+    // Bases from which no step clamps in all three channels, and indices of which the upper rows of each half have all four.
+    let code = |n: u8| [0x21, 0x78, 0xde, 2 * n << 5 | (2 * n + 1) << 2, 0x3c, 0x3c, 0x55, 0xaa];
     let codes: Vec<Block> = (0..4).map(code).collect();
     vec![
-        picture("ETC1, individual: every code", ETC1, (16, 4), &codes),
+        picture("ETC1, individual: every code", ETC1, (16, 2), &codes),
         picture(
             "ETC1, differential: sums in range, and out of it",
             ETC1,
-            (16, 8),
+            (32, 2),
             &of_kinds(&[1, 2, 3, 4, 1, 2, 3, 4], random),
         ),
     ]
@@ -75,23 +92,23 @@ fn cleared(blocks: Vec<Block>) -> Vec<Block> {
 
 fn etc2(random: &mut Random) -> Vec<Row> {
     let t: Vec<Block> = (0..8).map(|number| t_block(number, random)).collect();
-    let h: Vec<Block> = (0..16).map(|number| h_block(number, random)).collect();
-    let mut planar = of_kinds(&[4, 4, 4], random);
+    let h: Vec<Block> = (0..8).map(|number| h_block(number, random)).collect();
+    let mut planar = of_kinds(&[4, 4], random);
     planar.push(planar_at_the_turn(random));
     let kinds = of_kinds(&[1, 2, 3, 4, 1, 2, 3, 4], random);
     vec![
-        picture("ETC2 RGB, individual, whatever the sums are", RGB, (8, 8), &cleared(of_kinds(&[1, 2, 3, 4], random))),
-        picture("ETC2 RGB, differential", RGB, (8, 4), &of_kinds(&[1, 1], random)),
-        picture("ETC2 RGB, T: every distance", RGB, (16, 8), &t),
+        picture("ETC2 RGB, individual, whatever the sums are", RGB, (16, 2), &cleared(of_kinds(&[1, 2, 3, 4], random))),
+        picture("ETC2 RGB, differential", RGB, (8, 2), &of_kinds(&[1, 1], random)),
+        picture("ETC2 RGB, T: every distance", RGB, (32, 2), &t),
         picture(
             "ETC2 RGB, H: every distance, the order of the bases decided by each channel both ways, and a tie",
             RGB,
-            (16, 16),
+            (32, 2),
             &h,
         ),
-        picture("ETC2 RGB, planar", RGB, (8, 8), &planar),
-        picture("ETC2 RGBA1, opaque bit clear: differential, T, H, planar", RGBA1, (16, 8), &cleared(kinds)),
-        picture("ETC2 RGBA1, opaque bit set", RGBA1, (8, 8), &of_kinds(&[1, 2, 3, 4], random)),
+        picture("ETC2 RGB, planar", RGB, (12, 4), &planar),
+        picture("ETC2 RGBA1, opaque bit clear: differential, T, H, planar", RGBA1, (32, 2), &cleared(kinds)),
+        picture("ETC2 RGBA1, opaque bit set", RGBA1, (16, 2), &of_kinds(&[1, 2, 3, 4], random)),
     ]
 }
 
@@ -102,8 +119,8 @@ fn t_block(number: u8, random: &mut Random) -> Block {
 }
 
 // How red, green and blue of the first base of an H block stand to the second's. The last bit of a distance number says
-// whether the first base is not less, so these see every number, and each channel decide with the later ones and against.
-const H_ORDERS: [[Ordering; 3]; 16] = [
+// whether the first base is not less: these see every number, each channel decide both ways, and a tie.
+const H_ORDERS: [[Ordering; 3]; 8] = [
     [Less, Greater, Greater],
     [Greater, Less, Less],
     [Equal, Less, Greater],
@@ -112,35 +129,15 @@ const H_ORDERS: [[Ordering; 3]; 16] = [
     [Equal, Equal, Greater],
     [Less, Less, Less],
     [Equal, Equal, Equal],
-    [Equal, Less, Less],
-    [Equal, Greater, Greater],
-    [Less, Equal, Greater],
-    [Greater, Equal, Less],
-    [Less, Equal, Less],
-    [Greater, Equal, Greater],
-    [Less, Less, Equal],
-    [Greater, Greater, Equal],
 ];
 
 fn h_block(number: u8, random: &mut Random) -> Block {
     loop {
         let mut block = colour(3, random);
-        block[3] = block[3] & !5 | number / 4 % 2 * 4 | number / 2 % 2;
-        if h_orders(&block) == H_ORDERS[number as usize] && red_would_mislead(number, &block) {
+        block[3] = block[3] & !5 | number / 4 * 4 | number / 2 % 2;
+        if h_orders(&block) == H_ORDERS[number as usize] {
             return block;
         }
-    }
-}
-
-// Where green decides, a red in place of either green would decide otherwise.
-fn red_would_mislead(number: u8, block: &Block) -> bool {
-    let (first, second) = (h_first(block), h_second(block));
-    match number {
-        2 => first[0] < first[1],
-        3 => first[0] >= first[1],
-        8 => first[0] > second[1],
-        9 => first[0] <= second[1],
-        _ => true,
     }
 }
 
@@ -160,7 +157,7 @@ fn alphas(random: &mut Random) -> Vec<Row> {
         .into_iter()
         .flat_map(|(alpha, kind)| [channel(alpha, random), colour(kind, random)])
         .collect();
-    vec![picture("ETC2 RGBA8", RGBA8, (8, 8), &halves)]
+    vec![picture("ETC2 RGBA8", RGBA8, (16, 2), &halves)]
 }
 
 fn channels(random: &mut Random) -> Vec<Row> {
@@ -172,11 +169,11 @@ fn channels(random: &mut Random) -> Vec<Row> {
         .collect();
     let mut kinds = |count: usize| -> Vec<Block> { (0..count).map(|kind| channel(kind, random)).collect() };
     vec![
-        picture("EAC R: every alpha step", EACR, (16, 16), &steps),
-        picture("EAC R: no multiplier, clamped low and high, the turning points", EACR, (16, 8), &kinds(8)),
-        picture("EAC R signed", EACR_SIGNED, (16, 8), &kinds(8)),
-        picture("EAC RG", EACRG, (8, 8), &kinds(8)),
-        picture("EAC RG signed", EACRG_SIGNED, (8, 8), &kinds(8)),
+        picture("EAC R: every alpha step", EACR, (64, 2), &steps),
+        picture("EAC R: no multiplier, clamped low and high, the turning points", EACR, (32, 2), &kinds(8)),
+        picture("EAC R signed", EACR_SIGNED, (32, 2), &kinds(8)),
+        picture("EAC RG", EACRG, (16, 2), &kinds(8)),
+        picture("EAC RG signed", EACRG_SIGNED, (16, 2), &kinds(8)),
     ]
 }
 
@@ -202,19 +199,18 @@ fn single(random: &mut Random) -> Vec<Row> {
     for reader in [BLOCK_EACR, BLOCK_EACR_SIGNED, BLOCK_EACRG, BLOCK_EACRG_SIGNED] {
         list.push(lone(reader, &[channel(7, random), channel(7, random)]));
     }
-    for kind in [0, 1, 2, 7] {
+    for kind in [0, 7] {
         list.push(joined("the alpha half alone", BLOCK_A8, 0, channel(kind, random), random));
     }
-    for number in 0..4 {
-        list.push(joined("one channel", BLOCK_EAC, number, channel(7, random), random));
-        list.push(joined("one channel, signed", BLOCK_EAC_SIGNED, number, channel(7, random), random));
+    for (number, reader) in [BLOCK_EAC, BLOCK_EAC, BLOCK_EAC_SIGNED, BLOCK_EAC_SIGNED].into_iter().enumerate() {
+        list.push(joined("one channel", reader, number as u32, channel(7, random), random));
     }
     list
 }
 
 fn strict(random: &mut Random) -> Vec<Row> {
     vec![
-        picture("strict: in range", STRICT, (8, 8), &of_kinds(&[0, 1, 0, 1], random)),
+        picture("strict: in range", STRICT, (8, 5), &of_kinds(&[0, 1, 0, 1], random)),
         picture("strict: the first of two", STRICT, (12, 4), &of_kinds(&[1, 3, 2], random)),
         picture("strict: the last of the picture", STRICT, (9, 4), &of_kinds(&[0, 1, 4, 2], random)),
         picture("strict: out of range behind the picture", STRICT, (8, 4), &of_kinds(&[1, 0, 2], random)),
@@ -281,11 +277,12 @@ fn line(case: &Case, due: &Answer) -> String {
     if case.image.iter().all(|&element| element == OLD) {
         let painted = (width * height) as usize;
         let spare = due.image.len() - painted;
-        let across = if width == 16 { 8 } else { width as usize };
-        let pixels = pixels(across, &due.image[..painted]);
-        return format!("shows ({reader}) {width} {height}\n    {blocks}\n    {pixels}\n    {spare}");
+        let across = (1..=12).rev().find(|n| width % n == 0).unwrap_or(1) as usize;
+        let pixels = lines(across, &due.image[..painted]);
+        return format!("packed ({reader}) {width} {height}\n    {blocks}\n    {across}\n    {pixels}\n    {spare}");
     }
-    format!("joins ({reader})\n    {blocks}\n    {}\n    {}", pixels(17, &case.image), pixels(17, &due.image))
+    let (old, new) = (lines(17, &case.image), lines(17, &due.image));
+    format!("joins ({reader}) {width} {height}\n    {blocks}\n    17\n    {old}\n    {new}")
 }
 
 fn blocks(data: &[u8]) -> String {
@@ -293,9 +290,9 @@ fn blocks(data: &[u8]) -> String {
     list(data.chunks(8).map(|b| number(&[word(b), word(&b[4..])])), 5)
 }
 
-// So many pixels are one number.
-fn pixels(across: usize, image: &[u32]) -> String {
-    format!("(lines {across}\n    {})", list(image.chunks(across).map(number), 1))
+// So many elements are one number.
+fn lines(across: usize, image: &[u32]) -> String {
+    list(image.chunks(across).map(number), 1)
 }
 
 fn number(words: &[u32]) -> String {

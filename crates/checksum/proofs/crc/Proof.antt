@@ -13,7 +13,7 @@ crc-more-requires c κs = search needs
 
 -- src/lib.rt:73:1
 returns : tie.Need-returns
-returns c = ap (λ (z : ℕ). bitXor z 4294967295) (c .crc-more .ensures)
+returns c = ap (λ (z : ℕ). bitXor z 0xFFFFFFFF) (c .crc-more .ensures)
 
 pub crc-spec : {M : Type 1} → statement M
 crc-spec = tie.close (tie.spec crc-more-requires returns)

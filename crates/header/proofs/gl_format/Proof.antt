@@ -55,17 +55,17 @@ unfolding glFormat
 returns-12 c =
     let r = c .match .rest in
     simp (
-      ne-eqb (c .before .args .number) 36196 (r .0 .0 .0 .0 .0 .0 .0 .0 .0 .0 .1),
-      ne-eqb (c .before .args .number) 37488 (r .0 .0 .0 .0 .0 .0 .0 .0 .0 .1),
-      ne-eqb (c .before .args .number) 37489 (r .0 .0 .0 .0 .0 .0 .0 .0 .1),
-      ne-eqb (c .before .args .number) 37490 (r .0 .0 .0 .0 .0 .0 .0 .1),
-      ne-eqb (c .before .args .number) 37491 (r .0 .0 .0 .0 .0 .0 .1),
-      ne-eqb (c .before .args .number) 37492 (r .0 .0 .0 .0 .0 .1),
-      ne-eqb (c .before .args .number) 37493 (r .0 .0 .0 .0 .1),
-      ne-eqb (c .before .args .number) 37494 (r .0 .0 .0 .1),
-      ne-eqb (c .before .args .number) 37495 (r .0 .0 .1),
-      ne-eqb (c .before .args .number) 37496 (r .0 .1),
-      ne-eqb (c .before .args .number) 37497 (r .1),
+      ne-eqb (c .before .args .number) 0x8D64 (r .0 .0 .0 .0 .0 .0 .0 .0 .0 .0 .1),
+      ne-eqb (c .before .args .number) 0x9270 (r .0 .0 .0 .0 .0 .0 .0 .0 .0 .1),
+      ne-eqb (c .before .args .number) 0x9271 (r .0 .0 .0 .0 .0 .0 .0 .0 .1),
+      ne-eqb (c .before .args .number) 0x9272 (r .0 .0 .0 .0 .0 .0 .0 .1),
+      ne-eqb (c .before .args .number) 0x9273 (r .0 .0 .0 .0 .0 .0 .1),
+      ne-eqb (c .before .args .number) 0x9274 (r .0 .0 .0 .0 .0 .1),
+      ne-eqb (c .before .args .number) 0x9275 (r .0 .0 .0 .0 .1),
+      ne-eqb (c .before .args .number) 0x9276 (r .0 .0 .0 .1),
+      ne-eqb (c .before .args .number) 0x9277 (r .0 .0 .1),
+      ne-eqb (c .before .args .number) 0x9278 (r .0 .1),
+      ne-eqb (c .before .args .number) 0x9279 (r .1),
     )
 
 pub gl-format-spec : {M : Type 1} → statement M

@@ -6,15 +6,15 @@ use borrow.Author.Needs.{needs}
 use Rattle.header.proofs.ktx.Statement.{statement}
 use Rattle.header.proofs.ktx.Tie as tie
 
-big-requires : tie.Need-big-requires
-big-requires c κs = search needs
+big4-requires : tie.Need-big4-requires
+big4-requires c κs = search needs
 
 ktx-in-requires : tie.Need-ktx-in-requires
 ktx-in-requires c κs = search needs
 
 returns : tie.Need-returns
 unfolding ktxOf
-returns c = simp (same (c .before .before .big .ensures .0) (c .before .if1 .taken)) (c .ktx-in .ensures)
+returns c = simp (same (c .before .before .big4 .ensures .0) (c .before .if1 .taken)) (c .ktx-in .ensures)
 
 ktx-in-requires-2 : tie.Need-ktx-in-requires-2
 ktx-in-requires-2 c κs = search needs
@@ -23,14 +23,14 @@ returns-2 : tie.Need-returns-2
 unfolding ktxOf
 returns-2 c =
     let b = c .before .before .before in
-    simp (other (b .big .ensures .0) (c .before .before .if1 .left), same (b .big .ensures .0) (c .before .if2 .taken)) (c .ktx-in2 .ensures)
+    simp (other (b .big4 .ensures .0) (c .before .before .if1 .left), same (b .big4 .ensures .0) (c .before .if2 .taken)) (c .ktx-in2 .ensures)
 
 returns-3 : tie.Need-returns-3
 unfolding ktxOf
 returns-3 c =
     let b = c .before .before in
-    simp (other (b .big .ensures .0) (c .before .if1 .left), other (b .big .ensures .0) (c .if2 .left))
+    simp (other (b .big4 .ensures .0) (c .before .if1 .left), other (b .big4 .ensures .0) (c .if2 .left))
 
 pub ktx-spec : {M : Type 1} → statement M
 ktx-spec =
-    tie.close (tie.spec big-requires ktx-in-requires returns ktx-in-requires-2 returns-2 returns-3)
+    tie.close (tie.spec big4-requires ktx-in-requires returns ktx-in-requires-2 returns-2 returns-3)

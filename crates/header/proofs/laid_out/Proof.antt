@@ -34,12 +34,12 @@ size-requires c κs = search needs
 
 mul-bytes : tie.Need-mul-bytes
 mul-bytes c =
-    let h : c .before .blocks-of .result * c .size .result ≤ 4294967296 = mul-le-mul (c .before .blocks-of .ensures .1) (c .size .ensures .1) in
+    let h : c .before .blocks-of .result * c .size .result ≤ 0x100000000 = mul-le-mul (c .before .blocks-of .ensures .1) (c .size .ensures .1) in
     omega arith
 
 add-if5 : tie.Need-add-if5
 add-if5 c =
-    let h : c .before .blocks-of .result * c .size .result ≤ 4294967296 = mul-le-mul (c .before .blocks-of .ensures .1) (c .size .ensures .1) in
+    let h : c .before .blocks-of .result * c .size .result ≤ 0x100000000 = mul-le-mul (c .before .blocks-of .ensures .1) (c .size .ensures .1) in
     omega arith
 
 returns-5 : tie.Need-returns-5

@@ -5,8 +5,7 @@ use Prim.Native.Nat.{ℕ, _+_}
 use native.Mathlib.Omega.{arith}
 use borrow.Author.Tests.{lt-ltb, le-ltb}
 use denote.Ref.{now}
-use Rattle.header.specs.Files.{levelAt}
-use Rattle.header.specs.Words.{word32}
+use Rattle.header.specs.Files.{word32, levelAt}
 use lib.Dec.{eqb}
 use lib.ListN.{length}
 use borrow.Author.Needs.{needs}
@@ -17,8 +16,8 @@ returns : tie.Need-returns
 unfolding levelAt
 returns c = (simp (lt-ltb _ _ (c .if1 .taken)), omega arith)
 
-big-requires : tie.Need-big-requires
-big-requires c κs = search needs
+big4-requires : tie.Need-big4-requires
+big4-requires c κs = search needs
 
 word-requires : tie.Need-word-requires
 word-requires c κs = search needs
@@ -30,7 +29,8 @@ returns-2 : tie.Need-returns-2
 unfolding levelAt
 returns-2 c =
     let d = now (c .before .before .before .before .args .d) in
-    (simp (le-ltb (length d) 64 (c .before .before .if1 .left)) (ap (λ (z : ℕ). 64 + z) (c .word .ensures .0 ∙ ap (λ (z : ℕ). word32 (eqb z 67305985) d 60) (c .before .big .ensures .0))), omega (arith, c .word .ensures .1))
+    let e = c .word .ensures .0 ∙ ap (λ (z : ℕ). word32 (eqb z 0x04030201) d 60) (c .before .big4 .ensures .0) in
+    (simp (le-ltb (length d) 64 (c .before .before .if1 .left)) (ap (λ (z : ℕ). 64 + z) e), omega (arith, c .word .ensures .1))
 
 pub level-at-spec : {M : Type 1} → statement M
-level-at-spec = tie.close (tie.spec returns big-requires word-requires add-result returns-2)
+level-at-spec = tie.close (tie.spec returns big4-requires word-requires add-result returns-2)

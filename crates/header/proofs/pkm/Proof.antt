@@ -8,11 +8,11 @@ use borrow.Author.Needs.{needs}
 use Rattle.header.proofs.pkm.Statement.{statement}
 use Rattle.header.proofs.pkm.Tie as tie
 
-half-requires : tie.Need-half-requires
-half-requires c κs = search needs
+big2-requires : tie.Need-big2-requires
+big2-requires c κs = search needs
 
-half-requires-2 : tie.Need-half-requires-2
-half-requires-2 c κs = search needs
+big2-requires-2 : tie.Need-big2-requires-2
+big2-requires-2 c κs = search needs
 
 old-pkm-requires : tie.Need-old-pkm-requires
 old-pkm-requires c κs = search needs
@@ -25,9 +25,9 @@ unfolding pkmOf
 returns c =
     let h = c .before .before .before in
     let a = h .before .before .before .args in
-    simp (same (h .before .half .ensures .0) (c .before .before .if1 .taken))
+    simp (same (h .before .big2 .ensures .0) (c .before .before .if1 .taken))
     (c .pkm-as .ensures
-    ∙ ap (λ z. pkmAs z (now (a .d)) (a .len)) (c .before .old-pkm .ensures ∙ ap oldPkm (h .half2 .ensures .0)))
+    ∙ ap (λ z. pkmAs z (now (a .d)) (a .len)) (c .before .old-pkm .ensures ∙ ap oldPkm (h .big22 .ensures .0)))
 
 new-pkm-requires : tie.Need-new-pkm-requires
 new-pkm-requires c κs = search needs
@@ -41,27 +41,27 @@ returns-2 c =
     let h = c .before .before .before .before in
     let a = h .before .before .before .args in
     simp (
-      other (h .before .half .ensures .0) (c .before .before .before .if1 .left),
-      same (h .before .half .ensures .0) (c .before .before .if2 .taken),
+      other (h .before .big2 .ensures .0) (c .before .before .before .if1 .left),
+      same (h .before .big2 .ensures .0) (c .before .before .if2 .taken),
     )
     (c .pkm-as2 .ensures
-    ∙ ap (λ z. pkmAs z (now (a .d)) (a .len)) (c .before .new-pkm .ensures ∙ ap newPkm (h .half2 .ensures .0)))
+    ∙ ap (λ z. pkmAs z (now (a .d)) (a .len)) (c .before .new-pkm .ensures ∙ ap newPkm (h .big22 .ensures .0)))
 
 returns-3 : tie.Need-returns-3
 unfolding pkmOf
 returns-3 c =
     let h = c .before .before in
     simp (
-      other (h .before .half .ensures .0) (c .before .if1 .left),
-      other (h .before .half .ensures .0) (c .if2 .left),
+      other (h .before .big2 .ensures .0) (c .before .if1 .left),
+      other (h .before .big2 .ensures .0) (c .if2 .left),
     )
 
 pub pkm-spec : {M : Type 1} → statement M
 pkm-spec =
     tie.close
     (tie.spec
-    half-requires
-    half-requires-2
+    big2-requires
+    big2-requires-2
     old-pkm-requires
     pkm-as-requires
     returns

@@ -17,14 +17,14 @@ returns : tie.Need-returns
 unfolding pkmAs
 returns c = simp (c .enum-told .given .1)
 
-half-requires : tie.Need-half-requires
-half-requires c κs = search needs
+big2-requires : tie.Need-big2-requires
+big2-requires c κs = search needs
 
-half-requires-2 : tie.Need-half-requires-2
-half-requires-2 c κs = search needs
+big2-requires-2 : tie.Need-big2-requires-2
+big2-requires-2 c κs = search needs
 
-half-requires-3 : tie.Need-half-requires-3
-half-requires-3 c κs = search needs
+big2-requires-3 : tie.Need-big2-requires-3
+big2-requires-3 c κs = search needs
 
 add-if1 : tie.Need-add-if1
 add-if1 c = search needs
@@ -38,11 +38,11 @@ returns-2 c =
     let h = c .before in
     simp (
       h .before .before .before .before .known .given .1,
-      unlike (h .half3 .ensures .0) (ap padded (h .before .before .half .ensures .0)) (c .if1 .taken),
+      unlike (h .big23 .ensures .0) (ap padded (h .before .before .big2 .ensures .0)) (c .if1 .taken),
     )
 
-half-requires-4 : tie.Need-half-requires-4
-half-requires-4 c κs = search needs
+big2-requires-4 : tie.Need-big2-requires-4
+big2-requires-4 c κs = search needs
 
 add-if2 : tie.Need-add-if2
 add-if2 c = search needs
@@ -56,8 +56,8 @@ returns-3 c =
     let h = c .before .before .before in
     simp (
       h .before .before .before .before .known .given .1,
-      alike (h .half3 .ensures .0) (ap padded (h .before .before .half .ensures .0)) (c .before .before .if1 .left),
-      unlike (c .before .half4 .ensures .0) (ap padded (h .before .half2 .ensures .0)) (c .if2 .taken),
+      alike (h .big23 .ensures .0) (ap padded (h .before .before .big2 .ensures .0)) (c .before .before .if1 .left),
+      unlike (c .before .big24 .ensures .0) (ap padded (h .before .big22 .ensures .0)) (c .if2 .taken),
     )
 
 laid-out-requires : tie.Need-laid-out-requires
@@ -69,10 +69,10 @@ returns-4 c =
     let h = c .before .before .before .before in
     simp (
       h .before .before .before .before .known .given .1,
-      alike (h .half3 .ensures .0) (ap padded (h .before .before .half .ensures .0)) (c .before .before .before .if1 .left),
-      alike (c .before .before .half4 .ensures .0) (ap padded (h .before .half2 .ensures .0)) (c .before .if2 .left),
+      alike (h .big23 .ensures .0) (ap padded (h .before .before .big2 .ensures .0)) (c .before .before .before .if1 .left),
+      alike (c .before .before .big24 .ensures .0) (ap padded (h .before .big22 .ensures .0)) (c .before .if2 .left),
     )
-    (c .laid-out .ensures ∙ laid _ _ (h .before .before .half .ensures .0) (h .before .half2 .ensures .0) refl)
+    (c .laid-out .ensures ∙ laid _ _ (h .before .before .big2 .ensures .0) (h .before .big22 .ensures .0) refl)
 
 pub pkm-as-spec : {M : Type 1} → statement M
 pkm-as-spec =
@@ -81,13 +81,13 @@ pkm-as-spec =
     enum-known-known
     enum-told
     returns
-    half-requires
-    half-requires-2
-    half-requires-3
+    big2-requires
+    big2-requires-2
+    big2-requires-3
     add-if1
     mul-if1
     returns-2
-    half-requires-4
+    big2-requires-4
     add-if2
     mul-if2
     returns-3

@@ -13,8 +13,8 @@ returns : tie.Need-returns
 unfolding headerOf
 returns c = simp (lt-ltb _ _ (c .if1 .taken))
 
-big-requires : tie.Need-big-requires
-big-requires c κs = search needs
+big4-requires : tie.Need-big4-requires
+big4-requires c κs = search needs
 
 pkm-requires : tie.Need-pkm-requires
 pkm-requires c κs = search needs
@@ -23,7 +23,7 @@ returns-2 : tie.Need-returns-2
 unfolding headerOf
 returns-2 c =
     let b = c .before .before in
-    simp (le-ltb _ _ (b .before .if1 .left), same (b .big .ensures .0) (c .before .if2 .taken)) (c .pkm .ensures)
+    simp (le-ltb _ _ (b .before .if1 .left), same (b .big4 .ensures .0) (c .before .if2 .taken)) (c .pkm .ensures)
 
 is-ktx-requires : tie.Need-is-ktx-requires
 is-ktx-requires c κs = search needs
@@ -35,7 +35,7 @@ returns-3 c =
     let b = k .before .before in
     simp (
       le-ltb _ _ (b .before .if1 .left),
-      other (b .big .ensures .0) (k .before .if2 .left),
+      other (b .big4 .ensures .0) (k .before .if2 .left),
       sym (k .is-ktx .ensures),
       not-true (k .is-ktx .result) (c .if3 .taken),
     )
@@ -47,7 +47,7 @@ returns-4 c =
     let b = k .before .before in
     simp (
       le-ltb _ _ (b .before .if1 .left),
-      other (b .big .ensures .0) (k .before .if2 .left),
+      other (b .big4 .ensures .0) (k .before .if2 .left),
       sym (k .is-ktx .ensures),
       not-false (k .is-ktx .result) (c .before .if3 .left),
       lt-ltb _ _ (c .if4 .taken),
@@ -63,7 +63,7 @@ returns-5 c =
     let b = k .before .before in
     simp (
       le-ltb _ _ (b .before .if1 .left),
-      other (b .big .ensures .0) (k .before .if2 .left),
+      other (b .big4 .ensures .0) (k .before .if2 .left),
       sym (k .is-ktx .ensures),
       not-false (k .is-ktx .result) (c .before .before .if3 .left),
       le-ltb _ _ (c .before .if4 .left),
@@ -75,7 +75,7 @@ read-header-spec =
     tie.close
     (tie.spec
     returns
-    big-requires
+    big4-requires
     pkm-requires
     returns-2
     is-ktx-requires

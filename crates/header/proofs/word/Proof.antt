@@ -3,28 +3,28 @@
 use mathlib.Core.Path.{_∙_, sym, ap}
 use mathlib.Core.Bool.{Bool}
 use denote.Ref.{now}
-use Rattle.header.specs.Words.{word32}
+use Rattle.header.specs.Files.{word32}
 use borrow.Author.Needs.{needs}
 use Rattle.header.proofs.word.Statement.{statement}
 use Rattle.header.proofs.word.Tie as tie
 
-big-requires : tie.Need-big-requires
-big-requires c κs = search needs
+big4-requires : tie.Need-big4-requires
+big4-requires c κs = search needs
 
-little-requires : tie.Need-little-requires
-little-requires c κs = search needs
+little4-requires : tie.Need-little4-requires
+little4-requires c κs = search needs
 
 returns : tie.Need-returns
 unfolding word32
 returns c =
     let a = c .before .before .before .args in
-    (c .big .ensures .0 ∙ sym (ap (λ (b : Bool). word32 b (now (a .d)) (a .at)) (c .before .if1 .taken)), c .big .ensures .1)
+    (c .big4 .ensures .0 ∙ sym (ap (λ (b : Bool). word32 b (now (a .d)) (a .at)) (c .before .if1 .taken)), c .big4 .ensures .1)
 
 returns-2 : tie.Need-returns-2
 unfolding word32
 returns-2 c =
     let a = c .before .before .before .args in
-    (c .little .ensures .0 ∙ sym (ap (λ (b : Bool). word32 b (now (a .d)) (a .at)) (c .before .if1 .left)), c .little .ensures .1)
+    (c .little4 .ensures .0 ∙ sym (ap (λ (b : Bool). word32 b (now (a .d)) (a .at)) (c .before .if1 .left)), c .little4 .ensures .1)
 
 pub word-spec : {M : Type 1} → statement M
-word-spec = tie.close (tie.spec big-requires little-requires returns returns-2)
+word-spec = tie.close (tie.spec big4-requires little4-requires returns returns-2)

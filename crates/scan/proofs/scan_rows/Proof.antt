@@ -4,7 +4,7 @@
 use Prim.Native.Nat.{_-_, _≤_}
 use native.Mathlib.Omega.{arith}
 use lib.ListN.{length}
-use Rattle.laws.proofs.Outcome.{refusal}
+use Rattle.laws.proofs.Unique.{refusal}
 use Rattle.scan.proofs.Laws.{Clear, begin, further, stops, ends}
 use borrow.Author.Needs.{needs}
 use Rattle.scan.proofs.scan_rows.Statement.{statement}

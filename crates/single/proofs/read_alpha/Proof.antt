@@ -51,7 +51,9 @@ returns-2 c =
     let a = start (t .before .before) .args in
     let d = now (a .«data») in
     let l = now (a .image) in
-    let e = c .before .before .before .before .a8-onto .ensures ∙ ap (λ (s : List ℕ). build 16 (λ k. withAlpha (getD s k 0) (alphaByte d (k % 4) (k / 4)))) (c .before .before .before .before .before .first-sixteen .ensures) in
+    let e =
+    c .before .before .before .before .a8-onto .ensures
+    ∙ ap (λ (s : List ℕ). build 16 (λ k. withAlpha (getD s k 0) (alphaByte d (k % 4) (k / 4)))) (c .before .before .before .before .before .first-sixteen .ensures) in
     done _ _ l _ (clear t .zero) (c .before .before .place-block .ensures ∙ sixteen (λ k. withAlpha (getD l k 0) (alphaByte d (k % 4) (k / 4))) _ l e)
 
 pub read-alpha-spec : {M : Type 1} → statement M

@@ -16,7 +16,9 @@ abbrev start : tie.After-verify → tie.Start
 start c = c .before .before .before .before
 
 -- where the answer is Done, both checks have passed
-clear : (c : tie.After-enum-told) → Passed (sizeOf (start (c .before .before) .args .f)) (length (now (start (c .before .before) .args .«data»))) (length (now (start (c .before .before) .args .image)))
+clear : (c : tie.After-enum-told)
+    → Passed (sizeOf (start (c .before .before) .args .f)) (length (now (start (c .before .before) .args .«data»)))
+    (length (now (start (c .before .before) .args .image)))
 clear c = passed _ _ _ _ (rw (c .before .before .before .size .ensures .0) at (c .before .before .verify .ensures)) (c .enum-told .given .1)
 
 size-requires : tie.Need-size-requires
@@ -47,7 +49,9 @@ returns-2 c =
     let t = c .before .before .before .before .before in
     let a = start (t .before .before) .args in
     let d = now (a .«data») in
-    done _ _ (now (a .image)) _ (clear t .zero) (c .before .before .place-block .ensures ∙ sixteen (λ k. showsOf (a .f) d (k % 4) (k / 4)) _ (now (a .image)) (c .before .before .before .before .block .ensures))
+    done _ _ (now (a .image)) _ (clear t .zero)
+    (c .before .before .place-block .ensures
+    ∙ sixteen (λ k. showsOf (a .f) d (k % 4) (k / 4)) _ (now (a .image)) (c .before .before .before .before .block .ensures))
 
 pub read-block-spec : {M : Type 1} → statement M
 read-block-spec =

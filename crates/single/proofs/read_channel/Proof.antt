@@ -28,7 +28,9 @@ clear : (c : tie.After-enum-told) → Passed 8 (length (now (start (c .before .b
 clear c = passed _ _ _ _ (c .before .before .verify .ensures) (c .enum-told .given .1)
 
 -- the channel is one of four, so these are the checks that are left
-four : (c : tie.After-verify) → blockVerdict 8 (now (start c .args .«data»)) (now (start c .args .image)) ≡ channelVerdict (start c .args .channel) (now (start c .args .«data»)) (now (start c .args .image))
+four : (c : tie.After-verify)
+    → blockVerdict 8 (now (start c .args .«data»)) (now (start c .args .image))
+    ≡ channelVerdict (start c .args .channel) (now (start c .args .«data»)) (now (start c .args .image))
 four c = channel-checked (start c .args .channel) (length (now (start c .args .«data»))) (length (now (start c .args .image))) (c .before .if1 .left)
 
 returns : tie.Need-returns
@@ -65,8 +67,11 @@ returns-3 c =
     let a = start (t .before .before) .args in
     let d = now (a .«data») in
     let l = now (a .image) in
-    let e = c .before .before .before .before .eac-onto .ensures ∙ ap (λ (s : List ℕ). build 16 (λ k. orChannel (a .channel) (getD s k 0) (eacByte (a .signed) d (k % 4) (k / 4)))) (c .before .before .before .before .before .first-sixteen .ensures) in
-    done _ _ l _ (clear t .zero ∙ four (t .before .before)) (c .before .before .place-block .ensures ∙ sixteen (λ k. orChannel (a .channel) (getD l k 0) (eacByte (a .signed) d (k % 4) (k / 4))) _ l e)
+    let e =
+    c .before .before .before .before .eac-onto .ensures
+    ∙ ap (λ (s : List ℕ). build 16 (λ k. orChannel (a .channel) (getD s k 0) (eacByte (a .signed) d (k % 4) (k / 4)))) (c .before .before .before .before .before .first-sixteen .ensures) in
+    done _ _ l _ (clear t .zero ∙ four (t .before .before))
+    (c .before .before .place-block .ensures ∙ sixteen (λ k. orChannel (a .channel) (getD l k 0) (eacByte (a .signed) d (k % 4) (k / 4))) _ l e)
 
 pub read-channel-spec : {M : Type 1} → statement M
 read-channel-spec =

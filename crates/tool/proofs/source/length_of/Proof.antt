@@ -10,7 +10,7 @@ use Rattle.tool.proofs.source.length_of.Tie as tie
 cast-result : tie.Need-cast-result
 cast-result c =
     let s = c .before .before in
-    let m = clamp-mid w64 1099511627776 (s .args .end) (s .fits .end) (c .before .if1 .left) (c .if2 .left) in
+    let m = clamp-mid w64 0x10000000000 (s .args .end) (s .fits .end) (c .before .if1 .left) (c .if2 .left) in
     (m .0, record { fits = omega (arith, m .1) })
 
 returns : tie.Need-returns

@@ -1,11 +1,11 @@
--- `records::little4` meets its contract.
+-- `numbers::little4` meets its contract.
 -- Assumes nothing.
 use native.Mathlib.Omega.{arith}
 use denote.Ref.{now}
-use Rattle.records.proofs.Little.{four}
+use Rattle.numbers.proofs.Little.{four}
 use borrow.Author.Needs.{needs}
-use Rattle.records.proofs.little4.Statement.{statement}
-use Rattle.records.proofs.little4.Tie as tie
+use Rattle.numbers.proofs.little4.Statement.{statement}
+use Rattle.numbers.proofs.little4.Tie as tie
 
 little2-requires : tie.Need-little2-requires
 little2-requires c κs = search needs

@@ -1,12 +1,9 @@
--- `png::put_word` meets its contract: the four bytes of a number.
+-- `numbers::put_big4` meets its contract: four bytes, each by one division.
 -- Assumes nothing.
-use mathlib.Core.Path.{_∙_, ap}
-use lib.Seq.{sets}
-use denote.Ref.{now}
-use Rattle.laws.proofs.Rows.{four}
+use Rattle.numbers.proofs.Big.{fourth}
 use borrow.Author.Needs.{needs}
-use Rattle.png.proofs.put_word.Statement.{statement}
-use Rattle.png.proofs.put_word.Tie as tie
+use Rattle.numbers.proofs.put_big4.Statement.{statement}
+use Rattle.numbers.proofs.put_big4.Tie as tie
 
 byte-requires : tie.Need-byte-requires
 byte-requires c κs = search needs
@@ -30,11 +27,12 @@ returns : tie.Need-returns
 returns c =
     let b = c .before .before .before .before in
     let a = b .before .before .before .before .before .args in
-    c .before .before .put4 .ensures
-    ∙ ap (sets (now (a .out)) (a .at)) (four (b .before .before .before .byte .ensures) (b .before .before .byte2 .ensures) (b .before .byte3 .ensures) (b .byte4 .ensures))
+    rw (fourth (a .n))
+    (simp (b .before .before .before .byte .ensures, b .before .before .byte2 .ensures, b .before .byte3 .ensures, b .byte4 .ensures)
+    at (c .before .before .put4 .ensures))
 
-pub put-word-spec : {M : Type 1} → statement M
-put-word-spec =
+pub put-big4-spec : {M : Type 1} → statement M
+put-big4-spec =
     tie.close
     (tie.spec
     byte-requires

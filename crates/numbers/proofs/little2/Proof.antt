@@ -1,11 +1,11 @@
--- `records::little2` meets its contract.
+-- `numbers::little2` meets its contract.
 -- Assumes nothing.
 use native.Mathlib.Omega.{arith}
 use denote.Ref.{now}
-use Rattle.records.proofs.Little.{two}
+use Rattle.numbers.proofs.Little.{two}
 use borrow.Author.Needs.{needs}
-use Rattle.records.proofs.little2.Statement.{statement}
-use Rattle.records.proofs.little2.Tie as tie
+use Rattle.numbers.proofs.little2.Statement.{statement}
+use Rattle.numbers.proofs.little2.Tie as tie
 
 shared-slice-read-wide : tie.Need-shared-slice-read-wide
 shared-slice-read-wide c = search needs

@@ -1,0 +1,3 @@
+pub mod Little
+pub mod Big
+pub mod Stores
