@@ -19,7 +19,9 @@ use Rattle.rules.specs.declared.Picture.{Picture}
 use Rattle.rules.specs.declared.Sheet.{Sheet}
 use Rattle.rules.specs.declared.Sheet.the-variants.{Holds}
 use Rattle.laws.proofs.Unique.{answer}
-use Rattle.rules.specs.Records.{little, inBytes, Record, encoded, Records, more, ended, recordsOf, first, later, kept}
+use Rattle.numbers.specs.Numbers.{little, inBytes}
+use Rattle.rules.specs.Records.{Record, encoded, Records, more, ended, recordsOf, first, later, kept}
+use Rattle.numbers.proofs.Little.{past, back}
 use Rattle.records.proofs.Walk.{at-the-end}
 use Rattle.rules.specs.Sheets.{sheetLimit, formatOf, blockBytes, formatIn, sizeIn, isHead, afterHead, fromHead, walkVerdict}
 use Rattle.rules.specs.Sheets.{headVerdict, headRecord, blockRecord, sheetOf, sheetOver, TellsHead, ReadsSheet, WritesSheet}
@@ -28,7 +30,7 @@ use Rattle.sheet.proofs.Sizes.{bytes}
 use Rattle.sheet.proofs.Checks.{Accepted, passed}
 use Rattle.sheet.proofs.Shown.{tells, reads-room, plainly}
 use Rattle.claims.proofs.Determined.{picture-determined}
-use Rattle.claims.proofs.Encoded.{Fits, back, past, one}
+use Rattle.claims.proofs.Encoded.{Fits, one}
 use Rattle.claims.proofs.Sheets.{head-determined}
 
 module _ (f : ℕ) (p : Picture) (b : List ℕ) (room : ℕ) (s : Accepted f p b room) where

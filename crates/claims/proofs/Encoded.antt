@@ -1,38 +1,15 @@
--- What is written is met by the walk over a sheet: numbers, one record, and records one after another.
+-- What is written is met by the walk over a sheet: one record, and records one after another.
 -- Assumes nothing.
 use mathlib.Core.Path.{_≡_, _∙_, refl, sym, ap}
 use mathlib.Core.List.{List, [], _∷_, _++_, append-assoc}
-use Prim.Native.Nat.{ℕ, zero, suc, _+_, _*_, _/_, _%_, _≤_, _<_}
+use Prim.Native.Nat.{ℕ, _+_, _≤_, _<_}
 use native.Mathlib.Omega.{arith}
-use native.Mathlib.Nat.{add-zero}
 use lib.ListN.{length, take, drop, length-append}
 use lib.Seq.{take-at, drop-at, drop-drop}
-use Rattle.rules.specs.Records.{little, inBytes, Record, encoded, Records, more, lengthIn, behind, recordsOf}
-use Rattle.records.proofs.Little.{moved}
+use Rattle.numbers.specs.Numbers.{little, inBytes}
+use Rattle.rules.specs.Records.{Record, encoded, Records, more, lengthIn, behind, recordsOf}
+use Rattle.numbers.proofs.Little.{past, back}
 use Rattle.records.proofs.Walk.{whole}
-
--- how many numbers n bytes can say
-abbrev pub top : ℕ → ℕ
-top zero = 1
-top (suc n) = 256 * top n
-
-split : (x y : ℕ) → y ≡ x / 256 → x % 256 + 256 * y ≡ x
-split x y e = omega arith
-
-less : (x t : ℕ) → x < 256 * t → x / 256 < t
-less x t h = omega arith
-
--- read behind a first part of the list
-pub past : (n : ℕ) (p d : List ℕ) (k : ℕ) → length p ≡ k → little n k (p ++ d) ≡ little n 0 d
-past n p d k e =
-    ap (λ (z : ℕ). little n z (p ++ d)) (sym (add-zero k)) ∙ sym (moved n 0 k (p ++ d)) ∙ ap (little n 0) (drop-at p d k e)
-
--- a number that was written is read back
-pub back : (n x : ℕ) (l : List ℕ) → x < top n → little n 0 (inBytes n x ++ l) ≡ x
-unfolding little inBytes
-back zero x l h = omega arith
-back (suc n) x l h =
-    split x (little n 1 (inBytes (suc n) x ++ l)) (past n (x % 256 ∷ []) (inBytes n (x / 256) ++ l) 1 refl ∙ back n (x / 256) l (less x (top n) h))
 
 -- a record that its fields can say
 pub record Fits (r : Record) : Type 0 where

@@ -8,8 +8,9 @@ use native.Mathlib.Nat.{add-zero}
 use borrow.Author.Tests.{le-leb, lt-leb}
 use lib.ListN.{length, take, drop, length-drop}
 use lib.Seq.{drop-drop}
-use Rattle.rules.specs.Records.{little, Records, more, ended, short, lengthIn, recordIn, behind, recordsOf, kept}
-use Rattle.records.proofs.Little.{moved}
+use Rattle.numbers.specs.Numbers.{little}
+use Rattle.rules.specs.Records.{Records, more, ended, short, lengthIn, recordIn, behind, recordsOf, kept}
+use Rattle.numbers.proofs.Little.{moved}
 use Rattle.records.proofs.Walk.{at-the-end, cut-short, whole}
 use types.Run.{OneOf, miss}
 use denote.Enum.Declared

@@ -7,13 +7,14 @@ use mathlib.Core.List.{List, [], _∷_, _++_}
 use Prim.Native.Nat.{ℕ, _/_, _%_}
 use lib.Dec.{T}
 use lib.ListN.{length, replicate}
+use Rattle.numbers.specs.Numbers.{little, inBytes}
 use Rattle.rules.specs.Places.{sized, painted}
 use Rattle.rules.specs.Answers.{said, accepts, left}
 use Rattle.rules.specs.Colour.{differential, wrapped, kindBySums}
 use Rattle.rules.specs.Modes.{tBases, tDistance, hBases, hDistance, planarBases, planarChannel, indexed, rgbPixel, rgba1Pixel, etc1Pixel}
 use Rattle.rules.specs.Channels.{alphaStep, alphaByte, rgba8Pixel, eacValue, eacByte, redPixel, redGreenPixel}
 use Rattle.rules.specs.Formats.{sizeOf, showsOf}
-use Rattle.rules.specs.Records.{little, inBytes, walked, kept}
+use Rattle.rules.specs.Records.{walked, kept}
 use Rattle.rules.specs.Sheets.{formatOf, told, headVerdict, TellsHead, readVerdict, sheetPicture, ReadsSheet, sheetOf, writeVerdict, sheetOver, WritesSheet}
 use Rattle.rules.specs.declared.Answer.{Answer}
 use Rattle.rules.specs.declared.Answer.the-variants.{CutShort, NoHead, OtherKind, WrongBlocks}

@@ -2,25 +2,16 @@
 -- Assumes nothing.
 use mathlib.Core.Bool.{Bool, cond}
 use mathlib.Core.List.{List, [], _∷_, _++_}
-use Prim.Native.Nat.{ℕ, zero, suc, _+_, _*_, _/_, _%_}
+use Prim.Native.Nat.{ℕ, zero, suc, _+_}
 use lib.Dec.{ltb, leb}
 use lib.ListN.{length, take, drop}
-use Rattle.rules.specs.Notation.{byte}
-
--- "all numbers are little-endian": what n bytes say, from byte k on; and a number in n bytes
-unfoldable pub little : ℕ → ℕ → List ℕ → ℕ
-little zero k d = 0
-little (suc n) k d = byte d k + 256 * little n (suc k) d
-
-unfoldable pub inBytes : ℕ → ℕ → List ℕ
-inBytes zero x = []
-inBytes (suc n) x = x % 256 ∷ inBytes n (x / 256)
+use Rattle.numbers.specs.Numbers.{little, inBytes}
 
 pub record Record : Type 0 where
   pub kind : ℕ
   pub payload : List ℕ
 
--- "A record is a payload length (four bytes), a kind (two bytes), then the payload": as bytes,
+-- "A record is a payload length (four bytes), a kind (two bytes), then the payload; all numbers are little-endian": as bytes,
 abbrev pub encoded : Record → List ℕ
 encoded r = inBytes 4 (length (r .payload)) ++ (inBytes 2 (r .kind) ++ r .payload)
 

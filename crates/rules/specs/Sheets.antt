@@ -7,6 +7,7 @@ use mathlib.Core.List.{List, [], _∷_, _++_}
 use Prim.Native.Nat.{ℕ, _*_}
 use lib.Dec.{eqb, ltb}
 use lib.ListN.{length, getD, drop}
+use Rattle.numbers.specs.Numbers.{little, inBytes}
 use Rattle.rules.specs.Notation.{byte}
 use Rattle.rules.specs.Places.{sized, needed, blocks}
 use Rattle.rules.specs.Answers.{said, accepts, Check, refusal, judged, sidesCheck, imageCheck, verdict, Outcome}
@@ -19,7 +20,7 @@ use Rattle.rules.specs.declared.Picture.{Picture}
 use Rattle.rules.specs.declared.Sheet.{Sheet}
 use Rattle.rules.specs.declared.Sheet.the-variants.{Holds, Refused}
 use Rattle.rules.specs.declared.Written.{Written}
-use Rattle.rules.specs.Records.{little, inBytes, Record, encoded, Records, more, ended, short, recordsOf, first, later, kept}
+use Rattle.rules.specs.Records.{Record, encoded, Records, more, ended, short, recordsOf, first, later, kept}
 
 -- "Size limit 1": a sheet has a limit of its own, so that its four-byte length can say the blocks
 abbrev pub sheetLimit : ℕ

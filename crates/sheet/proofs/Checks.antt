@@ -10,7 +10,7 @@ use lib.Dec.{eqb, ltb}
 use lib.ListN.{length}
 use Rattle.rules.specs.Answers.{accepts, Check, refusal, verdict, tooLarge, sidesCheck, imageCheck}
 use Rattle.rules.specs.declared.Picture.{Picture}
-use Rattle.rules.specs.Records.{inBytes}
+use Rattle.numbers.specs.Numbers.{inBytes}
 use Rattle.rules.specs.Sheets.{sheetLimit, blockBytes, sheetOf, writeChecks, writeVerdict}
 use Rattle.laws.proofs.Judged as judged-laws
 use Rattle.picture.proofs.Checks.{fails, passes, within}

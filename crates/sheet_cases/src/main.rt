@@ -23,7 +23,7 @@ fn answer_one(case: &mut [u8; 512]) -> bool {
         return false;
     }
     let mut said = [0u8; 512];
-    if records::little4(case, 0) == 0 {
+    if numbers::little4(case, 0) == 0 {
         read_case(case, &mut said);
     } else {
         write_case(case, &mut said);
@@ -66,8 +66,8 @@ fn put_word(said: &mut [u8; 512], at: usize, x: usize)
 fn read_case(case: &[u8], said: &mut [u8; 512])
     requires { ⌜ 512 ≤ length (now case) ⌝ }
 {
-    let end = 24 + at_most(488, records::little4(case, 16));
-    let m = at_most(122, records::little4(case, 20));
+    let end = 24 + at_most(488, numbers::little4(case, 16));
+    let m = at_most(122, numbers::little4(case, 20));
     let mut image = [0x11111111u32; 122];
     tell_head(etc::sheet_head(&case[24..end]), said);
     let answer = etc::read_sheet(&case[24..end], &mut image[..m]);
@@ -102,13 +102,13 @@ fn show(image: &[u32; 122], m: usize, said: &mut [u8; 512])
 fn write_case(case: &[u8], said: &mut [u8; 512])
     requires { ⌜ 512 ≤ length (now case) ⌝ }
 {
-    let end = 24 + at_most(488, records::little4(case, 16));
-    let m = at_most(488, records::little4(case, 20));
+    let end = 24 + at_most(488, numbers::little4(case, 16));
+    let m = at_most(488, numbers::little4(case, 20));
     let mut out = [0xEEu8; 488];
     let written = etc::write_sheet(
-        records::little4(case, 4),
-        records::little4(case, 8),
-        records::little4(case, 12),
+        numbers::little4(case, 4),
+        numbers::little4(case, 8),
+        numbers::little4(case, 12),
         &case[24..end],
         &mut out[..m],
     );

@@ -14,11 +14,12 @@ use denote.Enum.Declared
 use Rattle.rules.specs.Places.{sized}
 use Rattle.rules.specs.Answers.{refusal, judged, tooLarge}
 use Rattle.rules.specs.declared.Answer.the-variants.{CutShort, NoHead, TooLarge}
-use Rattle.rules.specs.Records.{little, Record, Records, more, recordsOf, first, kept}
+use Rattle.numbers.specs.Numbers.{little}
+use Rattle.rules.specs.Records.{Record, Records, more, recordsOf, first, kept}
 use Rattle.records.specs.Turns.{at, all, Turn, Stands}
 use Rattle.records.specs.declared.Met as met
 use Rattle.records.proofs.Met.{the-type}
-use Rattle.records.proofs.Little.{moved, inside}
+use Rattle.numbers.proofs.Little.{moved, inside}
 use Rattle.rules.specs.Sheets.{sheetLimit, blockBytes, formatIn, sizeIn, isHead, afterHead, walkVerdict, headIn}
 use Rattle.picture.proofs.Checks.{within}
 use Rattle.sheet.specs.Shown.{walk}

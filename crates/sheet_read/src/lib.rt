@@ -48,8 +48,8 @@ fn first_record(d: &[u8]) -> Found
     if 7 < format {
         return Found::Refused(Answer::NoHead);
     }
-    let width = records::little4(d, start + 1);
-    let height = records::little4(d, start + 5);
+    let width = numbers::little4(d, start + 1);
+    let height = numbers::little4(d, start + 5);
     let pic = Picture {
         width: width,
         height: height,

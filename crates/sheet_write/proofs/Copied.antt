@@ -8,7 +8,7 @@ use lib.ListN.{length, take, drop, length-drop, drop-of-length-le}
 use lib.Seq.{take-length, take-at, drop-at, drop-drop}
 use Rattle.laws.proofs.Parts.{rest}
 use Rattle.rules.specs.declared.Picture.{Picture}
-use Rattle.rules.specs.Records.{inBytes}
+use Rattle.numbers.specs.Numbers.{inBytes}
 use Rattle.rules.specs.Sheets.{sheetOf, sheetOver}
 use Rattle.sheet.proofs.Checks.{sheet-length}
 use Rattle.sheet_write.specs.Front.{frontOf}

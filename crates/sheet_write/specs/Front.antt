@@ -3,7 +3,8 @@
 use mathlib.Core.List.{List, _++_}
 use Prim.Native.Nat.{ℕ}
 use Rattle.rules.specs.declared.Picture.{Picture}
-use Rattle.rules.specs.Records.{inBytes, encoded}
+use Rattle.numbers.specs.Numbers.{inBytes}
+use Rattle.rules.specs.Records.{encoded}
 use Rattle.rules.specs.Sheets.{headRecord}
 
 -- the head's record, and the length and the kind of the record of n bytes of blocks

@@ -1,7 +1,7 @@
 -- `sheet_write::front_of` meets its contract: byte by byte.
 -- Assumes nothing.
 use mathlib.Core.Path.{refl}
-use Rattle.rules.specs.Records.{inBytes}
+use Rattle.numbers.specs.Numbers.{inBytes}
 use borrow.Author.Needs.{needs}
 use Rattle.sheet_write.proofs.front_of.Statement.{statement}
 use Rattle.sheet_write.proofs.front_of.Tie as tie
