@@ -26,7 +26,8 @@ pub fn record_at(d: &[u8], at: usize) -> Met
     if left - 6 < len {
         return Met::Cut;
     }
-    Met::Whole(numbers::little2(d, at + 4), at + 6, len)
+    let start = at + 6;
+    Met::Whole(numbers::little2(d, at + 4), start, len)
 }
 
 // The first record from a place on that is not skipped.

@@ -26,14 +26,14 @@ returns-3 c =
     let a = c .before .before .before .before .before .args in
     is-cut (now (a .d)) (a .at) (search needs) _ (c .before .little4 .ensures .0) (search needs) (omega arith)
 
+add-start : tie.Need-add-start
+add-start c = search needs
+
 add-little2 : tie.Need-add-little2
 add-little2 c = search needs
 
 little2-requires : tie.Need-little2-requires
 little2-requires c κs = search needs
-
-add-t8 : tie.Need-add-t8
-add-t8 c = search needs
 
 returns-4 : tie.Need-returns-4
 returns-4 c =
@@ -49,7 +49,7 @@ record-at-spec =
     returns-2
     little4-requires
     returns-3
+    add-start
     add-little2
     little2-requires
-    add-t8
     returns-4)
