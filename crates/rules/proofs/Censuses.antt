@@ -10,31 +10,31 @@ use lib.Dec.{T}
 use lib.ListN.{drop}
 use Rattle.rules.specs.Places.{sized}
 use Rattle.rules.specs.Census.{Test, countOf, rgbTests, rgba1Tests, census}
-use Rattle.rules.proofs.Rows.{same, bytes}
+use Rattle.rules.proofs.Rows.{same, bytes as eights}
 
 record Row : Type 0 where
   tests : List Test
-  lent : List ℕ
+  bytes : List ℕ
   width : ℕ
   height : ℕ
   says : List ℕ
 
 every : List Row → Bool
 every [] = true
-every (r ∷ rs) = same (census (r .tests) (r .lent) (sized (r .width) (r .height))) (r .says) && every rs
+every (r ∷ rs) = same (census (r .tests) (r .bytes) (sized (r .width) (r .height))) (r .says) && every rs
 
 counted : List Test → List ℕ → ℕ → ℕ → List ℕ → Row
-counted tests lent w h says = record { tests = tests; lent = lent; width = w; height = h; says = says }
+counted tests bytes w h says = record { tests = tests; bytes = bytes; width = w; height = h; says = says }
 
 -- a block alone, with its counts under RGB and under RGBA1
 alone : ℕ → List ℕ → List ℕ → List Row → List Row
 alone block rgb rgba1 rest =
-    counted rgbTests (bytes (block ∷ [])) 4 4 (0 ∷ rgb) ∷ counted rgba1Tests (bytes (block ∷ [])) 4 4 (0 ∷ rgba1) ∷ rest
+    counted rgbTests (eights (block ∷ [])) 4 4 (0 ∷ rgb) ∷ counted rgba1Tests (eights (block ∷ [])) 4 4 (0 ∷ rgba1) ∷ rest
 
 -- S1, S6, S2, S3, S4, S7; all sums out of range; T, H and planar with the bit clear; S5 twice
 mixed : List ℕ
 mixed =
-    bytes
+    eights
     (0
     ∷ 0xF800000200000000
     ∷ 0x0400000200000000
