@@ -12,24 +12,27 @@
  *                      image[y * width + x]; a pixel is
  *                      alpha << 24 | red << 16 | green << 8 | blue.
  *   out, out_len       the same for the sixteen pixels of one block, row by row.
+ *   counts, counts_len the counts of a census and how many there is room for.
  *
  * Answers
- *   0  done: the picture's width * height elements, or a block's 16, are written. No other
- *      element is touched, so what lies behind the picture keeps its value.
+ *   0  done: the picture's width * height elements, or a block's 16, or a census's 5 or 8 counts
+ *      are written. No other element is touched, so what lies behind them keeps its value.
  *   1  refused: the width or the height is above 16384.
  *   2  refused: data_len is less than the blocks have. A picture has
  *      ((width + 3) / 4) * ((height + 3) / 4) blocks of 8 bytes, or 16 where it says so below.
- *   3  refused: image_len is less than width * height, or out_len less than 16.
+ *   3  refused: image_len is less than width * height, or out_len less than 16, or counts_len
+ *      less than the census has counts.
  *   4  refused by yalivucu_decode_etc1_strict alone: a block's base plus step is out of range.
  *   5  refused: the channel is above 3.
- * Pictures test 1, 2, 3, 4 in that order, blocks 5, 2, 3. A refusal touches no element.
+ * Pictures test 1, 2, 3, 4 in that order, blocks 5, 2, 3, censuses 1, 2, 3. A refusal touches no
+ * element.
  *
  * What the caller owes
- *   data points to data_len bytes that may be read, image (out) to image_len (out_len)
- *   elements that may be read and written, aligned as uint32_t is, and the two do not overlap.
- *   Where a length is 0 the pointer is not followed and may be NULL. C checks none of this, and
- *   nothing here can. No number and no content of the bytes is wrong: for those there are the
- *   answers.
+ *   data points to data_len bytes that may be read, image (out, counts) to image_len (out_len,
+ *   counts_len) elements that may be read and written, aligned as their type is, and the two do
+ *   not overlap. Where a length is 0 the pointer is not followed and may be NULL. C checks none of
+ *   this, and nothing here can. No number and no content of the bytes is wrong: for those there
+ *   are the answers.
  */
 #ifndef YALIVUCU_H
 #define YALIVUCU_H
@@ -100,6 +103,35 @@ uint32_t yalivucu_decode_etc2_a8_block(const uint8_t *data, size_t data_len, uin
  * out[0] to out[15]. */
 uint32_t yalivucu_decode_eac_block(const uint8_t *data, size_t data_len, size_t channel, uint32_t *out, size_t out_len);
 uint32_t yalivucu_decode_eac_signed_block(const uint8_t *data, size_t data_len, size_t channel, uint32_t *out, size_t out_len);
+
+/* Which kinds of blocks a picture of 8-byte blocks has: the count of each kind at its place below,
+ * together all blocks of the picture. Nothing is painted. The counts are written with answer 0
+ * alone; where counts has fewer than YALIVUCU_RGB_COUNTS or YALIVUCU_RGBA1_COUNTS elements the
+ * answer is 3 and none is written, tested after 1 and 2. Where it has more, the others are kept. */
+enum yalivucu_rgb_count {
+    YALIVUCU_RGB_INDIVIDUAL,
+    YALIVUCU_RGB_DIFFERENTIAL,
+    YALIVUCU_RGB_T,
+    YALIVUCU_RGB_H,
+    YALIVUCU_RGB_PLANAR,
+    YALIVUCU_RGB_COUNTS
+};
+
+/* RGBA1 has no individual blocks; each of its kinds is split by the block's opaque bit. */
+enum yalivucu_rgba1_count {
+    YALIVUCU_RGBA1_OPAQUE_DIFFERENTIAL,
+    YALIVUCU_RGBA1_OPAQUE_T,
+    YALIVUCU_RGBA1_OPAQUE_H,
+    YALIVUCU_RGBA1_OPAQUE_PLANAR,
+    YALIVUCU_RGBA1_CLEAR_DIFFERENTIAL,
+    YALIVUCU_RGBA1_CLEAR_T,
+    YALIVUCU_RGBA1_CLEAR_H,
+    YALIVUCU_RGBA1_CLEAR_PLANAR,
+    YALIVUCU_RGBA1_COUNTS
+};
+
+uint32_t yalivucu_census_etc2_rgb(const uint8_t *data, size_t data_len, size_t width, size_t height, size_t *counts, size_t counts_len);
+uint32_t yalivucu_census_etc2_rgba1(const uint8_t *data, size_t data_len, size_t width, size_t height, size_t *counts, size_t counts_len);
 
 #ifdef __cplusplus
 }

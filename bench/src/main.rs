@@ -32,6 +32,7 @@ fn main() {
             TURNS,
             &make(SIDE * SIDE / 16, &[blocks::Half::Colour], &mut Random::new(SEED)),
         );
+        counted(make);
         println!();
     }
     println!("filling the image alone: {:.2} ms\n", filled(SIDE));
@@ -56,6 +57,27 @@ fn compared(format: &Format, make: Maker) -> bool {
         if same { "yes" } else { "NO" }
     );
     same
+}
+
+/// A row for each census, which paints nothing and which the crate does not have.
+fn counted(make: Maker) {
+    let rows: [(&str, blocks::Half, fn(&[u8])); 2] = [
+        ("RGB", blocks::Half::Colour, |data| {
+            black_box(yalivucu::census_etc2_rgb(data, SIDE, SIDE).expect("refused"));
+        }),
+        ("RGBA1", blocks::Half::Punched, |data| {
+            black_box(yalivucu::census_etc2_rgba1(data, SIDE, SIDE).expect("refused"));
+        }),
+    ];
+    for (name, half, count) in rows {
+        let data = make(SIDE * SIDE / 16, &[half], &mut Random::new(SEED));
+        let turns = (0..TURNS).map(|_| {
+            let began = clock::seconds();
+            count(black_box(&data));
+            clock::seconds() - began
+        });
+        println!("| census of {name} | | {:.2} | | |", median(turns.collect()) * 1e3);
+    }
 }
 
 /// Nanoseconds a pixel, crate and library, by the side of the picture. Small pictures are read

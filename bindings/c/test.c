@@ -147,6 +147,42 @@ static void channels(void)
     untouched("eac_block", 16);
 }
 
+/* Blocks of the specimens: individual, differential, T, H, planar; and T with its bit clear. */
+static const uint8_t KINDS[6 * 8] = {
+    [8] = 0xf8, [8 + 3] = 0x02, [16] = 0x04, [16 + 3] = 0x02, [24 + 1] = 0x04, [24 + 3] = 0x02,
+    [32 + 2] = 0x04, [32 + 3] = 0x02, [40] = 0x04,
+};
+
+/* A census of so many counts: refusals that write none, and then a picture of 24 by 4 pixels. */
+static void census(const char *what, uint32_t (*count)(const uint8_t *, size_t, size_t, size_t, size_t *, size_t),
+                   size_t most, const size_t *wanted)
+{
+    size_t counts[9];
+    for (size_t k = 0; k < 9; k++) counts[k] = 77;
+    same(what, count(KINDS, 48, 16385, 0, counts, 0), YALIVUCU_TOO_LARGE);
+    same(what, count(KINDS, 47, 24, 4, counts, 0), YALIVUCU_SHORT_DATA);
+    same(what, count(KINDS, 48, 24, 4, counts, most - 1), YALIVUCU_SHORT_IMAGE);
+    for (size_t k = 0; k < 9; k++) same(what, (uint32_t)counts[k], 77);
+    same(what, count(KINDS, 48, 24, 4, counts, 9), YALIVUCU_DONE);
+    for (size_t k = 0; k < 9; k++) same(what, (uint32_t)counts[k], k < most ? (uint32_t)wanted[k] : 77);
+    same(what, count(KINDS, 48, 0, 4, counts, most), YALIVUCU_DONE);
+    for (size_t k = 0; k < 9; k++) same(what, (uint32_t)counts[k], k < most ? 0 : 77);
+}
+
+static void censuses(void)
+{
+    const size_t rgb[YALIVUCU_RGB_COUNTS] = {
+        [YALIVUCU_RGB_INDIVIDUAL] = 2, [YALIVUCU_RGB_DIFFERENTIAL] = 1, [YALIVUCU_RGB_T] = 1,
+        [YALIVUCU_RGB_H] = 1, [YALIVUCU_RGB_PLANAR] = 1,
+    };
+    const size_t rgba1[YALIVUCU_RGBA1_COUNTS] = {
+        [YALIVUCU_RGBA1_OPAQUE_DIFFERENTIAL] = 1, [YALIVUCU_RGBA1_OPAQUE_T] = 1, [YALIVUCU_RGBA1_OPAQUE_H] = 1,
+        [YALIVUCU_RGBA1_OPAQUE_PLANAR] = 1, [YALIVUCU_RGBA1_CLEAR_DIFFERENTIAL] = 1, [YALIVUCU_RGBA1_CLEAR_T] = 1,
+    };
+    census("census_etc2_rgb", yalivucu_census_etc2_rgb, YALIVUCU_RGB_COUNTS, rgb);
+    census("census_etc2_rgba1", yalivucu_census_etc2_rgba1, YALIVUCU_RGBA1_COUNTS, rgba1);
+}
+
 int main(void)
 {
     pictures();
@@ -154,6 +190,7 @@ int main(void)
     strict();
     blocks();
     channels();
+    censuses();
     puts(failures ? "C: FAILED" : "C: passed");
     return failures != 0;
 }

@@ -25,6 +25,7 @@
 #![no_std]
 #![warn(missing_docs)]
 
+mod census;
 mod refusal;
 mod sys;
 pub mod typed;

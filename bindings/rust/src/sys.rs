@@ -20,6 +20,11 @@ macro_rules! declared_channel {
         pub fn $name(data: *const u8, data_len: usize, channel: usize, out: *mut u32, out_len: usize) -> u32;
     )*};
 }
+macro_rules! declared_census {
+    ($($name:ident)*) => {$(
+        pub fn $name(data: *const u8, data_len: usize, width: usize, height: usize, counts: *mut usize, counts_len: usize) -> u32;
+    )*};
+}
 
 extern "C" {
     declared! {
@@ -46,6 +51,10 @@ extern "C" {
     declared_channel! {
         yalivucu_decode_eac_block
         yalivucu_decode_eac_signed_block
+    }
+    declared_census! {
+        yalivucu_census_etc2_rgb
+        yalivucu_census_etc2_rgba1
     }
     pub fn yalivucu_decode_etc1_strict(
         data: *const u8,

@@ -1,10 +1,11 @@
-// The public readers by the numbers of oracle/PROTOCOL.md.
+// The public readers and censuses by the numbers of oracle/PROTOCOL.md.
+use super::census;
 use rules::Answer;
 ghost use Prim.Native.Nat.{_≤_};
 
 // Whether a number names a reader.
 pub fn is_reader(number: u32) -> bool {
-    number <= 8 || (number >= 16 && number <= 26)
+    number <= 8 || (number >= 16 && number <= 26) || number == 32 || number == 33
 }
 
 // Calls the reader of a number on the first n bytes and the first m elements.
@@ -38,6 +39,12 @@ fn call(
     }
     if number <= 20 {
         return colour_block(number, data, image);
+    }
+    if number == 32 {
+        return census::rgb(data, width, height, image);
+    }
+    if number == 33 {
+        return census::rgba1(data, width, height, image);
     }
     channel_block(number, channel, data, image)
 }

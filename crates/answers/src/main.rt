@@ -2,6 +2,7 @@
 // compares each answer with the one that the list has for it, and says what differs.
 mod call;
 mod case;
+mod census;
 mod replay;
 mod wire;
 

@@ -1,2 +1,4 @@
 pub mod Block
 pub mod Unique
+pub mod Laid
+pub mod Counted

@@ -3,10 +3,14 @@
 // nothing can check. include/yalivucu.h tells a C programmer the same in words.
 use rules::Answer;
 use rules::Format;
+use rules::RgbCensus;
+use rules::Rgba1Census;
 ghost use mathlib.Core.Path.{_≡_};
 ghost use mathlib.Core.Bool.{true, false};
 ghost use Rattle.rules.specs.Places.{sized};
 ghost use Rattle.rules.specs.Readers.{ReadsPicture, ReadsStrict, ReadsBlock, ReadsAlpha, ReadsChannel};
+ghost use Rattle.rules.specs.Census.{rgbTests, rgba1Tests};
+ghost use Rattle.capi.specs.Census.{Lays, CountsInto};
 ghost use Rattle.capi.specs.Told.{Told, blockOr};
 
 // Reads an ETC1 picture.
@@ -242,4 +246,72 @@ pub extern "C" fn yalivucu_decode_eac_signed_block(
     ensures { λ r. ⌜ Told (λ a. ReadsChannel true (now («data» .entry)) channel (now (out .entry)) a (now (out .exit))) r ⌝ }
 {
     etc::number(etc::decode_eac_signed_block(data, channel, out))
+}
+
+// Lays counts into the room lent for them, where there is enough.
+fn lay(counts: &[usize], room: &mut [usize]) -> u32
+    ensures { λ r. ⌜ Lays (now (counts .entry)) (now (room .entry)) r (now (room .exit)) ⌝ }
+{
+    if room.len() < counts.len() {
+        return 3;
+    }
+    let mut i: usize = 0;
+    while i < counts.len() {
+        room[i] = counts[i];
+        i += 1;
+    }
+    0
+}
+
+// Counts the blocks of each kind of an ETC2 RGB picture: individual, differential, T, H, planar.
+#[no_mangle]
+pub extern "C" fn yalivucu_census_etc2_rgb(
+    data: &[u8],
+    width: usize,
+    height: usize,
+    counts: &mut [usize],
+) -> u32
+    ensures { λ r. ⌜ Told (λ a. CountsInto rgbTests (now («data» .entry)) (sized width height)
+        (now (counts .entry)) a (now (counts .exit))) r ⌝ }
+{
+    match etc::census_etc2_rgb(data, width, height) {
+        RgbCensus::TooLarge => 1,
+        RgbCensus::ShortData => 2,
+        RgbCensus::Counted(c) => {
+            let five = [c.individual, c.differential, c.t, c.h, c.planar];
+            lay(&five, counts)
+        }
+    }
+}
+
+// Counts the blocks of each kind of an ETC2 RGBA1 picture: differential, T, H, planar with the opaque bit set, and then with it clear.
+#[no_mangle]
+pub extern "C" fn yalivucu_census_etc2_rgba1(
+    data: &[u8],
+    width: usize,
+    height: usize,
+    counts: &mut [usize],
+) -> u32
+    ensures { λ r. ⌜ Told (λ a. CountsInto rgba1Tests (now («data» .entry)) (sized width height)
+        (now (counts .entry)) a (now (counts .exit))) r ⌝ }
+{
+    match etc::census_etc2_rgba1(data, width, height) {
+        Rgba1Census::TooLarge => 1,
+        Rgba1Census::ShortData => 2,
+        Rgba1Census::Counted(c) => {
+            let o = c.opaque;
+            let u = c.clear;
+            let eight = [
+                o.differential,
+                o.t,
+                o.h,
+                o.planar,
+                u.differential,
+                u.t,
+                u.h,
+                u.planar,
+            ];
+            lay(&eight, counts)
+        }
+    }
 }

@@ -5,3 +5,4 @@ pub mod Pictures
 pub mod Guarded
 pub mod Strict
 pub mod Blocks
+pub mod Census

@@ -1,15 +1,19 @@
-// The public list of src/etc.rs: eleven block readers, eight picture readers and strict ETC1. None asks anything of its caller.
-// Each promises the answer and every element of the lent image afterwards, for all inputs; what that is, crates/rules/specs/Readers.antt
-// says for all of them. Refusals: 1 width or height above 16,384; 2 too few bytes; 3 too few elements; 4 a block out of range, with its
-// number (strict only); 5 a channel above 3. A refusal changes nothing.
+// The public list of src/etc.rs: eleven block readers, eight picture readers and strict ETC1; and two censuses. None asks anything of
+// its caller. Each reader promises the answer and every element of the lent image afterwards, for all inputs; what that is,
+// crates/rules/specs/Readers.antt says for all of them, and Census.antt beside it what a census promises. Refusals: 1 width or height
+// above 16,384; 2 too few bytes; 3 too few elements; 4 a block out of range, with its number (strict only); 5 a channel above 3. A
+// refusal changes nothing.
 use rules::Answer;
 use rules::Format;
 use rules::Picture;
+use rules::RgbCensus;
+use rules::Rgba1Census;
 ghost use mathlib.Core.Path.{_≡_};
 ghost use mathlib.Core.Bool.{true, false};
 ghost use lib.ListN.{getD};
 ghost use Rattle.rules.specs.Places.{sized};
 ghost use Rattle.rules.specs.Answers.{said};
+ghost use Rattle.rules.specs.Census.{CountsRgb, CountsRgba1};
 ghost use Rattle.rules.specs.Readers.{ReadsPicture, ReadsStrict, ReadsBlock, ReadsAlpha, ReadsChannel};
 
 // Document 01's number of an answer.
@@ -182,4 +186,26 @@ pub fn decode_eac_signed_block(data: &[u8], channel: usize, image: &mut [u32]) -
     ensures { λ r. ⌜ ReadsChannel true (now («data» .entry)) channel (now (image .entry)) r (now (image .exit)) ⌝ }
 {
     single::read_channel(true, data, channel, image)
+}
+
+// Counts the blocks of each kind of an ETC2 RGB picture, or refuses with 1 or 2 and counts nothing.
+pub fn census_etc2_rgb(data: &[u8], width: usize, height: usize) -> RgbCensus
+    ensures { λ r. ⌜ CountsRgb (now («data» .entry)) (sized width height) r ⌝ }
+{
+    let pic = Picture {
+        width: width,
+        height: height,
+    };
+    census::rgb(data, pic)
+}
+
+// Counts the blocks of each kind of an ETC2 RGBA1 picture, split by the opaque bit, or refuses with 1 or 2 and counts nothing.
+pub fn census_etc2_rgba1(data: &[u8], width: usize, height: usize) -> Rgba1Census
+    ensures { λ r. ⌜ CountsRgba1 (now («data» .entry)) (sized width height) r ⌝ }
+{
+    let pic = Picture {
+        width: width,
+        height: height,
+    };
+    census::rgba1(data, pic)
 }

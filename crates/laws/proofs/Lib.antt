@@ -15,3 +15,5 @@ pub mod Outcome
 pub mod Reach
 pub mod Judged
 pub mod Guards
+pub mod Counts
+pub mod Sorted

@@ -1,2 +1,3 @@
 pub mod Painted
 pub mod Kinds
+pub mod Sorted

@@ -15,3 +15,5 @@ pub mod Channels
 pub mod Formats
 pub mod Guards
 pub mod Readers
+-- document 02: which kinds of blocks a picture has
+pub mod Census

@@ -37,3 +37,39 @@ pub struct Picture {
     pub width: usize,
     pub height: usize,
 }
+
+// How many blocks of a picture are of each kind, under ETC2 RGB.
+pub struct RgbCounts {
+    pub individual: usize,
+    pub differential: usize,
+    pub t: usize,
+    pub h: usize,
+    pub planar: usize,
+}
+
+// How many are of each of the four kinds that RGBA1 has.
+pub struct KindCounts {
+    pub differential: usize,
+    pub t: usize,
+    pub h: usize,
+    pub planar: usize,
+}
+
+// The same with the opaque bit set, and with it clear.
+pub struct Rgba1Counts {
+    pub opaque: KindCounts,
+    pub clear: KindCounts,
+}
+
+// What the two censuses answer. Document 02's number and values of each case are `rgbSaid` and `rgba1Said`, in specs/Census.antt.
+pub enum RgbCensus {
+    Counted(RgbCounts),
+    TooLarge,
+    ShortData,
+}
+
+pub enum Rgba1Census {
+    Counted(Rgba1Counts),
+    TooLarge,
+    ShortData,
+}

@@ -4,7 +4,7 @@
 use crate::blocks::{bytes, Fill, MODES};
 use crate::protocol::{Case, MOST_DATA, MOST_IMAGE};
 use crate::random::Random;
-use crate::readers::{block_size, has_channel, has_modes, is_block, is_eac, RGBA1, STRICT};
+use crate::readers::{block_size, has_channel, has_modes, is_block, is_eac, room, RGBA1, STRICT};
 use crate::rules::blocks_across;
 
 #[derive(Clone, Copy)]
@@ -175,7 +175,7 @@ fn small_sizes() -> impl Iterator<Item = (u32, u32)> {
 
 fn needed(reader: u32, width: u32, height: u32) -> (usize, usize) {
     let blocks = blocks_across(width) * blocks_across(height);
-    (blocks * block_size(reader), width as usize * height as usize)
+    (blocks * block_size(reader), room(reader, width, height))
 }
 
 impl Plan {

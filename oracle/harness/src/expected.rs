@@ -1,7 +1,8 @@
 //! What the answer to a case must be: the crate's own answer and image, changed by the
 //! equations of the differences that are listed. Refusals that the crate does not have
-//! come from document 01's table.
+//! come from document 01's table. The crate has no census: those are counted here.
 
+use crate::census;
 use crate::protocol::{Answer, Case};
 use crate::readers::*;
 use crate::rules::verdict;
@@ -24,6 +25,9 @@ pub struct Expected {
 }
 
 pub fn expected(case: &Case, listed: &[String]) -> Expected {
+    if is_census(case.reader) {
+        return Expected { answer: census::counted(case), touched: 0 };
+    }
     let (number, block) = verdict(case);
     if matches!(number, 2 | 3) && !is_block(case.reader) {
         return Expected { answer: crate_answer(case), touched: 0 };

@@ -4,6 +4,7 @@
 
 mod blocks;
 mod cases;
+mod census;
 mod examples;
 mod expected;
 mod pictures;
@@ -84,7 +85,8 @@ fn compare(options: &Options) -> Result<bool> {
     same &= compare_specimens(options)?;
     same &= examples::of_crate(&options.program)?;
     same &= examples::crate_has_no_such_refusal();
-    for reader in readers::PICTURES.chain(readers::BLOCKS) {
+    same &= census::by_hand(&options.program)?;
+    for reader in readers::PICTURES.chain(readers::BLOCKS).chain(readers::CENSUSES) {
         same &= compare_reader(reader, options)?;
     }
     Ok(same)

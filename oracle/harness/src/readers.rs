@@ -26,8 +26,13 @@ pub const BLOCK_EACR_SIGNED: u32 = 24;
 pub const BLOCK_EACRG: u32 = 25;
 pub const BLOCK_EACRG_SIGNED: u32 = 26;
 
+/// Censuses of blocks; what they lend is room for the counts.
+pub const CENSUS_RGB: u32 = 32;
+pub const CENSUS_RGBA1: u32 = 33;
+
 pub const PICTURES: std::ops::RangeInclusive<u32> = ETC1..=STRICT;
 pub const BLOCKS: std::ops::RangeInclusive<u32> = BLOCK_ETC1..=BLOCK_EACRG_SIGNED;
+pub const CENSUSES: std::ops::RangeInclusive<u32> = CENSUS_RGB..=CENSUS_RGBA1;
 
 pub fn name(reader: u32) -> &'static str {
     match reader {
@@ -52,12 +57,18 @@ pub fn name(reader: u32) -> &'static str {
         BLOCK_EACR_SIGNED => "eacr_signed_block",
         BLOCK_EACRG => "eacrg_block",
         BLOCK_EACRG_SIGNED => "eacrg_signed_block",
+        CENSUS_RGB => "census_etc2_rgb",
+        CENSUS_RGBA1 => "census_etc2_rgba1",
         _ => "unknown",
     }
 }
 
 pub fn is_block(reader: u32) -> bool {
-    reader >= BLOCK_ETC1
+    BLOCKS.contains(&reader)
+}
+
+pub fn is_census(reader: u32) -> bool {
+    CENSUSES.contains(&reader)
 }
 
 /// The two readers that name a channel.
@@ -70,6 +81,15 @@ pub fn block_size(reader: u32) -> usize {
         RGBA8 | EACRG | EACRG_SIGNED | WIDE_EACRG | WIDE_EACRG_SIGNED | BLOCK_RGBA8 | BLOCK_EACRG
         | BLOCK_EACRG_SIGNED => 16,
         _ => 8,
+    }
+}
+
+/// Elements of the image that a call needs: one a pixel, or one a count.
+pub fn room(reader: u32, width: u32, height: u32) -> usize {
+    match reader {
+        CENSUS_RGB => 5,
+        CENSUS_RGBA1 => 8,
+        _ => width as usize * height as usize,
     }
 }
 
@@ -95,8 +115,8 @@ pub enum Half {
 pub fn half(reader: u32, second: bool) -> Half {
     match reader {
         ETC1 | STRICT | BLOCK_ETC1 => Half::Etc1,
-        RGB | BLOCK_RGB => Half::Rgb,
-        RGBA1 | BLOCK_RGBA1 => Half::Rgba1,
+        RGB | BLOCK_RGB | CENSUS_RGB => Half::Rgb,
+        RGBA1 | BLOCK_RGBA1 | CENSUS_RGBA1 => Half::Rgba1,
         RGBA8 | BLOCK_RGBA8 if second => Half::Rgb,
         RGBA8 | BLOCK_RGBA8 | BLOCK_A8 => Half::Alpha,
         _ => Half::Eac,

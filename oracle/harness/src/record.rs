@@ -1,7 +1,9 @@
 //! The stored list that crates/answers replays: a few hundred cases with the answers of
-//! decoders that nobody here wrote. The program under test is not asked.
+//! decoders that nobody here wrote, and censuses counted from the bytes. The program under test
+//! is not asked.
 
 use crate::cases::{stored_accepted_plan, stored_plan};
+use crate::census;
 use crate::expected::{expected, lowest_base_raised};
 use crate::pictures;
 use crate::protocol::{ask, Case, Pair};
@@ -60,6 +62,12 @@ pub fn record(options: &crate::Options) -> Result<bool> {
         added.extend(ours);
     }
     list.group("document 01's added refusals", &added);
+    list.group("censuses counted by hand", &census::specimens());
+    for reader in CENSUSES {
+        let cases = stored_plan(reader, options.seed).into_iter().map(|shape| shape.case());
+        let pairs: Vec<Pair> = cases.map(|case| (case.clone(), census::counted(&case))).collect();
+        list.group(&format!("counted: {}", name(reader)), &pairs);
+    }
     seconds(options, &mut list)?;
     list.wrong("wrong on purpose: a bit of an image", &wrong_images(&shown));
     list.wrong("wrong on purpose: a bit of an answer", &wrong_answers(&shown[0], &added)?);

@@ -2,7 +2,7 @@
 //! few differences in full.
 
 use crate::protocol::{Answer, Case};
-use crate::readers::{block_size, elements, is_block, name};
+use crate::readers::{block_size, elements, is_block, is_census, name};
 use crate::rules::{blocks, blocks_across};
 use std::time::{Duration, Instant};
 
@@ -86,6 +86,9 @@ impl Report {
 
 // The block that an element belongs to, with its bytes and the pixel in it.
 fn place(case: &Case, k: usize) -> String {
+    if is_census(case.reader) {
+        return String::new();
+    }
     let width = if is_block(case.reader) { 4 } else { case.width as usize };
     let pixel = k / elements(case.reader);
     let (x, y) = (pixel % width.max(1), pixel / width.max(1));

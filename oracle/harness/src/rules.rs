@@ -2,7 +2,7 @@
 //! refuses never reach the crate, which has no such checks or has fewer of them.
 
 use crate::protocol::Case;
-use crate::readers::{block_size, has_channel, is_block, STRICT};
+use crate::readers::{block_size, has_channel, is_block, room, STRICT};
 
 const LIMIT: u32 = 16_384;
 
@@ -46,7 +46,7 @@ fn picture_verdict(case: &Case) -> (u32, u32) {
     if case.data.len() < blocks(case) * block_size(case.reader) {
         return (2, 0);
     }
-    if case.image.len() < case.width as usize * case.height as usize {
+    if case.image.len() < room(case.reader, case.width, case.height) {
         return (3, 0);
     }
     if case.reader == STRICT {

@@ -1,0 +1,76 @@
+-- The census of document 01's blocks, counted by hand, as rows of one list: one test that antt computes over the definitions that
+-- the censuses promise. Each block stands alone first, so that a row fails where a test is met that should not be; then all of them
+-- in one picture, clipped and not, and refused. Blocks of our own are marked: three sums out of range at once, and T, H and planar
+-- with the bit clear.
+-- Assumes nothing.
+use mathlib.Core.Bool.{Bool, true, _&&_}
+use mathlib.Core.List.{List, [], _∷_}
+use Prim.Native.Nat.{ℕ}
+use lib.Dec.{T}
+use lib.ListN.{drop}
+use Rattle.rules.specs.Places.{sized}
+use Rattle.rules.specs.Census.{Test, countOf, rgbTests, rgba1Tests, census}
+use Rattle.rules.proofs.Rows.{same, bytes as eights}
+
+record Row : Type 0 where
+  tests : List Test
+  bytes : List ℕ
+  width : ℕ
+  height : ℕ
+  says : List ℕ
+
+every : List Row → Bool
+every [] = true
+every (r ∷ rs) = same (census (r .tests) (r .bytes) (sized (r .width) (r .height))) (r .says) && every rs
+
+counted : List Test → List ℕ → ℕ → ℕ → List ℕ → Row
+counted tests bytes w h says = record { tests = tests; bytes = bytes; width = w; height = h; says = says }
+
+-- a block alone, with its counts under RGB and under RGBA1
+alone : ℕ → List ℕ → List ℕ → List Row → List Row
+alone block rgb rgba1 rest =
+    counted rgbTests (eights (block ∷ [])) 4 4 (0 ∷ rgb) ∷ counted rgba1Tests (eights (block ∷ [])) 4 4 (0 ∷ rgba1) ∷ rest
+
+-- S1, S6, S2, S3, S4, S7; all sums out of range; T, H and planar with the bit clear; S5 twice
+mixed : List ℕ
+mixed =
+    eights
+    (0
+    ∷ 0xF800000200000000
+    ∷ 0x0400000200000000
+    ∷ 0x0004000200000000
+    ∷ 0x000004020000003F
+    ∷ 0xF900000200000000
+    ∷ 0x0404040200000000
+    ∷ 0x0400000000000000
+    ∷ 0x0004040000000000
+    ∷ 0x0000040000000000
+    ∷ 0x80000000FFFF0000
+    ∷ 0x80000000FFFF0000
+    ∷ [])
+
+specimens : List Row
+specimens =
+    alone 0 (1 ∷ 0 ∷ 0 ∷ 0 ∷ 0 ∷ []) (0 ∷ 0 ∷ 0 ∷ 0 ∷ 1 ∷ 0 ∷ 0 ∷ 0 ∷ [])
+    (alone 0x0400000200000000 (0 ∷ 0 ∷ 1 ∷ 0 ∷ 0 ∷ []) (0 ∷ 1 ∷ 0 ∷ 0 ∷ 0 ∷ 0 ∷ 0 ∷ 0 ∷ [])
+    (alone 0x0004000200000000 (0 ∷ 0 ∷ 0 ∷ 1 ∷ 0 ∷ []) (0 ∷ 0 ∷ 1 ∷ 0 ∷ 0 ∷ 0 ∷ 0 ∷ 0 ∷ [])
+    (alone 0x000004020000003F (0 ∷ 0 ∷ 0 ∷ 0 ∷ 1 ∷ []) (0 ∷ 0 ∷ 0 ∷ 1 ∷ 0 ∷ 0 ∷ 0 ∷ 0 ∷ [])
+    (alone 0x80000000FFFF0000 (1 ∷ 0 ∷ 0 ∷ 0 ∷ 0 ∷ []) (0 ∷ 0 ∷ 0 ∷ 0 ∷ 1 ∷ 0 ∷ 0 ∷ 0 ∷ [])
+    (alone 0xF800000200000000 (0 ∷ 1 ∷ 0 ∷ 0 ∷ 0 ∷ []) (1 ∷ 0 ∷ 0 ∷ 0 ∷ 0 ∷ 0 ∷ 0 ∷ 0 ∷ [])
+    (alone 0xF900000200000000 (0 ∷ 0 ∷ 1 ∷ 0 ∷ 0 ∷ []) (0 ∷ 1 ∷ 0 ∷ 0 ∷ 0 ∷ 0 ∷ 0 ∷ 0 ∷ [])
+    (alone 0x0404040200000000 (0 ∷ 0 ∷ 1 ∷ 0 ∷ 0 ∷ []) (0 ∷ 1 ∷ 0 ∷ 0 ∷ 0 ∷ 0 ∷ 0 ∷ 0 ∷ [])
+    (alone 0x0400000000000000 (1 ∷ 0 ∷ 0 ∷ 0 ∷ 0 ∷ []) (0 ∷ 0 ∷ 0 ∷ 0 ∷ 0 ∷ 1 ∷ 0 ∷ 0 ∷ [])
+    (alone 0x0004040000000000 (1 ∷ 0 ∷ 0 ∷ 0 ∷ 0 ∷ []) (0 ∷ 0 ∷ 0 ∷ 0 ∷ 0 ∷ 0 ∷ 1 ∷ 0 ∷ [])
+    (alone 0x0000040000000000 (1 ∷ 0 ∷ 0 ∷ 0 ∷ 0 ∷ []) (0 ∷ 0 ∷ 0 ∷ 0 ∷ 0 ∷ 0 ∷ 0 ∷ 1 ∷ [])
+    (counted rgbTests mixed 16 12 (0 ∷ 6 ∷ 1 ∷ 3 ∷ 1 ∷ 1 ∷ [])
+    ∷ counted rgba1Tests mixed 16 12 (0 ∷ 1 ∷ 3 ∷ 1 ∷ 1 ∷ 3 ∷ 1 ∷ 1 ∷ 1 ∷ [])
+    ∷ counted rgbTests mixed 9 5 (0 ∷ 1 ∷ 1 ∷ 2 ∷ 1 ∷ 1 ∷ [])
+    ∷ counted rgba1Tests mixed 9 5 (0 ∷ 1 ∷ 2 ∷ 1 ∷ 1 ∷ 1 ∷ 0 ∷ 0 ∷ 0 ∷ [])
+    ∷ counted rgbTests mixed 0 9 (0 ∷ 0 ∷ 0 ∷ 0 ∷ 0 ∷ 0 ∷ [])
+    ∷ counted rgbTests (drop 1 mixed) 16 12 (2 ∷ [])
+    ∷ counted rgba1Tests [] 16385 0 (1 ∷ [])
+    ∷ [])))))))))))
+
+hold : T (every specimens)
+unfolding every counted alone mixed specimens countOf
+hold = tt
