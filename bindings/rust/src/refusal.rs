@@ -97,8 +97,14 @@ impl fmt::Display for Refusal {
                 "Refusal {number}: an ETC1 block has a sum out of range, the first of them block {block}."
             ),
             Refusal::NoChannel => write!(f, "Refusal {number}: the channel is above 3."),
-            Refusal::CutShort => write!(f, "Refusal {number}: a record of the sheet is cut short, or there is none."),
-            Refusal::NoHead => write!(f, "Refusal {number}: the sheet has no head, or its format has no number."),
+            Refusal::CutShort => write!(
+                f,
+                "Refusal {number}: a record of the sheet is cut short, or there is none."
+            ),
+            Refusal::NoHead => write!(
+                f,
+                "Refusal {number}: the sheet has no head, or its format has no number."
+            ),
             Refusal::OtherKind => write!(f, "Refusal {number}: the sheet has a record of an unknown kind."),
             Refusal::WrongBlocks => write!(f, "Refusal {number}: the sheet has not exactly its blocks."),
             Refusal::Unknown { .. } => write!(f, "Refusal {number}: the linked library is not this package's own."),

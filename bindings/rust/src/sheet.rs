@@ -39,8 +39,7 @@ pub fn sheet_head(sheet: &[u8]) -> Result<Head, Refusal> {
     let (mut format, mut width, mut height) = (0, 0, 0);
     // SAFETY: the pointer and the length are those of a slice that lives through the call, and
     // the three numbers are locals of their own.
-    let number =
-        unsafe { sys::yalivucu_sheet_head(sheet.as_ptr(), sheet.len(), &mut format, &mut width, &mut height) };
+    let number = unsafe { sys::yalivucu_sheet_head(sheet.as_ptr(), sheet.len(), &mut format, &mut width, &mut height) };
     Refusal::answered(number, 0)?;
     let picture = Picture::new(width, height);
     let format = *NUMBERED.get(format).ok_or(Refusal::Unknown { number })?;

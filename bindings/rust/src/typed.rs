@@ -10,7 +10,7 @@
 //! assert_eq!(image[..4], [0xff020202, 0xff020202, 0xffe90202, 0xffe90202]);
 //! # Ok::<(), Refusal>(())
 //! ```
-pub use crate::census::{census_etc2_rgb, census_etc2_rgba1, KindCounts, Rgba1Counts, RgbCounts};
+pub use crate::census::{census_etc2_rgb, census_etc2_rgba1, KindCounts, RgbCounts, Rgba1Counts};
 pub use crate::refusal::Refusal;
 pub use crate::sheet::{read_sheet, sheet_head, write_sheet, Head};
 use crate::sys;

@@ -33,7 +33,10 @@ fn counted_by_hand() {
         h: 0,
         planar: 1,
     };
-    assert_eq!(census_etc2_rgba1(&data, Picture::new(16, 8)), Ok(Rgba1Counts { opaque, clear }));
+    assert_eq!(
+        census_etc2_rgba1(&data, Picture::new(16, 8)),
+        Ok(Rgba1Counts { opaque, clear })
+    );
 }
 
 /// The first two of the blocks alone are in a picture of 5 by 1.
@@ -43,14 +46,23 @@ fn leftover_bytes_are_not_counted() {
     let counts = census_etc2_rgb(&data, Picture::new(5, 1)).unwrap();
     assert_eq!((counts.t, counts.h, counts.planar), (2, 0, 0));
     assert_eq!(census_etc2_rgb(&[], Picture::new(0, 9)), Ok(RgbCounts::default()));
-    assert_eq!(census_etc2_rgba1(&data, Picture::new(16384, 0)), Ok(Rgba1Counts::default()));
+    assert_eq!(
+        census_etc2_rgba1(&data, Picture::new(16384, 0)),
+        Ok(Rgba1Counts::default())
+    );
 }
 
 #[test]
 fn refusals() {
     for (width, height) in [(16385, 0), (0, 16385), (usize::MAX, usize::MAX)] {
-        assert_eq!(census_etc2_rgb(&[], Picture::new(width, height)), Err(Refusal::TooLarge));
-        assert_eq!(census_etc2_rgba1(&[], Picture::new(width, height)), Err(Refusal::TooLarge));
+        assert_eq!(
+            census_etc2_rgb(&[], Picture::new(width, height)),
+            Err(Refusal::TooLarge)
+        );
+        assert_eq!(
+            census_etc2_rgba1(&[], Picture::new(width, height)),
+            Err(Refusal::TooLarge)
+        );
     }
     assert_eq!(census_etc2_rgb(&[0; 31], Picture::new(5, 5)), Err(Refusal::ShortData));
     assert_eq!(census_etc2_rgba1(&[0; 31], Picture::new(5, 5)), Err(Refusal::ShortData));
