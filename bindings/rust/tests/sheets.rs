@@ -70,7 +70,7 @@ fn a_damaged_sheet_paints_nothing() {
 #[test]
 fn the_writer_refuses_and_writes_nothing() {
     let mut room = [0xEE; 60];
-    let mut write = |width: usize, bytes: usize, room: &mut [u8]| {
+    let write = |width: usize, bytes: usize, room: &mut [u8]| {
         write_sheet(Format::EacRgSigned, Picture::new(width, 4), &vec![0; bytes], room)
     };
     assert_eq!(write(usize::MAX, 0, &mut []), Err(Refusal::TooLarge));
