@@ -24,8 +24,14 @@
  *      less than the census has counts.
  *   4  refused by yalivucu_decode_etc1_strict alone: a block's base plus step is out of range.
  *   5  refused: the channel is above 3.
- * Pictures test 1, 2, 3, 4 in that order, blocks 5, 2, 3, censuses 1, 2, 3. A refusal touches no
- * element.
+ *   7  refused, of a sheet: a record is cut short, or there are no bytes at all.
+ *   8  refused: the first record is not of kind 1, not 9 bytes long, or its format is above 7;
+ *      of the writer: the format is above 7.
+ *   9  refused: a record of another kind, a second one of kind 1 included.
+ *  10  refused: no record of blocks, a second one, or blocks that are not of the exact length.
+ * Pictures test 1, 2, 3, 4 in that order, blocks 5, 2, 3, censuses 1, 2, 3. A sheet is walked front
+ * to back and the first fault is the answer, 3 last; the writer tests 8, 1, 10, 3. A refusal touches
+ * no element.
  *
  * What the caller owes
  *   data points to data_len bytes that may be read, image (out, counts) to image_len (out_len,
@@ -50,7 +56,11 @@ enum yalivucu_answer {
     YALIVUCU_SHORT_DATA = 2,
     YALIVUCU_SHORT_IMAGE = 3,
     YALIVUCU_OUT_OF_RANGE = 4,
-    YALIVUCU_NO_CHANNEL = 5
+    YALIVUCU_NO_CHANNEL = 5,
+    YALIVUCU_CUT_SHORT = 7,
+    YALIVUCU_NO_HEAD = 8,
+    YALIVUCU_OTHER_KIND = 9,
+    YALIVUCU_WRONG_BLOCKS = 10
 };
 
 /* Pictures in blocks of 8 bytes. */
@@ -132,6 +142,19 @@ enum yalivucu_rgba1_count {
 
 uint32_t yalivucu_census_etc2_rgb(const uint8_t *data, size_t data_len, size_t width, size_t height, size_t *counts, size_t counts_len);
 uint32_t yalivucu_census_etc2_rgba1(const uint8_t *data, size_t data_len, size_t width, size_t height, size_t *counts, size_t counts_len);
+
+/* A sheet: a head that names a format, 0 ETC1, 1 ETC2 RGB, 2 RGBA1, 3 RGBA8, 4 EAC R, 5 R signed,
+ * 6 RG, 7 RG signed, with width and height; and the blocks. sheet, sheet_len are its bytes, all of
+ * them and no others. Where the answer of the first is 0, *format, *width and *height are what the
+ * head says, and the second then refuses with 3 alone; otherwise they are not written, and the
+ * second gives the same answer. They are not NULL and point to three different numbers. */
+uint32_t yalivucu_sheet_head(const uint8_t *sheet, size_t sheet_len, size_t *format, size_t *width, size_t *height);
+uint32_t yalivucu_read_sheet(const uint8_t *sheet, size_t sheet_len, uint32_t *image, size_t image_len);
+
+/* Writes a sheet to the front of room: 21 bytes and the blocks. With answer 0, *written is the
+ * number of its bytes; with any other answer it is not written. Here answer 3 means that room_len
+ * is less than that. */
+uint32_t yalivucu_write_sheet(size_t format, size_t width, size_t height, const uint8_t *blocks, size_t blocks_len, uint8_t *room, size_t room_len, size_t *written);
 
 #ifdef __cplusplus
 }

@@ -4,6 +4,7 @@ mod android;
 mod blocks;
 mod clock;
 mod formats;
+mod sheet;
 
 use blocks::Random;
 use formats::{Format, FORMATS};
@@ -33,6 +34,8 @@ fn main() {
             &make(SIDE * SIDE / 16, &[blocks::Half::Colour], &mut Random::new(SEED)),
         );
         counted(make);
+        let halves = [blocks::Half::Alpha, blocks::Half::Colour];
+        alike &= sheet::print(SIDE, TURNS, &make(SIDE * SIDE / 16, &halves, &mut Random::new(SEED)));
         println!();
     }
     println!("filling the image alone: {:.2} ms\n", filled(SIDE));
@@ -129,7 +132,7 @@ fn alternated(format: &Format, data: &[u8], side: usize, pictures: usize, turns:
 }
 
 /// Seconds of work on an image that is cleared first.
-fn timed(image: &mut [u32], work: impl Fn(&mut [u32])) -> f64 {
+pub fn timed(image: &mut [u32], work: impl Fn(&mut [u32])) -> f64 {
     image.fill(0);
     let began = clock::seconds();
     work(black_box(image));

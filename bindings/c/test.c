@@ -183,6 +183,43 @@ static void censuses(void)
     census("census_etc2_rgba1", yalivucu_census_etc2_rgba1, YALIVUCU_RGBA1_COUNTS, rgba1);
 }
 
+static void sheets(void)
+{
+    uint8_t room[48];
+    size_t written = 77, format = 77, width = 77, height = 77;
+    memset(room, 0xEE, sizeof room);
+    same("write, format", yalivucu_write_sheet(8, 16385, 1, ZERO, 0, room, 0, &written), YALIVUCU_NO_HEAD);
+    same("write, large", yalivucu_write_sheet(3, SIZE_MAX, 1, ZERO, 0, room, 0, &written), YALIVUCU_TOO_LARGE);
+    same("write, blocks", yalivucu_write_sheet(3, 4, 3, ZERO, 15, room, 0, &written), YALIVUCU_WRONG_BLOCKS);
+    same("write, room", yalivucu_write_sheet(3, 4, 3, ZERO, 16, room, 36, &written), YALIVUCU_SHORT_IMAGE);
+    same("write, refused", room[0], 0xEE);
+    same("write, not written", (uint32_t)written, 77);
+    same("write", yalivucu_write_sheet(3, 4, 3, ZERO, 16, room, sizeof room, &written), YALIVUCU_DONE);
+    same("write, bytes", (uint32_t)written, 37);
+    same("write, behind", room[37], 0xEE);
+    same("head", yalivucu_sheet_head(room, written, &format, &width, &height), YALIVUCU_DONE);
+    same("head, format", (uint32_t)format, 3);
+    same("head, width", (uint32_t)width, 4);
+    same("head, height", (uint32_t)height, 3);
+    clear();
+    same("sheet, short image", yalivucu_read_sheet(room, written, image, 11), YALIVUCU_SHORT_IMAGE);
+    untouched("sheet, short image", 0);
+    same("sheet", yalivucu_read_sheet(room, written, image, MOST), YALIVUCU_DONE);
+    same("sheet, painted", image[11], 0x00020202);
+    untouched("sheet", 12);
+    clear();
+    format = 77;
+    same("sheet, cut", yalivucu_read_sheet(room, 36, image, MOST), YALIVUCU_CUT_SHORT);
+    same("head, cut", yalivucu_sheet_head(room, 36, &format, &width, &height), YALIVUCU_CUT_SHORT);
+    same("head, not written", (uint32_t)format, 77);
+    same("sheet, no blocks", yalivucu_read_sheet(room, 15, image, MOST), YALIVUCU_WRONG_BLOCKS);
+    room[19] = 3;
+    same("sheet, other kind", yalivucu_read_sheet(room, written, image, MOST), YALIVUCU_OTHER_KIND);
+    room[6] = 8;
+    same("sheet, format", yalivucu_read_sheet(room, written, image, MOST), YALIVUCU_NO_HEAD);
+    untouched("sheet, refused", 0);
+}
+
 int main(void)
 {
     pictures();
@@ -191,6 +228,7 @@ int main(void)
     blocks();
     channels();
     censuses();
+    sheets();
     puts(failures ? "C: FAILED" : "C: passed");
     return failures != 0;
 }

@@ -27,6 +27,7 @@
 
 mod census;
 mod refusal;
+mod sheet;
 mod sys;
 pub mod typed;
 

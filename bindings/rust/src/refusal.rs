@@ -9,7 +9,8 @@ pub enum Refusal {
     TooLarge,
     /// Refusal 2: there are fewer bytes than the blocks have.
     ShortData,
-    /// Refusal 3: there are fewer elements than the picture or the block has pixels.
+    /// Refusal 3: there are fewer elements than the picture or the block has pixels; of the
+    /// writer of sheets: less room than the sheet needs.
     ShortImage,
     /// Refusal 4, of the strict reader alone: a base plus its step lies outside 0 to 31.
     OutOfRange {
@@ -18,6 +19,14 @@ pub enum Refusal {
     },
     /// Refusal 5: the channel is above 3.
     NoChannel,
+    /// Refusal 7, of a sheet: a record is cut short, or there are no bytes at all.
+    CutShort,
+    /// Refusal 8, of a sheet: the first record is no head, or the format has no number.
+    NoHead,
+    /// Refusal 9, of a sheet: a record of another kind, a second head included.
+    OtherKind,
+    /// Refusal 10, of a sheet: no block record, a second one, or blocks of a wrong length.
+    WrongBlocks,
     /// A number that this package does not know: another archive than its own was linked.
     Unknown {
         /// What the archive answered.
@@ -34,6 +43,10 @@ impl Refusal {
             Refusal::ShortImage => 3,
             Refusal::OutOfRange { .. } => 4,
             Refusal::NoChannel => 5,
+            Refusal::CutShort => 7,
+            Refusal::NoHead => 8,
+            Refusal::OtherKind => 9,
+            Refusal::WrongBlocks => 10,
             Refusal::Unknown { number } => number,
         }
     }
@@ -46,6 +59,10 @@ impl Refusal {
             Refusal::ShortImage => "Image buffer is too small!",
             Refusal::OutOfRange { .. } => "An ETC1 block has a sum out of range!",
             Refusal::NoChannel => "The channel is above 3!",
+            Refusal::CutShort => "A record of the sheet is cut short, or there is none!",
+            Refusal::NoHead => "The sheet has no head, or its format has no number!",
+            Refusal::OtherKind => "The sheet has a record of an unknown kind!",
+            Refusal::WrongBlocks => "The sheet has not exactly its blocks!",
             Refusal::Unknown { .. } => "The linked library gave an answer that this package does not know!",
         }
     }
@@ -59,6 +76,10 @@ impl Refusal {
             3 => Err(Refusal::ShortImage),
             4 => Err(Refusal::OutOfRange { block }),
             5 => Err(Refusal::NoChannel),
+            7 => Err(Refusal::CutShort),
+            8 => Err(Refusal::NoHead),
+            9 => Err(Refusal::OtherKind),
+            10 => Err(Refusal::WrongBlocks),
             number => Err(Refusal::Unknown { number }),
         }
     }
@@ -70,12 +91,22 @@ impl fmt::Display for Refusal {
         match self {
             Refusal::TooLarge => write!(f, "Refusal {number}: the width or the height is above 16,384."),
             Refusal::ShortData => write!(f, "Refusal {number}: there are too few bytes for the blocks."),
-            Refusal::ShortImage => write!(f, "Refusal {number}: the image has too few elements."),
+            Refusal::ShortImage => write!(f, "Refusal {number}: the image or the room is too short."),
             Refusal::OutOfRange { block } => write!(
                 f,
                 "Refusal {number}: an ETC1 block has a sum out of range, the first of them block {block}."
             ),
             Refusal::NoChannel => write!(f, "Refusal {number}: the channel is above 3."),
+            Refusal::CutShort => write!(
+                f,
+                "Refusal {number}: a record of the sheet is cut short, or there is none."
+            ),
+            Refusal::NoHead => write!(
+                f,
+                "Refusal {number}: the sheet has no head, or its format has no number."
+            ),
+            Refusal::OtherKind => write!(f, "Refusal {number}: the sheet has a record of an unknown kind."),
+            Refusal::WrongBlocks => write!(f, "Refusal {number}: the sheet has not exactly its blocks."),
             Refusal::Unknown { .. } => write!(f, "Refusal {number}: the linked library is not this package's own."),
         }
     }

@@ -65,4 +65,22 @@ extern "C" {
         image_len: usize,
         block: *mut usize,
     ) -> u32;
+    pub fn yalivucu_sheet_head(
+        sheet: *const u8,
+        sheet_len: usize,
+        format: *mut usize,
+        width: *mut usize,
+        height: *mut usize,
+    ) -> u32;
+    pub fn yalivucu_read_sheet(sheet: *const u8, sheet_len: usize, image: *mut u32, image_len: usize) -> u32;
+    pub fn yalivucu_write_sheet(
+        format: usize,
+        width: usize,
+        height: usize,
+        blocks: *const u8,
+        blocks_len: usize,
+        room: *mut u8,
+        room_len: usize,
+        written: *mut usize,
+    ) -> u32;
 }

@@ -12,6 +12,7 @@
 //! ```
 pub use crate::census::{census_etc2_rgb, census_etc2_rgba1, KindCounts, RgbCounts, Rgba1Counts};
 pub use crate::refusal::Refusal;
+pub use crate::sheet::{read_sheet, sheet_head, write_sheet, Head};
 use crate::sys;
 
 /// The formats that can be read.

@@ -141,7 +141,10 @@ fn refusals_say_what_is_wrong() {
         told(Refusal::ShortData),
         "Refusal 2: there are too few bytes for the blocks."
     );
-    assert_eq!(told(Refusal::ShortImage), "Refusal 3: the image has too few elements.");
+    assert_eq!(
+        told(Refusal::ShortImage),
+        "Refusal 3: the image or the room is too short."
+    );
     assert_eq!(
         told(Refusal::OutOfRange { block: 7 }),
         "Refusal 4: an ETC1 block has a sum out of range, the first of them block 7."

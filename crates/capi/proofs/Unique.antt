@@ -1,13 +1,21 @@
 -- No second outcome satisfies what a caller from C is told: the number, the image and the strict reader's block are all fixed.
--- Each exported promise is `Told` of an `Outcome`, whatever the verdict and the picture, so these two lemmas serve every reader.
+-- Each exported promise of a reader is `Told` of an `Outcome`, whatever the verdict and the picture, so two lemmas serve them all; a
+-- sheet's head and writer have one each.
 -- Assumes nothing.
 use mathlib.Core.Path.{_≡_, _∙_, sym, ap}
+use mathlib.Core.Bool.{cond}
 use mathlib.Core.List.{List}
 use Prim.Native.Nat.{ℕ}
-use Rattle.rules.specs.Answers.{Outcome}
+use lib.ListN.{getD}
+use Rattle.rules.specs.Answers.{said, accepts, Outcome}
+use Rattle.rules.specs.Sheets as sheets
 use Rattle.rules.specs.declared.Answer.{Answer}
+use Rattle.rules.specs.declared.Picture.{Picture}
+use Rattle.rules.specs.declared.Sheet.{Sheet}
+use Rattle.rules.specs.declared.Written.{Written}
 use Rattle.laws.proofs.Unique.{no-second-outcome}
-use Rattle.capi.specs.Told.{Told, answerNumber, blockOr}
+use Rattle.sheet.proofs.Unique.{one-head, one-written}
+use Rattle.capi.specs.Told.{Told, answerNumber, blockOr, headOr, HeadTold, WriterTold}
 
 module _ (verdict after old : List ℕ) where
   module _ (a b : Answer) (new new' : List ℕ) (p : Outcome verdict after a old new) (q : Outcome verdict after b old new') where
@@ -32,3 +40,24 @@ module _ (verdict after old : List ℕ) where
       let same = both (p .answer) (q .answer) new new' (o .0) (u .0) r r' (p .says) (q .says) in
       let e = one (p .answer) (q .answer) new new' (o .0) (u .0) in
       (same .0, same .1, o .1 ∙ ap (λ (a : Answer). blockOr a stood) e ∙ sym (u .1))
+
+-- the head of a sheet, and the writer
+pub sheet-head : (d : List ℕ) (f w h n f₁ w₁ h₁ m f₂ w₂ h₂ : ℕ) → HeadTold d f w h n f₁ w₁ h₁ → HeadTold d f w h m f₂ w₂ h₂ → (n ≡ m) × (f₁ ≡ f₂) × (w₁ ≡ w₂) × (h₁ ≡ h₂)
+sheet-head d f w h n f₁ w₁ h₁ m f₂ w₂ h₂ p q =
+    let e = one-head d (p .sheet) (q .sheet) (p .tells) (q .tells) in (
+      p .says ∙ ap (λ (s : Sheet). getD (sheets.told s) 0 0) e ∙ sym (q .says),
+      p .the-format ∙ ap (λ (s : Sheet). headOr (λ k. k .format) s f) e ∙ sym (q .the-format),
+      p .the-width ∙ ap (λ (s : Sheet). headOr (λ k. k .width) s w) e ∙ sym (q .the-width),
+      p .the-height ∙ ap (λ (s : Sheet). headOr (λ k. k .height) s h) e ∙ sym (q .the-height),
+    )
+
+pub writer : (f : ℕ) (p : Picture) (b out : List ℕ) (stood n m k l : ℕ) (new new' : List ℕ)
+    → WriterTold f p b out stood n new k
+    → WriterTold f p b out stood m new' l
+    → (n ≡ m) × (new ≡ new') × (k ≡ l)
+writer f p b out stood n m k l new new' x y =
+    let e = one-written f p b out (x .written) (y .written) new new' (x .writes) (y .writes) in (
+      x .says ∙ ap (λ (r : Written). answerNumber (r .answer)) (e .0) ∙ sym (y .says),
+      e .1,
+      x .the-bytes ∙ ap (λ (r : Written). cond (accepts (said (r .answer))) (r .bytes) stood) (e .0) ∙ sym (y .the-bytes),
+    )

@@ -5,13 +5,15 @@ use rules::Answer;
 use rules::Format;
 use rules::RgbCensus;
 use rules::Rgba1Census;
+use rules::Sheet;
 ghost use mathlib.Core.Path.{_≡_};
 ghost use mathlib.Core.Bool.{true, false};
 ghost use Rattle.rules.specs.Places.{sized};
 ghost use Rattle.rules.specs.Readers.{ReadsPicture, ReadsStrict, ReadsBlock, ReadsAlpha, ReadsChannel};
 ghost use Rattle.rules.specs.Census.{rgbTests, rgba1Tests};
+ghost use Rattle.rules.specs.Sheets.{ReadsSheet};
 ghost use Rattle.capi.specs.Census.{Lays, CountsInto};
-ghost use Rattle.capi.specs.Told.{Told, blockOr};
+ghost use Rattle.capi.specs.Told.{Told, blockOr, HeadTold, WriterTold};
 
 // Reads an ETC1 picture.
 #[no_mangle]
@@ -314,4 +316,71 @@ pub extern "C" fn yalivucu_census_etc2_rgba1(
             lay(&eight, counts)
         }
     }
+}
+
+// Tells the head of a sheet. With answer 0 alone, the format, the width and the height are written.
+#[no_mangle]
+pub extern "C" fn yalivucu_sheet_head(
+    sheet: &[u8],
+    format: &mut usize,
+    width: &mut usize,
+    height: &mut usize,
+) -> u32
+    ensures { λ r. ⌜ HeadTold
+        (now (sheet .entry))
+        (now (format .entry))
+        (now (width .entry))
+        (now (height .entry))
+        r
+        (now (format .exit))
+        (now (width .exit))
+        (now (height .exit)) ⌝ }
+{
+    let told = etc::sheet_head(sheet);
+    match told {
+        Sheet::Holds(head) => {
+            *format = head.format;
+            *width = head.width;
+            *height = head.height;
+            0
+        }
+        Sheet::Refused(answer) => etc::number(answer),
+    }
+}
+
+// Reads a sheet.
+#[no_mangle]
+pub extern "C" fn yalivucu_read_sheet(sheet: &[u8], image: &mut [u32]) -> u32
+    ensures { λ r. ⌜ Told (λ a. ReadsSheet (now (sheet .entry)) (now (image .entry)) a (now (image .exit))) r ⌝ }
+{
+    etc::number(etc::read_sheet(sheet, image))
+}
+
+// Writes a sheet. With answer 0 alone, the number of its bytes is written.
+#[no_mangle]
+pub extern "C" fn yalivucu_write_sheet(
+    format: usize,
+    width: usize,
+    height: usize,
+    blocks: &[u8],
+    room: &mut [u8],
+    written: &mut usize,
+) -> u32
+    ensures { λ r. ⌜ WriterTold
+        format
+        (sized width height)
+        (now (blocks .entry))
+        (now (room .entry))
+        (now (written .entry))
+        r
+        (now (room .exit))
+        (now (written .exit)) ⌝ }
+{
+    let wrote = etc::write_sheet(format, width, height, blocks, room);
+    let answer = wrote.answer;
+    let Answer::Done = answer else {
+        return etc::number(answer);
+    };
+    *written = wrote.bytes;
+    0
 }

@@ -6,3 +6,7 @@ pub mod Guarded
 pub mod Strict
 pub mod Blocks
 pub mod Census
+pub mod Sheets
+pub mod Encoded
+pub mod Back
+pub mod Skipped

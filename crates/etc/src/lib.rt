@@ -1,13 +1,16 @@
-// The public list of src/etc.rs: eleven block readers, eight picture readers and strict ETC1; and two censuses. None asks anything of
-// its caller. Each reader promises the answer and every element of the lent image afterwards, for all inputs; what that is,
-// crates/rules/specs/Readers.antt says for all of them, and Census.antt beside it what a census promises. Refusals: 1 width or height
-// above 16,384; 2 too few bytes; 3 too few elements; 4 a block out of range, with its number (strict only); 5 a channel above 3. A
-// refusal changes nothing.
+// The public list of src/etc.rs: eleven block readers, eight picture readers and strict ETC1; two censuses; and the readers and the
+// writer of sheets. None asks anything of its caller. Each promises the answer and every element of what it is lent afterwards, for all
+// inputs; what that is, crates/rules/specs/Readers.antt, Census.antt and Sheets.antt say for all of them. Refusals: 1 width or height
+// above 16,384; 2 too few bytes; 3 too few elements, or too little room for a sheet; 4 a block out of range, with its number (strict
+// only); 5 a channel above 3; of sheets, 7 a record cut short, 8 no head, 9 another kind, 10 not exactly the blocks. A refusal changes
+// nothing.
 use rules::Answer;
 use rules::Format;
 use rules::Picture;
 use rules::RgbCensus;
 use rules::Rgba1Census;
+use rules::Sheet;
+use rules::Written;
 ghost use mathlib.Core.Path.{_≡_};
 ghost use mathlib.Core.Bool.{true, false};
 ghost use lib.ListN.{getD};
@@ -15,6 +18,7 @@ ghost use Rattle.rules.specs.Places.{sized};
 ghost use Rattle.rules.specs.Answers.{said};
 ghost use Rattle.rules.specs.Census.{CountsRgb, CountsRgba1};
 ghost use Rattle.rules.specs.Readers.{ReadsPicture, ReadsStrict, ReadsBlock, ReadsAlpha, ReadsChannel};
+ghost use Rattle.rules.specs.Sheets.{TellsHead, ReadsSheet, WritesSheet};
 
 // Document 01's number of an answer.
 pub fn number(answer: Answer) -> u32
@@ -27,6 +31,10 @@ pub fn number(answer: Answer) -> u32
         Answer::ShortImage => 3,
         Answer::OutOfRange(_) => 4,
         Answer::NoChannel => 5,
+        Answer::CutShort => 7,
+        Answer::NoHead => 8,
+        Answer::OtherKind => 9,
+        Answer::WrongBlocks => 10,
     }
 }
 
@@ -208,4 +216,32 @@ pub fn census_etc2_rgba1(data: &[u8], width: usize, height: usize) -> Rgba1Censu
         height: height,
     };
     census::rgba1(data, pic)
+}
+
+// Tells the format, the width and the height that a sheet's head names, or why the sheet is refused: the whole walk without an image,
+// so that `read_sheet` refuses alike, and else with 3 alone.
+pub fn sheet_head(bytes: &[u8]) -> Sheet
+    ensures { λ r. ⌜ TellsHead (now (bytes .entry)) r ⌝ }
+{
+    sheet_read::sheet_head(bytes)
+}
+
+// Reads a sheet: the picture that the plain reader of its format shows of exactly its blocks.
+pub fn read_sheet(bytes: &[u8], image: &mut [u32]) -> Answer
+    ensures { λ r. ⌜ ReadsSheet (now (bytes .entry)) (now (image .entry)) r (now (image .exit)) ⌝ }
+{
+    sheet_read::read_sheet(bytes, image)
+}
+
+// Writes a picture as a sheet: its head and its blocks. Bytes of `out` behind the sheet keep their value.
+pub fn write_sheet(
+    format: usize,
+    width: usize,
+    height: usize,
+    blocks: &[u8],
+    out: &mut [u8],
+) -> Written
+    ensures { λ r. ⌜ WritesSheet format (sized width height) (now (blocks .entry)) (now (out .entry)) r (now (out .exit)) ⌝ }
+{
+    sheet_write::write_sheet(format, width, height, blocks, out)
 }

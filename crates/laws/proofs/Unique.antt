@@ -13,13 +13,23 @@ use denote.Enum.Declared
 use Rattle.rules.specs.Notation.{build}
 use Rattle.rules.specs.Answers.{said, accepts, Outcome}
 use Rattle.rules.specs.declared.Answer.{Answer}
-use Rattle.rules.specs.declared.Answer.the-variants.{Done, TooLarge, ShortData, ShortImage, OutOfRange, NoChannel}
+use Rattle.rules.specs.declared.Answer.the-variants.{Done, TooLarge, ShortData, ShortImage, OutOfRange, NoChannel, CutShort, NoHead, OtherKind, WrongBlocks}
 use Rattle.rules.proofs.Answer.{the-type}
 
 -- every answer, with the value that some of them return
 abbrev answers : List (ℕ → Answer)
 answers =
-    (λ n. Done) ∷ (λ n. TooLarge) ∷ (λ n. ShortData) ∷ (λ n. ShortImage) ∷ (λ n. OutOfRange n) ∷ (λ n. NoChannel) ∷ []
+    (λ n. Done)
+    ∷ (λ n. TooLarge)
+    ∷ (λ n. ShortData)
+    ∷ (λ n. ShortImage)
+    ∷ (λ n. OutOfRange n)
+    ∷ (λ n. NoChannel)
+    ∷ (λ n. CutShort)
+    ∷ (λ n. NoHead)
+    ∷ (λ n. OtherKind)
+    ∷ (λ n. WrongBlocks)
+    ∷ []
 
 -- the answer that says a number and a value: the first of them with that number
 abbrev find : List (ℕ → Answer) → ℕ → ℕ → Answer
@@ -36,6 +46,10 @@ answered ShortData = refl
 answered ShortImage = refl
 answered (OutOfRange n) = refl
 answered NoChannel = refl
+answered CutShort = refl
+answered NoHead = refl
+answered OtherKind = refl
+answered WrongBlocks = refl
 
 -- the answer is fixed by what it says on paper
 pub answer : (a b : Answer) → said a ≡ said b → a ≡ b

@@ -9,7 +9,7 @@ use lib.ListN.{getD}
 use Rattle.rules.specs.Places.{needed, blocks}
 use Rattle.rules.specs.declared.Picture.{Picture}
 use Rattle.rules.specs.declared.Answer.{Answer}
-use Rattle.rules.specs.declared.Answer.the-variants.{Done, TooLarge, ShortData, ShortImage, OutOfRange, NoChannel}
+use Rattle.rules.specs.declared.Answer.the-variants.{Done, TooLarge, ShortData, ShortImage, OutOfRange, NoChannel, CutShort, NoHead, OtherKind, WrongBlocks}
 
 -- the table of refusals: the number of each, and what it "also returns"
 abbrev pub said : Answer → List ℕ
@@ -19,6 +19,10 @@ said ShortData = 2 ∷ []
 said ShortImage = 3 ∷ []
 said (OutOfRange n) = 4 ∷ n ∷ []
 said NoChannel = 5 ∷ []
+said CutShort = 7 ∷ []
+said NoHead = 8 ∷ []
+said OtherKind = 9 ∷ []
+said WrongBlocks = 10 ∷ []
 
 -- number 0 is "done", and every other is a refusal
 abbrev pub accepts : List ℕ → Bool

@@ -17,3 +17,6 @@ pub mod Guards
 pub mod Readers
 -- document 02: which kinds of blocks a picture has
 pub mod Census
+-- sheets, of document 02
+pub mod Records
+pub mod Sheets

@@ -30,6 +30,14 @@ pub enum Answer {
     // with the number of the first such block
     OutOfRange(usize),
     NoChannel,
+    // of a sheet: a record is cut short, or there are no bytes at all
+    CutShort,
+    // the first record is no head
+    NoHead,
+    // a kind that no sheet has
+    OtherKind,
+    // no block record, a second one, or a wrong block length
+    WrongBlocks,
 }
 
 // A picture's description, shared by all picture readers.
@@ -72,4 +80,23 @@ pub enum Rgba1Census {
     Counted(Rgba1Counts),
     TooLarge,
     ShortData,
+}
+
+// What the head of a sheet says: the number of a format, and the size.
+pub struct Head {
+    pub format: usize,
+    pub width: usize,
+    pub height: usize,
+}
+
+// What a sheet tells without an image: its head, or why it is refused.
+pub enum Sheet {
+    Holds(Head),
+    Refused(Answer),
+}
+
+// What the writer of a sheet answers, with the number of bytes that the sheet has; none where it refuses.
+pub struct Written {
+    pub answer: Answer,
+    pub bytes: usize,
 }

@@ -1,0 +1,5 @@
+pub mod Sizes
+pub mod Checks
+pub mod Shown
+pub mod Decided
+pub mod Unique

@@ -1,0 +1,78 @@
+-- `sheet_read::read_sheet` meets its contract: the plain reader on exactly the blocks does what the sheet's reader owes.
+-- Assumes nothing.
+use Prim.Native.Nat.{_-_}
+use native.Mathlib.Omega.{arith}
+use native.Mathlib.Nat.{add-sub-cancel-left}
+use denote.Ref.{now}
+use Rattle.sheet.proofs.Shown.{reads}
+use Rattle.sheet_read.specs.Found.{Sheeted}
+use Rattle.sheet_read.proofs.Sheets.{refuses}
+use borrow.Author.Needs.{needs}
+use Rattle.sheet_read.proofs.read_sheet.Statement.{statement}
+use Rattle.sheet_read.proofs.read_sheet.Tie as tie
+
+find-requires : tie.Need-find-requires
+find-requires c κs = search needs
+
+enum-known-found : tie.Need-enum-known-found
+enum-known-found c = search needs
+
+-- the sheet that was found
+sheet : (c : tie.After-known-told)
+    → Sheeted (now (c .before .before .before .before .before .before .args .bytes)) (c .before .found .given .0 .0) (c .before .found .given .0 .1 .0) (c .before .found .given .0 .1 .1 .0)
+sheet c = rw (c .before .found .given .1) at (c .before .before .before .find .ensures)
+
+add-end : tie.Need-add-end
+add-end c = let t = sheet c in omega (arith, t .within)
+
+format-of-requires : tie.Need-format-of-requires
+format-of-requires c κs = let t = sheet c in t .shown .begins .sound .known
+
+sub-read : tie.Need-sub-read
+sub-read c = search needs
+
+part-read-start : tie.Need-part-read-start
+part-read-start c = search needs
+
+part-read-end : tie.Need-part-read-end
+part-read-end c = let t = sheet (c .before) in omega (arith, t .within)
+
+read-requires : tie.Need-read-requires
+read-requires c κs = search needs
+
+enum-known-found-2 : tie.Need-enum-known-found-2
+enum-known-found-2 c = search needs
+
+same-length : tie.Need-same-length
+same-length c = search needs
+
+returns : tie.Need-returns
+returns c =
+    let b = c .before .before in
+    let o = b .before .before .before in
+    let k = o .before in
+    let t = sheet k in
+    let q = rw (o .format-of .ensures) at (b .read .ensures) in
+    reads _ _ _ (t .shown) _ _ _ (rw (add-sub-cancel-left (k .before .found .given .0 .1 .0) (k .before .found .given .0 .1 .1 .0)) at q)
+
+returns-2 : tie.Need-returns-2
+returns-2 c =
+    let b = c .before .before .before in
+    refuses _ _ (rw (c .before .found2 .given .1) at (b .find .ensures)) _
+
+pub read-sheet-spec : {M : Type 1} → statement M
+read-sheet-spec =
+    tie.close
+    (tie.spec
+    find-requires
+    enum-known-found
+    add-end
+    format-of-requires
+    sub-read
+    part-read-start
+    part-read-end
+    read-requires
+    enum-known-found-2
+    same-length
+    returns
+    returns-2)
