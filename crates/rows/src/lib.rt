@@ -21,7 +21,7 @@ pub fn across(side: usize) -> usize
     requires { ⌜ side ≤ limit ⌝ }
     ensures { λ r. ⌜ (r ≡ acrossOf side) × (r ≤ 4096) ⌝ }
 {
-    place::across(side)
+    checks::across(side)
 }
 
 // The first pixel of a block, in rows of n blocks.
