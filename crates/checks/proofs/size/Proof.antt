@@ -1,11 +1,17 @@
--- `blocks::size` meets its contract, format by format.
+-- `checks::size` meets its contract, format by format.
 -- Assumes nothing.
+use mathlib.Core.Path.{_≡_, sym, ap}
+use Prim.Native.Nat.{_≤_, _<_}
 use lib.Dec.{lit<, lit≤}
 use Rattle.rules.specs.Formats.{sizeOf}
-use Rattle.blocks.proofs.Formats.{sized}
+use Rattle.rules.specs.declared.Format.{Format}
 use borrow.Author.Needs.{needs}
-use Rattle.blocks.proofs.size.Statement.{statement}
-use Rattle.blocks.proofs.size.Tie as tie
+use Rattle.checks.proofs.size.Statement.{statement}
+use Rattle.checks.proofs.size.Tie as tie
+
+-- the size of a format that a match has told, where that is between 1 and 16
+sized : {f g : Format} → f ≡ g → sizeOf g ≤ 16 → 0 < sizeOf g → (sizeOf g ≡ sizeOf f) × (sizeOf g ≤ 16) × (0 < sizeOf g)
+sized e h p = (sym (ap sizeOf e), h, p)
 
 enum-told : tie.Need-enum-told
 enum-told c = search needs
