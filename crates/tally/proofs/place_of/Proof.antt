@@ -1,4 +1,4 @@
--- `census::place_of` meets its contract: each way out knows the two bits that led to it.
+-- `tally::place_of` meets its contract: each way out knows the two bits that led to it.
 -- Assumes nothing.
 use mathlib.Core.Path.{_≡_, _∙_, ap}
 use mathlib.Core.Bool.{true, false}
@@ -10,8 +10,8 @@ use borrow.Author.Needs.{needs}
 use Rattle.rules.specs.Colour.{kindBySums}
 use Rattle.laws.specs.Sorted.{fourth}
 use Rattle.laws.proofs.Sorted.{placeBy, sorts}
-use Rattle.census.proofs.place_of.Statement.{statement}
-use Rattle.census.proofs.place_of.Tie as tie
+use Rattle.tally.proofs.place_of.Statement.{statement}
+use Rattle.tally.proofs.place_of.Tie as tie
 
 kind-by-sums-requires : tie.Need-kind-by-sums-requires
 kind-by-sums-requires c κs = search needs

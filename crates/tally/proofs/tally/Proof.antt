@@ -1,4 +1,4 @@
--- `census::tally` meets its contract. The loop has counted the blocks before b.
+-- `tally::tally` meets its contract. The loop has counted the blocks before b.
 -- Assumes nothing.
 use mathlib.Core.Path.{_≡_, _∙_, refl, sym, ap}
 use mathlib.Core.Bool.{Bool, true, false}
@@ -12,9 +12,9 @@ use Rattle.rules.specs.Places.{bytesOf}
 use Rattle.laws.proofs.Parts.{part}
 use Rattle.rules.specs.Census.{countOf, counts}
 use Rattle.laws.specs.Sorted.{met, only, eight}
-use Rattle.census.proofs.Grown.{one-more, within}
-use Rattle.census.proofs.tally.Statement.{statement}
-use Rattle.census.proofs.tally.Tie as tie
+use Rattle.tally.proofs.Grown.{one-more, within}
+use Rattle.tally.proofs.tally.Statement.{statement}
+use Rattle.tally.proofs.tally.Tie as tie
 
 module _ (split : Bool) (d : List ℕ) where
   -- the counts of the blocks before b
