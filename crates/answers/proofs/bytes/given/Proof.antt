@@ -1,10 +1,10 @@
--- `answers::wire::given` is safe and ends: the part that it lends is as long as it says. Assumes nothing.
+-- `answers::bytes::given` is safe and ends: the part that it lends is as long as it says. Assumes nothing.
 use mathlib.Core.Path.{sym}
 use native.Mathlib.Omega.{arith}
 use lib.Seq.{length-take-le}
 use borrow.Author.Needs.{needs}
-use Rattle.answers.proofs.wire.given.Statement.{statement}
-use Rattle.answers.proofs.wire.given.Tie as tie
+use Rattle.answers.proofs.bytes.given.Statement.{statement}
+use Rattle.answers.proofs.bytes.given.Tie as tie
 
 returns : tie.Need-returns
 returns c = search needs

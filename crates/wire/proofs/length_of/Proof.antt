@@ -1,9 +1,9 @@
--- `answers::case::length_of` meets its contract: the word is what the head has there. Assumes nothing.
+-- `wire::length_of` meets its contract: the word is what the head has there. Assumes nothing.
 use mathlib.Core.Path.{_∙_, ap}
 use borrow.Author.Needs.{needs}
-use Rattle.answers.specs.Wire.{atMost}
-use Rattle.answers.proofs.case.length_of.Statement.{statement}
-use Rattle.answers.proofs.case.length_of.Tie as tie
+use Rattle.wire.specs.Wire.{atMost}
+use Rattle.wire.proofs.length_of.Statement.{statement}
+use Rattle.wire.proofs.length_of.Tie as tie
 
 field-requires : tie.Need-field-requires
 field-requires c κs = search needs

@@ -1,8 +1,8 @@
--- `answers::case::at_most` meets its contract: the test that led to each way out picks the case. Assumes nothing.
+-- `wire::at_most` meets its contract: the test that led to each way out picks the case. Assumes nothing.
 use native.Mathlib.Omega.{arith}
 use borrow.Author.Tests.{lt-ltb, le-ltb}
-use Rattle.answers.proofs.case.at_most.Statement.{statement}
-use Rattle.answers.proofs.case.at_most.Tie as tie
+use Rattle.wire.proofs.at_most.Statement.{statement}
+use Rattle.wire.proofs.at_most.Tie as tie
 
 returns : tie.Need-returns
 returns c = (simp (lt-ltb _ _ (c .if1 .taken)), omega arith)

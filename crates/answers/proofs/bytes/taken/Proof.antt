@@ -1,10 +1,10 @@
--- `answers::wire::taken` is safe and ends: the part that it lends is as long as it says. Assumes nothing.
+-- `answers::bytes::taken` is safe and ends: the part that it lends is as long as it says. Assumes nothing.
 use mathlib.Core.Path.{sym}
 use native.Mathlib.Omega.{arith}
 use lib.Seq.{length-take-le}
 use borrow.Author.Needs.{needs}
-use Rattle.answers.proofs.wire.taken.Statement.{statement}
-use Rattle.answers.proofs.wire.taken.Tie as tie
+use Rattle.answers.proofs.bytes.taken.Statement.{statement}
+use Rattle.answers.proofs.bytes.taken.Tie as tie
 
 returns : tie.Need-returns
 returns c = search needs
