@@ -6,4 +6,4 @@ use Prim.Native.Nat.{ℕ, _+_, _*_, _%_}
 -- each element in turn joins what stood for those before it
 unfoldable pub digested : ℕ → List ℕ → ℕ
 digested sum [] = sum
-digested sum (element ∷ rest) = digested ((sum * 31 + element) % 4294967296) rest
+digested sum (element ∷ rest) = digested ((sum * 31 + element) % 0x100000000) rest

@@ -7,9 +7,9 @@ use native.Mathlib.Nat.{not-suc-le-zero, le-of-suc-le-suc}
 use native.Mathlib.Numerals.{add-one}
 use lib.ListN.{length, drop, getD}
 use lib.Seq.{drop-cons}
-use Rattle.picture_cases.specs.Digest.{digested}
+use Rattle.samples.specs.Digest.{digested}
 
-pub turn : (sum : ℕ) (image : List ℕ) (i : ℕ) → i < length image → digested sum (drop i image) ≡ digested ((sum * 31 + getD image i 0) % 4294967296) (drop (i + 1) image)
+pub turn : (sum : ℕ) (image : List ℕ) (i : ℕ) → i < length image → digested sum (drop i image) ≡ digested ((sum * 31 + getD image i 0) % 0x100000000) (drop (i + 1) image)
 unfolding digested
 turn sum image i h = rw (add-one, drop-cons image i 0)
 

@@ -6,13 +6,13 @@ use mathlib.Core.List.{List}
 use Prim.Native.Nat.{ℕ, _+_, _*_, _%_, _≤_, _<_, _-_}
 use native.Mathlib.Omega.{arith}
 use lib.ListN.{length, drop}
-use Rattle.picture_cases.specs.Digest.{digested}
-use Rattle.picture_cases.proofs.Turns.{turn, end}
-use Rattle.picture_cases.proofs.digest.Statement.{statement}
-use Rattle.picture_cases.proofs.digest.Tie as tie
+use Rattle.samples.specs.Digest.{digested}
+use Rattle.samples.proofs.Turns.{turn, end}
+use Rattle.samples.proofs.digest.Statement.{statement}
+use Rattle.samples.proofs.digest.Tie as tie
 
 abbrev Inv-loop : tie.InvT-loop
-Inv-loop image before sum₀ i₀ sum i = (i ≤ length image) × (sum < 4294967296) × (digested sum (drop i image) ≡ digested before image)
+Inv-loop image before sum₀ i₀ sum i = (i ≤ length image) × (sum < 0x100000000) × (digested sum (drop i image) ≡ digested before image)
 
 abbrev μ-loop : tie.MeasureT-loop
 μ-loop image before sum₀ i₀ sum i = length image - i
@@ -45,7 +45,7 @@ loop-again : tie.Need-loop-again Inv-loop μ-loop
 loop-again c =
     let l = c .before .before .before .loop in
     let image : List ℕ = c .before .before .before .before .before .args .image .now in
-    let next : ℕ → ℕ = λ x. digested ((l .sum * 31 + x) % 4294967296) (drop (l .i + 1) image) in
+    let next : ℕ → ℕ = λ x. digested ((l .sum * 31 + x) % 0x100000000) (drop (l .i + 1) image) in
     (search needs, search needs, ap next (c .wide .ensures .0) ∙ sym (turn (l .sum) image (l .i) (omega arith)) ∙ l .inv .2)
 
 returns : tie.Need-returns Inv-loop μ-loop
