@@ -109,6 +109,7 @@ fn etc2(random: &mut Random) -> Vec<Row> {
         picture("ETC2 RGB, planar", RGB, (12, 4), &planar),
         picture("ETC2 RGBA1, opaque bit clear: differential, T, H, planar", RGBA1, (32, 2), &cleared(kinds)),
         picture("ETC2 RGBA1, opaque bit set", RGBA1, (16, 2), &of_kinds(&[1, 2, 3, 4], random)),
+        picture("ETC2 RGB, planar: clamped high and low", RGB, (4, 4), &[planar_clamped(random)]),
     ]
 }
 
@@ -150,6 +151,12 @@ fn planar_at_the_turn(random: &mut Random) -> Block {
             return block;
         }
     }
+}
+
+// Red at the right and below is the highest, blue the lowest, green one of each: in the corner red and blue clamp.
+fn planar_clamped(random: &mut Random) -> Block {
+    let block = colour(4, random);
+    [block[0], block[1], block[2], block[3] | 0x7f, 0xfe, 0x07, 0xe0, 0x00]
 }
 
 fn alphas(random: &mut Random) -> Vec<Row> {
@@ -214,6 +221,9 @@ fn strict(random: &mut Random) -> Vec<Row> {
         picture("strict: the first of two", STRICT, (12, 4), &of_kinds(&[1, 3, 2], random)),
         picture("strict: the last of the picture", STRICT, (9, 4), &of_kinds(&[0, 1, 4, 2], random)),
         picture("strict: out of range behind the picture", STRICT, (8, 4), &of_kinds(&[1, 0, 2], random)),
+        picture("strict: individual, whatever the sums are", STRICT, (12, 2), &cleared(of_kinds(&[2, 3, 4], random))),
+        picture("strict: six in range", STRICT, (24, 1), &of_kinds(&[0, 1, 0, 1, 0, 1], random)),
+        picture("strict: the last of six", STRICT, (24, 1), &of_kinds(&[0, 1, 0, 1, 0, 3], random)),
     ]
 }
 
