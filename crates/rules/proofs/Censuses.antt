@@ -94,6 +94,7 @@ specimens =
     (alone 0x0400040000000000 (1 ∷ 0 ∷ 0 ∷ 0 ∷ 0 ∷ []) (0 ∷ 0 ∷ 0 ∷ 0 ∷ 0 ∷ 1 ∷ 0 ∷ 0 ∷ [])
     (alone 0x0400000000000000 (1 ∷ 0 ∷ 0 ∷ 0 ∷ 0 ∷ []) (0 ∷ 0 ∷ 0 ∷ 0 ∷ 0 ∷ 1 ∷ 0 ∷ 0 ∷ [])
     (alone 0x0004040000000000 (1 ∷ 0 ∷ 0 ∷ 0 ∷ 0 ∷ []) (0 ∷ 0 ∷ 0 ∷ 0 ∷ 0 ∷ 0 ∷ 1 ∷ 0 ∷ [])
+    (alone 0x0004000000000000 (1 ∷ 0 ∷ 0 ∷ 0 ∷ 0 ∷ []) (0 ∷ 0 ∷ 0 ∷ 0 ∷ 0 ∷ 0 ∷ 1 ∷ 0 ∷ [])
     (alone 0x0000040000000000 (1 ∷ 0 ∷ 0 ∷ 0 ∷ 0 ∷ []) (0 ∷ 0 ∷ 0 ∷ 0 ∷ 0 ∷ 0 ∷ 0 ∷ 1 ∷ [])
     (counted rgbTests mixed 16 12 (0 ∷ 6 ∷ 1 ∷ 3 ∷ 1 ∷ 1 ∷ [])
     ∷ counted rgba1Tests mixed 16 12 (0 ∷ 1 ∷ 3 ∷ 1 ∷ 1 ∷ 3 ∷ 1 ∷ 1 ∷ 1 ∷ [])
@@ -103,7 +104,7 @@ specimens =
     ∷ counted rgbTests (drop 1 mixed) 16 12 (2 ∷ [])
     ∷ counted rgba1Tests [] 16385 0 (1 ∷ [])
     ∷ counted rgba1Tests [] 16385 1 (1 ∷ [])
-    ∷ []))))))))))))))))))
+    ∷ [])))))))))))))))))))
 
 hold : T (answers && every specimens)
 unfolding answers every counted alone mixed specimens countOf
