@@ -198,6 +198,14 @@ fn lone(reader: u32, blocks: &[Block]) -> Row {
     row("one block", reader, (4, 4), blocks, vec![OLD; 16])
 }
 
+// Elements 0, 1, 2 and so on: none is so large that it could not be an exponent, where a definition mistakes it for one.
+fn counted_on() -> Row {
+    let mut row =
+        row("one channel", BLOCK_EAC, (4, 4), &[[0x80, 0x2b, 0x07, 0xe4, 0xec, 0x95, 0xad, 0xc8]], (0..17).collect());
+    row.case.channel = 1;
+    row
+}
+
 fn single(random: &mut Random) -> Vec<Row> {
     let mut list = Vec::new();
     for (reader, kinds) in [(BLOCK_ETC1, [2, 1]), (BLOCK_RGB, [3, 0]), (BLOCK_RGBA1, [1, 2]), (BLOCK_RGBA8, [4, 2])] {
@@ -209,6 +217,7 @@ fn single(random: &mut Random) -> Vec<Row> {
     for kind in [0, 7] {
         list.push(joined("the alpha half alone", BLOCK_A8, 0, channel(kind, random), random));
     }
+    list.push(counted_on());
     for (number, reader) in [BLOCK_EAC, BLOCK_EAC, BLOCK_EAC_SIGNED, BLOCK_EAC_SIGNED].into_iter().enumerate() {
         list.push(joined("one channel", reader, number as u32, channel(7, random), random));
     }
