@@ -1,11 +1,13 @@
 // What eight bytes of a channel hold, and the alpha half: `decode_etc2_a8_block` of src/etc/etc2.rs.
 ghost use mathlib.Core.Path.{_≡_};
-ghost use Prim.Native.Nat.{_+_, _*_, _/_, _%_, _≤_, _<_};
+ghost use mathlib.Core.List.{[]};
+ghost use Prim.Native.Nat.{ℕ, _+_, _*_, _/_, _%_, _≤_, _<_};
 ghost use lib.IntN.{pos, _+ℤ_, _*ℤ_};
 ghost use lib.ListN.{length, getD};
 ghost use lib.Signed.{mag};
 ghost use Rattle.rules.specs.Notation.{build, bits, clamp as clampTo};
-ghost use Rattle.rules.specs.Channels.{indexWord, alphaStep, alphaByte, withAlpha};
+ghost use Rattle.rules.specs.Channels.{indexWord, alphaSteps, alphaStep, alphaByte, withAlpha};
+ghost use Rattle.channel.specs.Picks.{pickAt};
 
 // Bytes 2 to 7, read big-endian: the indices, three bits to a pixel.
 fn index_word(d: &[u8]) -> u64
@@ -31,23 +33,45 @@ fn row_of(b: u8) -> usize
     (b % 16) as usize
 }
 
-// The step of each pixel, row by row. The last pixel's index stands lowest in the word, so the loop goes backwards.
-pub fn steps_of(d: &[u8]) -> [i16; 16]
-    requires { ⌜ 8 ≤ length (now d) ⌝ }
-    ensures { λ r. ⌜ r ≡ build 16 (λ k. alphaStep (now (d .entry)) (k % 4) (k / 4)) ⌝ }
+// A row of the table of steps, in the type that sums are made in.
+fn steps_in(row: usize) -> [i16; 8]
+    requires { ⌜ row < 16 ⌝ }
+    ensures { λ r. ⌜ r ≡ getD alphaSteps row [] ⌝ }
 {
     let table = consts::alpha_steps();
+    let mut out = [0i16; 8];
+    let mut i: usize = 0;
+    while i < 8 {
+        out[i] = table[row][i] as i16;
+        i += 1;
+    }
+    out
+}
+
+// The number that each pixel's index picks of eight, row by row. The last pixel's index stands lowest in the word, so the loop
+// goes backwards.
+fn picked(d: &[u8], eight: [i16; 8]) -> [i16; 16]
+    requires { ⌜ (8 ≤ length (now d)) × ((j : ℕ) → mag (getD eight j (pos 0)) < 256) ⌝ }
+    ensures { λ r. ⌜ r ≡ build 16 (pickAt (now (d .entry)) eight) ⌝ }
+{
     let order = consts::write_order();
-    let row = row_of(d[1]);
     let mut l = index_word(d);
     let mut out = [0i16; 16];
     let mut i: usize = 0;
     while i < 16 {
-        out[order[15 - i]] = table[row][(l % 8) as usize] as i16;
+        out[order[15 - i]] = eight[(l % 8) as usize];
         l = l / 8;
         i += 1;
     }
     out
+}
+
+// The step of each pixel, row by row.
+pub fn steps_of(d: &[u8]) -> [i16; 16]
+    requires { ⌜ 8 ≤ length (now d) ⌝ }
+    ensures { λ r. ⌜ r ≡ build 16 (λ k. alphaStep (now (d .entry)) (k % 4) (k / 4)) ⌝ }
+{
+    picked(d, steps_in(row_of(d[1])))
 }
 
 // The base moved by m times a step, clamped to a byte.
