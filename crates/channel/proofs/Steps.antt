@@ -45,12 +45,16 @@ pub step-picked : (d : List ℕ) (k : ℕ) → pickAt d (getD alphaSteps (bits 3
 unfolding pickAt alphaStep
 step-picked d k = refl
 
--- the steps of a block as the machine holds them
-pub step-held : (d : List ℕ) (steps : List ℤ) (k : ℕ) → steps ≡ build 16 (stepAt d) → k < 16 → held w16 (getD steps k (pos 0)) ≡ stepAt d k
-step-held d steps k e h =
+-- small numbers of a list that has a rule, as the machine holds them
+pub held-at : (f : ℕ → ℤ) (l : List ℤ) (k : ℕ) → l ≡ build 16 f → k < 16 → mag (f k) < 256 → held w16 (getD l k (pos 0)) ≡ f k
+held-at f l k e h s =
     ap (λ (a : List ℤ). held w16 (getD a k (pos 0))) e
-    ∙ ap (held w16) (getD-build (stepAt d) (pos 0) 16 k h)
-    ∙ held-small w16 (stepAt d k) (omega (arith, small-step d (k % 4) (k / 4)))
+    ∙ ap (held w16) (getD-build f (pos 0) 16 k h)
+    ∙ held-small w16 (f k) (omega (arith, s))
+
+-- the steps of a block are such
+pub step-held : (d : List ℕ) (steps : List ℤ) (k : ℕ) → steps ≡ build 16 (stepAt d) → k < 16 → held w16 (getD steps k (pos 0)) ≡ stepAt d k
+step-held d steps k e h = held-at (stepAt d) steps k e h (omega (arith, small-step d (k % 4) (k / 4)))
 
 pub step-small : (d : List ℕ) (steps : List ℤ) (k : ℕ) → steps ≡ build 16 (stepAt d) → k < 16 → mag (held w16 (getD steps k (pos 0))) < 16
 step-small d steps k e h = rw (step-held d steps k e h) (small-step d (k % 4) (k / 4))

@@ -2,7 +2,7 @@
 ghost use mathlib.Core.Path.{_≡_};
 ghost use mathlib.Core.List.{[]};
 ghost use Prim.Native.Nat.{ℕ, _+_, _*_, _/_, _%_, _≤_, _<_};
-ghost use lib.IntN.{pos, _+ℤ_, _*ℤ_};
+ghost use lib.IntN.{pos, _+ℤ_};
 ghost use lib.ListN.{length, getD};
 ghost use lib.Signed.{mag};
 ghost use Rattle.rules.specs.Notation.{build, bits, clamp as clampTo};
@@ -19,7 +19,7 @@ fn index_word(d: &[u8]) -> u64
     high as u64 * 0x100000000 + low as u64
 }
 
-// The multiplier: the high nibble of byte 1. A multiplier of 0 stays 0.
+// The multiplier: the high nibble of byte 1. EAC multiplies by it; alpha has a table of products.
 pub fn multiplier_of(b: u8) -> u8
     ensures { λ r. ⌜ (r ≡ bits 7 4 b) × (r < 16) ⌝ }
 {
@@ -74,26 +74,26 @@ pub fn steps_of(d: &[u8]) -> [i16; 16]
     picked(d, steps_in(row_of(d[1])))
 }
 
-// The base moved by m times a step, clamped to a byte.
-fn alpha(base: u8, m: u8, s: i16) -> u32
-    requires { ⌜ (m < 16) × (mag s < 16) ⌝ }
-    ensures { λ r. ⌜ (r ≡ clampTo 255 (pos base +ℤ pos m *ℤ s)) × (r < 256) ⌝ }
+// The base moved by a product of multiplier and step, clamped to a byte.
+fn alpha(base: u8, product: i16) -> u32
+    requires { ⌜ mag product < 256 ⌝ }
+    ensures { λ r. ⌜ (r ≡ clampTo 255 (pos base +ℤ product)) × (r < 256) ⌝ }
 {
-    color::clamp(base as i16 + m as i16 * s)
+    color::clamp(base as i16 + product)
 }
 
-// The pixels with their top bytes replaced by the alpha half; the colours stay.
+// The pixels with their top bytes replaced by the alpha half; the colours stay. Nothing is multiplied by the multiplier: the eight
+// products of its row are looked up, and each pixel picks one of them.
 pub fn a8_onto(d: &[u8], px: [u32; 16]) -> [u32; 16]
     requires { ⌜ 8 ≤ length (now d) ⌝ }
     ensures { λ r. ⌜ r ≡ build 16 (λ k. withAlpha (getD px k 0) (alphaByte (now (d .entry)) (k % 4) (k / 4))) ⌝ }
 {
     let base = d[0];
-    let m = multiplier_of(d[1]);
-    let steps = steps_of(d);
+    let moves = picked(d, products::products_of(d[1]));
     let mut out = px;
     let mut i: usize = 0;
     while i < 16 {
-        out[i] = alpha(base, m, steps[i]) * 0x1000000 + px[i] % 0x1000000;
+        out[i] = alpha(base, moves[i]) * 0x1000000 + px[i] % 0x1000000;
         i += 1;
     }
     out
