@@ -1,11 +1,11 @@
 -- What the code makes of a byte is its signed base: one test that antt computes over all 256.
 -- Assumes nothing.
-use mathlib.Core.Path.{_≡_, ap}
+use mathlib.Core.Path.{_≡_, _∙_, ap}
 use mathlib.Core.Bool.{Bool, false, cond}
 use Prim.Native.Nat.{ℕ, _<_}
 use native.Mathlib.Omega.{arith}
 use borrow.Author.Needs.{needs}
-use borrow.Author.Tests.{lt-ltb, le-ltb}
+use borrow.Author.Tests.{eq-eqb, ne-eqb, lt-ltb, le-ltb}
 use lib.Dec.{T, eqb, eqb→eq, ltb}
 use lib.IntN.{ℤ, pos, negsuc, _-ℤ_}
 use mir.Syntax.{w16}
@@ -43,16 +43,28 @@ cast-result : tie.Need-cast-result
 cast-result c = search needs
 
 sub-result : tie.Need-sub-result
-sub-result c = is-fits w16 (is-gap (is-cast w16 (c .before .args .b) (omega arith)) (is-pos 256)) (omega arith) (omega arith)
+sub-result c = is-fits w16 (is-gap (is-cast w16 (c .before .before .args .b) (omega arith)) (is-pos 256)) (omega arith) (omega arith)
 
 cast-result-2 : tie.Need-cast-result-2
 cast-result-2 c = search needs
 
 returns : tie.Need-returns
-returns c = let b = c .before .args .b in rw (lt-ltb 127 b (c .if1 .taken)) at (right b (omega arith))
+returns c =
+    let b = c .before .args .b in
+    let e : negsuc 126 ≡ made b = rw (eq-eqb b 128 (c .if1 .taken)) in
+    e ∙ right b (omega arith)
 
 returns-2 : tie.Need-returns-2
-returns-2 c = let b = c .before .args .b in rw (le-ltb 127 b (c .if1 .left)) at (right b (omega arith))
+returns-2 c =
+    let b = c .before .before .args .b in
+    let e : held w16 (toZ w16 b -ℤ pos 256) ≡ made b = rw (ne-eqb b 128 (c .before .if1 .left), lt-ltb 127 b (c .if2 .taken)) in
+    e ∙ right b (omega arith)
+
+returns-3 : tie.Need-returns-3
+returns-3 c =
+    let b = c .before .before .args .b in
+    let e : toZ w16 b ≡ made b = rw (ne-eqb b 128 (c .before .if1 .left), le-ltb 127 b (c .if2 .left)) in
+    e ∙ right b (omega arith)
 
 pub signed-byte-spec : {M : Type 1} → statement M
-signed-byte-spec = tie.close (tie.spec cast-result sub-result cast-result-2 returns returns-2)
+signed-byte-spec = tie.close (tie.spec cast-result sub-result cast-result-2 returns returns-2 returns-3)
