@@ -8,7 +8,8 @@ use Prim.Native.Nat.{ℕ, zero, suc, _+_, _/_, _%_}
 use lib.Dec.{T}
 use lib.IntN.{pos}
 use Rattle.rules.specs.Notation.{minus, modulo}
-use Rattle.rules.specs.Places.{sized, element, bytesOf, inTile, tile, painted}
+use Rattle.rules.specs.Pixel.{alphaOf, redOf, greenOf, blueOf}
+use Rattle.rules.specs.Places.{sized, element, bytesOf, bytesFrom, inTile, tile, pixelAt, painted}
 use Rattle.rules.specs.Answers.{said, left, firstOf}
 use Rattle.rules.specs.Colour.{differential, wrapped, kindBySums, outOfRange}
 use Rattle.rules.specs.Modes.{tBases, tDistance, hBases, notLess, hDistance, planarBases, planarChannel, indexed}
@@ -99,7 +100,8 @@ marked test zero = []
 marked test (suc n) = marked test n ++ cond (test n) (n ∷ []) []
 
 -- "pixel (x, y) is element y * width + x"; "Block 3 shows only element 24" of 5 by 5 (S17), and block 1 the fifth of each of
--- four rows; the sixteen pixels of S2 and S4; a block's own bytes and no others; the first of places, or their number
+-- four rows; the sixteen pixels of S2 and S4; two pixels of S16; a block's own bytes and no others, also of a list that begins with
+-- block 3; the first of places, or their number
 places : Bool
 places =
     same (element (sized 5 3) 2 1 ∷ element (sized 7 9) 4 3 ∷ []) (7 ∷ 25 ∷ [])
@@ -107,13 +109,20 @@ places =
     && same (marked (inTile (sized 5 5) 1) 30) (4 ∷ 9 ∷ 14 ∷ 19 ∷ [])
     && same (tile etc1Pixel (bytes (0x0400000200000000 ∷ []))) (columns 0xFF020202 0xFFE90202)
     && same (tile rgbPixel (bytes (0x000004020000003F ∷ []))) (rows 0xFF000000 0xFF000040 0xFF000080 0xFF0000BF)
+    && same
+    (pixelAt etc1Pixel 8 (sized 5 1) (bytes (0x0400000200000000 ∷ 0 ∷ [])) 2 ∷ pixelAt etc1Pixel 8 (sized 5 1) (bytes (0x0400000200000000 ∷ 0 ∷ [])) 4 ∷ [])
+    (0xFFE90202 ∷ 0xFF020202 ∷ [])
     && same (bytesOf 2 (1 ∷ 2 ∷ 3 ∷ 4 ∷ 5 ∷ []) 1) (3 ∷ 4 ∷ [])
+    && same (bytesFrom 2 3 (1 ∷ 2 ∷ 3 ∷ 4 ∷ 5 ∷ 6 ∷ []) 4) (3 ∷ 4 ∷ [])
     && same (firstOf (λ k. false) 0 ∷ firstOf (λ k. false) 3 ∷ firstOf (λ k. true) 3 ∷ []) (0 ∷ 3 ∷ 0 ∷ [])
 
--- a remainder below 0 counts up from 0; "clamped to 0..2047" of the whole eleven bits
+-- the bytes of "alpha * 2^24 + red * 2^16 + green * 2^8 + blue"; a remainder below 0 counts up from 0; "clamped to 0..2047" of the
+-- whole eleven bits
 words : Bool
 words =
-    same (modulo (minus 1) 5 ∷ modulo (minus 5) 5 ∷ modulo (minus 6) 5 ∷ modulo (pos 7) 5 ∷ []) (4 ∷ 0 ∷ 4 ∷ 2 ∷ [])
+    same (alphaOf 1 ∷ redOf 1 ∷ greenOf 1 ∷ blueOf 1 ∷ []) (0 ∷ 0 ∷ 0 ∷ 1 ∷ [])
+    && same (alphaOf 0x81C3A5E7 ∷ redOf 0x81C3A5E7 ∷ greenOf 0x81C3A5E7 ∷ blueOf 0x81C3A5E7 ∷ []) (0x81 ∷ 0xC3 ∷ 0xA5 ∷ 0xE7 ∷ [])
+    && same (modulo (minus 1) 5 ∷ modulo (minus 5) 5 ∷ modulo (minus 6) 5 ∷ modulo (pos 7) 5 ∷ []) (4 ∷ 0 ∷ 4 ∷ 2 ∷ [])
     && same (eacValue false (bytes (0xFFF0FFFFFFFFFFFF ∷ [])) 0 0 ∷ eacValue false (bytes (0x00F0000000000000 ∷ [])) 0 0 ∷ []) (2047 ∷ 0 ∷ [])
 
 -- "compared red, then green, then blue; equal counts"

@@ -108,11 +108,12 @@ rows =
     ∷ row (say (Refused OtherKind)) (9 ∷ [])
     ∷ row (say (Refused WrongBlocks)) (10 ∷ [])
     ∷ row (say (Holds (record { format = 2; width = 4; height = 3 }))) (good 2)
-    -- every format has its own number, and its blocks their 8 or 16 bytes: S2, S13, S15 and zeros
+    -- every format has its own number, and its blocks their 8 or 16 bytes: S2, S5, S13, S15 and zeros
     ∷ one 0 (4 ∷ 0 ∷ 0 ∷ 2 ∷ replicate 4 0) 0xFF020202
     ∷ one 1 (4 ∷ 0 ∷ 0 ∷ 2 ∷ replicate 4 0) 0xFF000000
     ∷ one 1 (replicate 8 0) 0xFF020202
     ∷ one 2 (replicate 8 0) 0xFF000000
+    ∷ one 2 (128 ∷ 0 ∷ 0 ∷ 0 ∷ 255 ∷ 255 ∷ 0 ∷ 0 ∷ []) 0
     ∷ one 3 (replicate 16 0) 0x00020202
     ∷ one 4 (128 ∷ 16 ∷ replicate 6 0) 0xFF7D0000
     ∷ one 5 (0 ∷ 16 ∷ replicate 6 0) 0xFF7C0000
@@ -124,13 +125,16 @@ rows =
     ∷ row (head-of (headed 0 (4 ∷ 0 ∷ 1 ∷ 0 ∷ []) (3 ∷ 0 ∷ 0 ∷ 0 ∷ []) ++ some 8)) (1 ∷ [])
     ∷ row (head-of (headed 0 (4 ∷ 0 ∷ 0 ∷ 1 ∷ []) (3 ∷ 0 ∷ 0 ∷ 0 ∷ []) ++ some 8)) (1 ∷ [])
     ∷ row (head-of (headed 0 (3 ∷ 0 ∷ 0 ∷ 0 ∷ []) (1 ∷ 64 ∷ 0 ∷ 0 ∷ []) ++ some 8)) (1 ∷ [])
+    ∷ row (head-of (headed 0 (4 ∷ 0 ∷ 0 ∷ 0 ∷ []) (3 ∷ 0 ∷ 0 ∷ 1 ∷ []) ++ some 8)) (1 ∷ [])
     -- skipped records before and after the blocks
     ∷ row (head-of (head 3 ++ note ++ some 16 ++ note ++ note)) (good 3)
-    -- no bytes at all; five bytes; a head that lacks one byte; a length of FFFFFFFF
+    ∷ row (image-of (head 0 ++ note ++ rec 8 2 (128 ∷ 0 ∷ 0 ∷ 2 ∷ replicate 4 0)) 12) (replicate 12 0xFF860202)
+    -- no bytes at all; five bytes; a head that lacks one byte; a length of FFFFFFFF, and of 1000000 (hex)
     ∷ row (head-of []) (7 ∷ [])
     ∷ row (head-of (9 ∷ 0 ∷ 0 ∷ 0 ∷ 1 ∷ [])) (7 ∷ [])
     ∷ row (head-of (rec 9 1 (replicate 8 0))) (7 ∷ [])
     ∷ row (head-of (head 0 ++ 255 ∷ 255 ∷ 255 ∷ 255 ∷ 3 ∷ 0 ∷ [])) (7 ∷ [])
+    ∷ row (head-of (head 0 ++ 0 ∷ 0 ∷ 0 ∷ 1 ∷ 3 ∷ 0 ∷ [])) (7 ∷ [])
     -- in one record 7 before 8, and 7 before 9, before the blocks and behind them
     ∷ row (head-of (rec 8 3 [])) (7 ∷ [])
     ∷ row (head-of (head 0 ++ rec 1 3 [])) (7 ∷ [])
@@ -146,6 +150,7 @@ rows =
     ∷ row (head-of (headed 0 (1 ∷ 64 ∷ 0 ∷ 0 ∷ []) (3 ∷ 0 ∷ 0 ∷ 0 ∷ []) ++ 1 ∷ [])) (1 ∷ [])
     -- another kind: 0, 3, 7FFF; a second kind 1; 9 before a missing block record
     ∷ row (head-of (head 0 ++ some 8 ++ rec 0 0 [])) (9 ∷ [])
+    ∷ row (head-of (head 0 ++ some 8 ++ rec 0 0x8000 [] ++ rec 0 3 [])) (9 ∷ [])
     ∷ row (head-of (head 0 ++ rec 0 3 [] ++ some 8)) (9 ∷ [])
     ∷ row (head-of (head 0 ++ rec 0 0x7FFF [] ++ some 8)) (9 ∷ [])
     ∷ row (head-of (head 0 ++ head 0 ++ some 8)) (9 ∷ [])

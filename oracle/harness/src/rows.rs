@@ -109,6 +109,7 @@ fn etc2(random: &mut Random) -> Vec<Row> {
         picture("ETC2 RGB, planar", RGB, (12, 4), &planar),
         picture("ETC2 RGBA1, opaque bit clear: differential, T, H, planar", RGBA1, (32, 2), &cleared(kinds)),
         picture("ETC2 RGBA1, opaque bit set", RGBA1, (16, 2), &of_kinds(&[1, 2, 3, 4], random)),
+        picture("ETC2 RGB, planar: clamped high and low", RGB, (4, 4), &[planar_clamped(random)]),
     ]
 }
 
@@ -152,6 +153,12 @@ fn planar_at_the_turn(random: &mut Random) -> Block {
     }
 }
 
+// Red at the right and below is the highest, blue the lowest, green one of each: in the corner red and blue clamp.
+fn planar_clamped(random: &mut Random) -> Block {
+    let block = colour(4, random);
+    [block[0], block[1], block[2], block[3] | 0x7f, 0xfe, 0x07, 0xe0, 0x00]
+}
+
 fn alphas(random: &mut Random) -> Vec<Row> {
     let halves: Vec<Block> = [(0, 0), (2, 1), (1, 2), (7, 3)]
         .into_iter()
@@ -191,6 +198,14 @@ fn lone(reader: u32, blocks: &[Block]) -> Row {
     row("one block", reader, (4, 4), blocks, vec![OLD; 16])
 }
 
+// Elements 0, 1, 2 and so on: none is so large that it could not be an exponent, where a definition mistakes it for one.
+fn counted_on() -> Row {
+    let mut row =
+        row("one channel", BLOCK_EAC, (4, 4), &[[0x80, 0x2b, 0x07, 0xe4, 0xec, 0x95, 0xad, 0xc8]], (0..17).collect());
+    row.case.channel = 1;
+    row
+}
+
 fn single(random: &mut Random) -> Vec<Row> {
     let mut list = Vec::new();
     for (reader, kinds) in [(BLOCK_ETC1, [2, 1]), (BLOCK_RGB, [3, 0]), (BLOCK_RGBA1, [1, 2]), (BLOCK_RGBA8, [4, 2])] {
@@ -202,6 +217,7 @@ fn single(random: &mut Random) -> Vec<Row> {
     for kind in [0, 7] {
         list.push(joined("the alpha half alone", BLOCK_A8, 0, channel(kind, random), random));
     }
+    list.push(counted_on());
     for (number, reader) in [BLOCK_EAC, BLOCK_EAC, BLOCK_EAC_SIGNED, BLOCK_EAC_SIGNED].into_iter().enumerate() {
         list.push(joined("one channel", reader, number as u32, channel(7, random), random));
     }
@@ -214,6 +230,9 @@ fn strict(random: &mut Random) -> Vec<Row> {
         picture("strict: the first of two", STRICT, (12, 4), &of_kinds(&[1, 3, 2], random)),
         picture("strict: the last of the picture", STRICT, (9, 4), &of_kinds(&[0, 1, 4, 2], random)),
         picture("strict: out of range behind the picture", STRICT, (8, 4), &of_kinds(&[1, 0, 2], random)),
+        picture("strict: individual, whatever the sums are", STRICT, (12, 2), &cleared(of_kinds(&[2, 3, 4], random))),
+        picture("strict: six in range", STRICT, (24, 1), &of_kinds(&[0, 1, 0, 1, 0, 1], random)),
+        picture("strict: the last of six", STRICT, (24, 1), &of_kinds(&[0, 1, 0, 1, 0, 3], random)),
     ]
 }
 
