@@ -2,7 +2,7 @@
 
 Each definition becomes a Python function, and a change replaces one of them. Natural numbers are whole numbers with a cut-off
 subtraction, integers are whole numbers, a list is a tuple, a record a dictionary. A Bool's `cond`, && and || look only at what they
-need; everything else is computed at once. Types are not looked at: a change that computes another row is refused by the
+need, and so does `judged`; everything else is computed at once. Types are not looked at: a change that computes another row is refused by the
 specimens where it has a type, and by the types where it has none; one that meets a number where a list is due has none.
 Whatever cannot be computed here is left to the prover.
 """
@@ -16,6 +16,7 @@ from doubt_text import HOLD, NUMERAL, Module, Unreadable
 
 sys.setrecursionlimit(30000)
 TESTS = ["Sheets", "Held", "Censuses"]  # the files of proofs/ whose `hold` is a test that computes
+LATE = {("Answers", "judged"): 1}  # the parameter that is computed only where it is needed: what comes after the checks
 MOST_BITS = 4096  # of a number that is worth computing
 SECONDS = 20  # of processor time for the rows under one change
 
@@ -173,10 +174,13 @@ class Writer:
 
     def clause(self, clause):
         words, tests, bound, place = [token.text for token in clause.parameters], [], {}, 0
+        late = LATE.get((self.file.module.name, clause.name))
         while words:
-            self.pattern(words, f"a{place}", tests, bound)
+            self.pattern(words, f"a{place}()" if place == late else f"a{place}", tests, bound)
             place += 1
-        scope = {name: variable(name) for name in bound}
+        waiting = {name for name, value in bound.items() if value == f"a{late}()"}
+        bound.update({name: f"a{late}" for name in waiting})
+        scope = {name: variable(name) + "()" * (name in waiting) for name in bound}
         lines = [f"  if {' and '.join(tests) or 'True'}:\n"]
         lines += [f"    {variable(name)} = {value}\n" for name, value in bound.items()]
         return "".join(lines) + f"    return {self.expression(clause.body, scope)}\n"
@@ -244,7 +248,8 @@ class Writer:
             count, form = LIBRARY[name]
         else:
             count, function = home.counts[name], python(home.part, home.module.name, name)
-            form = f"{function}({', '.join('{%d}' % at for at in range(count))})"
+            late = LATE.get((home.module.name, name))
+            form = f"{function}({', '.join('lambda: {%d}' % at if at == late else '{%d}' % at for at in range(count))})"
         if len(arguments) >= count:
             value = form.format(*arguments[:count])
             return f"apply({', '.join([value] + arguments[count:])})" if len(arguments) > count else value
