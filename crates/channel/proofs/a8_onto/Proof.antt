@@ -1,36 +1,40 @@
--- Turn i stores pixel i; the steps are those of the block, as the machine holds them.
+-- Turn i stores pixel i; what its base is moved by is a product of the block, as the machine holds it.
 -- Assumes nothing.
-use mathlib.Core.Path.{_≡_, _∙_, refl, ap}
+use mathlib.Core.Path.{_≡_, _∙_, ap}
+use mathlib.Core.List.{List}
 use Prim.Native.Nat.{_-_, _/_, _%_}
 use native.Mathlib.Omega.{arith}
 use borrow.Author.Needs.{needs}
-use lib.IntN.{pos}
+use lib.IntN.{ℤ, pos, _+ℤ_}
 use lib.ListN.{getD}
-use Rattle.rules.specs.Notation.{byte}
+use Rattle.rules.specs.Notation.{byte, build, clamp}
 use Rattle.rules.specs.Channels.{alphaByte, withAlpha}
 use Rattle.laws.proofs.Filling.{Filling, inOrder, begun, stored-next, filled-all}
-use Rattle.channel.proofs.Steps.{step-held, step-small, moved-same}
+use Rattle.laws.proofs.Filled.{build-same}
+use Rattle.channel.specs.Picks.{pickAt}
+use Rattle.channel.proofs.Steps.{held-at}
+use Rattle.channel.proofs.Moves.{moveAt, move-picked, small-in, small-move}
 use Rattle.channel.proofs.a8_onto.Statement.{statement}
 use Rattle.channel.proofs.a8_onto.Tie as tie
 
 abbrev Inv-loop : tie.InvT-loop
-Inv-loop d px base m steps out₀ i₀ out i =
+Inv-loop d px base moves out₀ i₀ out i =
     Filling inOrder (λ k. withAlpha (getD px k 0) (alphaByte d (k % 4) (k / 4))) 0 16 i out
 
 abbrev μ-loop : tie.MeasureT-loop
-μ-loop d px base m steps out₀ i₀ out i = 16 - i
+μ-loop d px base moves out₀ i₀ out i = 16 - i
 
 shared-slice-read-base : tie.Need-shared-slice-read-base Inv-loop μ-loop
 shared-slice-read-base c = omega arith
 
-shared-slice-read-multiplier-of : tie.Need-shared-slice-read-multiplier-of Inv-loop μ-loop
-shared-slice-read-multiplier-of c = omega arith
+shared-slice-read-products-of : tie.Need-shared-slice-read-products-of Inv-loop μ-loop
+shared-slice-read-products-of c = omega arith
 
-multiplier-of-requires : tie.Need-multiplier-of-requires Inv-loop μ-loop
-multiplier-of-requires c κs = search needs
+products-of-requires : tie.Need-products-of-requires Inv-loop μ-loop
+products-of-requires c κs = search needs
 
-steps-of-requires : tie.Need-steps-of-requires Inv-loop μ-loop
-steps-of-requires c κs = search needs
+picked-requires : tie.Need-picked-requires Inv-loop μ-loop
+picked-requires c κs = (search needs, λ j. rw (c .products-of .ensures) (small-in (c .before .before .before .before .args .d .now) j))
 
 loop-holds : tie.Need-loop-holds Inv-loop μ-loop
 loop-holds c = begun inOrder _ 0 16 _ (search needs)
@@ -40,11 +44,6 @@ mul-alpha c = omega arith
 
 array-copy-out-alpha : tie.Need-array-copy-out-alpha Inv-loop μ-loop
 array-copy-out-alpha c = omega arith
-
-alpha-requires : tie.Need-alpha-requires Inv-loop μ-loop
-alpha-requires c κs =
-    let b = c .before .before .before in
-    (omega arith, step-small _ (b .steps-of .result) (c .before .before .loop .i) (b .steps-of .ensures) (omega arith))
 
 mul-out : tie.Need-mul-out Inv-loop μ-loop
 mul-out c = omega arith
@@ -70,16 +69,33 @@ add-i c = omega arith
 loop-less : tie.Need-loop-less Inv-loop μ-loop
 loop-less c = omega arith
 
+-- the products that the pixels pick
+moves : (c : tie.After-picked Inv-loop μ-loop) → c .picked .result ≡ build 16 (moveAt (c .before .before .before .before .before .args .d .now))
+moves c =
+    let d = c .before .before .before .before .before .args .d .now in
+    c .picked .ensures
+    ∙ ap (λ (eight : List ℤ). build 16 (pickAt d eight)) (c .before .products-of .ensures)
+    ∙ build-same (pos 0) _ _ 16 (λ k h. move-picked d k)
+
+alpha-requires : tie.Need-alpha-requires Inv-loop μ-loop
+alpha-requires c κs =
+    let b = c .before .before .before in
+    let i = c .before .before .loop .i in
+    let d = b .before .before .before .before .before .args .d .now in
+    rw (held-at (moveAt d) (b .picked .result) i (moves b) (omega arith) (small-move d i)) (small-move d i)
+
 -- the alpha of the turn
 value : (c : tie.After-alpha Inv-loop μ-loop)
-    → c .alpha .result ≡ alphaByte (c .before .before .before .before .before .before .before .before .before .args .d .now) (c .before .before .before .loop .i % 4) (c .before .before .before .loop .i / 4)
+    → c .alpha .result
+    ≡ alphaByte (c .before .before .before .before .before .before .before .before .before .args .d .now)
+    (c .before .before .before .loop .i % 4) (c .before .before .before .loop .i / 4)
 unfolding alphaByte
 value c =
     let i = c .before .before .before .loop .i in
     let b = c .before .before .before .before in
+    let d = b .before .before .before .before .before .args .d .now in
     c .alpha .ensures .0
-    ∙ moved-same 255 {a = pos (byte (b .before .before .before .before .before .args .d .now) 0)} refl (b .before .multiplier-of .ensures .0)
-    (step-held _ (b .steps-of .result) i (b .steps-of .ensures) (omega arith))
+    ∙ ap (λ (z : ℤ). clamp 255 (pos (byte d 0) +ℤ z)) (held-at (moveAt d) (b .picked .result) i (moves b) (omega arith) (small-move d i))
 
 loop-again : tie.Need-loop-again Inv-loop μ-loop
 loop-again c =
@@ -99,9 +115,9 @@ a8-onto-spec =
     Inv-loop
     μ-loop
     shared-slice-read-base
-    shared-slice-read-multiplier-of
-    multiplier-of-requires
-    steps-of-requires
+    shared-slice-read-products-of
+    products-of-requires
+    picked-requires
     loop-holds
     mul-alpha
     array-copy-out-alpha
