@@ -2,9 +2,9 @@
 
 Each definition becomes a Python function, and a change replaces one of them. Natural numbers are whole numbers with a cut-off
 subtraction, integers are whole numbers, a list is a tuple, a record a dictionary. A Bool's `cond`, && and || look only at what they
-need, and so does `judged`; everything else is computed at once. Types are not looked at: a change that computes another row is refused by the
-specimens where it has a type, and by the types where it has none; one that meets a number where a list is due has none.
-Whatever cannot be computed here is left to the prover.
+need, and so does `judged`; everything else is computed at once. Types are not looked at: a change that computes another row is
+refused by the specimens where it has a type, and by the types where it has none; one that meets a number where a list is due
+has none. Whatever cannot be computed here is left to the prover.
 """
 
 import functools
