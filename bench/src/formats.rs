@@ -10,7 +10,7 @@ pub struct Format {
     pub given: Reader,
 }
 
-pub const FORMATS: [Format; 6] = [
+pub const FORMATS: [Format; 7] = [
     Format {
         name: "ETC1",
         halves: &[Half::Colour],
@@ -36,6 +36,12 @@ pub const FORMATS: [Format; 6] = [
         given: given::decode_etc2_rgba8,
     },
     Format {
+        name: "alpha half",
+        halves: &[Half::Alpha],
+        library: |data, _, _, image| each_block(yalivucu::decode_etc2_a8_block, data, image),
+        given: |data, _, _, image| each_block(given::decode_etc2_a8_block, data, image),
+    },
+    Format {
         name: "EAC R",
         halves: &[Half::Channel],
         library: yalivucu::decode_eacr,
@@ -48,6 +54,14 @@ pub const FORMATS: [Format; 6] = [
         given: given::decode_eacrg,
     },
 ];
+
+/// A block reader on one block after the other, each with sixteen elements of its own.
+fn each_block(reader: fn(&[u8], &mut [u32]), data: &[u8], image: &mut [u32]) -> Result<(), &'static str> {
+    for (block, tile) in data.chunks_exact(8).zip(image.chunks_exact_mut(16)) {
+        reader(block, tile);
+    }
+    Ok(())
+}
 
 impl Format {
     /// Whether both write the same pixels, outside the listed differences: the crate keeps the
