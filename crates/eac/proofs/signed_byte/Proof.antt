@@ -33,7 +33,7 @@ equal (negsuc m) (negsuc n) t = ap negsuc (eqb→eq m n t)
 
 -- what the code makes of a byte
 abbrev made : ℕ → ℤ
-made b = cond (ltb 127 b) (held w16 (toZ w16 b -ℤ pos 256)) (toZ w16 b)
+made b = cond (eqb b 128) (negsuc 126) (cond (ltb 127 b) (held w16 (toZ w16 b -ℤ pos 256)) (toZ w16 b))
 
 right : (b : ℕ) → b < 256 → made b ≡ signedBase b
 unfolding alike
