@@ -10,3 +10,4 @@ pub mod Sheets
 pub mod Encoded
 pub mod Back
 pub mod Skipped
+pub mod Lowest

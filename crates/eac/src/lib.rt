@@ -10,11 +10,17 @@ ghost use Rattle.rules.specs.Pixel.{word};
 ghost use Rattle.rules.specs.Places.{tile};
 ghost use Rattle.rules.specs.Channels.{signedBase, centre, multiplier, eacByte, redPixel, redGreenPixel, orChannel};
 
-// The signed base: a byte as two's complement, -128 to 127.
+// The signed base: a byte as two's complement, where -128 is read as -127.
 fn signed_byte(b: u8) -> i16
     ensures { λ r. ⌜ r ≡ signedBase b ⌝ }
 {
-    if 127 < b { b as i16 - 256 } else { b as i16 }
+    if b == 128 {
+        -127
+    } else if 127 < b {
+        b as i16 - 256
+    } else {
+        b as i16
+    }
 }
 
 // The value in the middle of a block's, to which steps are added: 8 * b0 + 4, or as two's complement with 1023 for 4.

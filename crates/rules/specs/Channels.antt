@@ -60,9 +60,9 @@ withAlpha p a = a * 2 ^ 24 + p % 2 ^ 24
 unfoldable pub rgba8Pixel : List ℕ → ℕ → ℕ → ℕ
 rgba8Pixel d x y = withAlpha (rgbPixel (drop 8 d) x y) (alphaByte d x y)
 
--- "b0 as two's complement, -128 to 127 as the crate has it": the signed base
+-- "b0 as two's complement", and 02's "The Khronos text has a reader treat -128 as -127.": the signed base, -127 to 127
 abbrev pub signedBase : ℕ → ℤ
-signedBase b = twos 8 b
+signedBase b = cond (eqb b 128) (minus 127) (twos 8 b)
 
 -- "EAC unsigned: v = 8 * b0 + 4 + .."; "EAC signed: the same with" the signed base, "and 1023 in place of 4."
 abbrev pub centre : Bool → ℕ → ℤ

@@ -6,15 +6,15 @@ use crate::protocol::{ask, Answer, Case};
 use crate::readers::*;
 use crate::report::Report;
 use crate::second::from_mesa;
+use crate::specimens::LOWEST;
 use std::io::Result;
 use std::panic::{catch_unwind, set_hook, take_hook};
 
 /// A picture of one block: reader, side, bytes, element, the other's pixel, and the pixel due.
 type Example = (u32, u32, [u8; 8], usize, u32, u32);
 
-/// A red sum of 32, and a signed base of 80 hex with index 6 everywhere.
+/// A red sum of 32.
 const WRAPPED: [u8; 8] = [0xf9, 0, 0, 2, 0, 0, 0, 0];
-const LOWEST: [u8; 8] = [0x80, 0x10, 0xdb, 0x6d, 0xb6, 0xdb, 0x6d, 0xb6];
 
 const OF_CRATE: [Example; 13] = [
     (RGBA1, 4, [0x80, 0, 0, 0, 0xff, 0xff, 0, 0], 0, 0x0084_0000, 0),
@@ -29,11 +29,11 @@ const OF_CRATE: [Example; 13] = [
     (EACR, 1, [0x80, 0x10, 0x20, 0, 0, 0, 0, 0], 0, 0xff7d_0000, 0xff7a_0000),
     (EACR, 4, [0x80, 0x10, 0, 0, 0, 0, 0, 7], 15, 0xff7d_0000, 0xff8e_0000),
     (ETC1, 4, WRAPPED, 2, 0xff02_0202, 0xff02_0202),
-    (EACR_SIGNED, 4, LOWEST, 0, 0xff07_0000, 0xff07_0000),
+    (EACR_SIGNED, 4, LOWEST, 0, 0xff07_0000, 0xff08_0000),
 ];
 
 const OF_MESA: [Example; 2] =
-    [(ETC1, 4, WRAPPED, 2, 0xff0a_0202, 0xff02_0202), (EACR_SIGNED, 4, LOWEST, 0, 0xff08_0000, 0xff07_0000)];
+    [(ETC1, 4, WRAPPED, 2, 0xff0a_0202, 0xff02_0202), (EACR_SIGNED, 4, LOWEST, 0, 0xff08_0000, 0xff08_0000)];
 
 const OF_ANDROID: [Example; 1] = [(ETC1, 4, WRAPPED, 2, 0xff02_0202, 0xff02_0202)];
 

@@ -59,9 +59,9 @@ fn in_listed_order(case: &Case, listed: &[String]) -> Vec<u32> {
     }
 }
 
-/// The case with each signed base of -128 made -127, as a reader would that knows no
-/// lower one.
-pub fn lowest_base_raised(case: &Case) -> Case {
+/// The case with each signed base of -128 made -127: what the crate has to be given to
+/// show what a reader shows that knows no lower one.
+fn lowest_base_raised(case: &Case) -> Case {
     let mut raised = case.clone();
     if is_signed(case.reader) {
         raised.data.chunks_mut(8).for_each(|b| b[0] = if b[0] == 0x80 { 0x81 } else { b[0] });

@@ -115,6 +115,7 @@ fn second(options: &Options) -> Result<bool> {
     same &= examples::of_seconds(&options.mesa, &options.android, &options.program)?;
     same &= second::android(options)?;
     same &= second::mesa(options)?;
+    same &= second::every_base(options)?;
     Ok(same)
 }
 

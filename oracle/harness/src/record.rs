@@ -4,7 +4,7 @@
 
 use crate::cases::{stored_accepted_plan, stored_plan};
 use crate::census;
-use crate::expected::{expected, lowest_base_raised};
+use crate::expected::expected;
 use crate::pictures;
 use crate::protocol::{ask, Case, Pair};
 use crate::readers::*;
@@ -143,7 +143,7 @@ fn seconds(options: &crate::Options, list: &mut List) -> Result<()> {
     list.group("Android: etc1", &ask(&options.android, cases)?);
     for reader in ETC1..=EACRG_SIGNED {
         let shapes = stored_accepted_plan(reader, options.seed, reader == ETC1);
-        let cases = shapes.iter().map(|shape| lowest_base_raised(&shape.case())).collect();
+        let cases = shapes.iter().map(|shape| shape.case()).collect();
         let seen = ask(&options.mesa, cases)?;
         let pairs: Vec<Pair> =
             seen.into_iter().map(|(case, seen)| (case.clone(), from_mesa(&case, seen, reader))).collect();

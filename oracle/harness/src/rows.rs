@@ -3,7 +3,7 @@
 //! asked. The program under test is not asked.
 
 use crate::blocks::{channel, colour, h_orders};
-use crate::expected::{expected, lowest_base_raised};
+use crate::expected::expected;
 use crate::protocol::{ask, Answer, Case, Pair};
 use crate::random::Random;
 use crate::readers::*;
@@ -16,7 +16,7 @@ use std::io::{Error, Result};
 /// What stands in every element that a row does not give.
 const OLD: u32 = 0x1111_1111;
 /// Sixteen indices of three bits, of which the two upper rows have 0 to 7, and the lower ones too; and in another order.
-const EVERY_INDEX: [u64; 2] = [0x07e4_ec95_adc8, 0x62ad_783e_6519];
+pub const EVERY_INDEX: [u64; 2] = [0x07e4_ec95_adc8, 0x62ad_783e_6519];
 
 struct Row {
     about: &'static str,
@@ -277,9 +277,9 @@ fn shared(options: &crate::Options, pairs: &[Pair]) -> Result<()> {
     Ok(())
 }
 
-// Lengths as a decoder without refusals wants them, and signed bases as Mesa reads them.
+// Lengths as a decoder without refusals wants them.
 fn exact(case: &Case) -> Case {
-    let mut case = lowest_base_raised(case);
+    let mut case = case.clone();
     case.image.truncate((case.width * case.height) as usize);
     case.data.truncate(crate::rules::blocks(&case) * block_size(case.reader));
     case

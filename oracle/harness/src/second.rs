@@ -1,10 +1,10 @@
 //! The program under test against decoders that share nothing with it or the crate.
 
 use crate::cases::{accepted_plan, Shape};
-use crate::expected::{is_listed, lowest_base_raised, EAC_LOWEST_BASE};
 use crate::protocol::{ask, Answer, Case, Peer};
 use crate::readers::*;
 use crate::report::Report;
+use crate::rows::EVERY_INDEX;
 use crate::rules::{blocks_across, is_new};
 use crate::specimens;
 use std::io::Result;
@@ -46,27 +46,49 @@ pub fn specimens(android: &str, mesa: &str) -> Result<bool> {
 // The same shapes go to both, each as its own reader wants them.
 fn against(reader: u32, options: &crate::Options, other: &str, label: &str, asked: u32) -> Result<bool> {
     let shapes = accepted_plan(reader, options.seed, options.blocks);
-    let aside = if reader == ETC1 { "pixels left to Android" } else { "bases 80 given as 81" };
+    let aside = if reader == ETC1 { "pixels left to Android" } else { "" };
     let mut report = Report::new(format!("{label} {}", name(reader)), aside, shapes.len());
-    let raised = !is_listed(&options.listed, EAC_LOWEST_BASE);
     let cases = |shapes: Vec<Shape>| shapes.into_iter().map(|shape| shape.case());
     let mut theirs = Peer::start(other, cases(shapes.clone()))?;
-    let mut ours = Peer::start(&options.program, cases(shapes).map(move |case| for_ours(case, asked, raised)))?;
+    let mut ours = Peer::start(&options.program, cases(shapes).map(move |case| for_ours(case, asked)))?;
     while let (Some((case, seen)), Some((as_asked, got))) = (theirs.next()?, ours.next()?) {
         let left = if label == "Android" { Vec::new() } else { wrapped_halves(&case) };
-        let changed = case.data.iter().zip(&as_asked.data).filter(|(a, b)| a != b).count();
         let mut due = if label == "Android" { seen } else { from_mesa(&case, seen, asked) };
         left.iter().for_each(|&k| due.image[k] = got.image[k]);
-        report.count(&as_asked, &due, &got, left.len() + changed);
+        report.count(&as_asked, &due, &got, left.len());
     }
     ours.finish()?;
     theirs.finish()?;
     Ok(report.close())
 }
 
-// Mesa reads the signed base 80 hex as 81: where ours does not, ours is given 81.
-fn for_ours(case: Case, asked: u32, raised: bool) -> Case {
-    let mut case = if raised { lowest_base_raised(&case) } else { case };
+/// Signed EAC at every base, with every multiplier, row and index, by Mesa.
+pub fn every_base(options: &crate::Options) -> Result<bool> {
+    let mut same = true;
+    for reader in [EACR_SIGNED, EACRG_SIGNED] {
+        let cases: Vec<Case> = (0..=255).map(|base| every_channel(reader, base)).collect();
+        let mut report = Report::new(format!("Mesa {}, every base", name(reader)), "", cases.len());
+        let ours = ask(&options.program, cases.clone())?;
+        for ((case, seen), (_, got)) in ask(&options.mesa, cases)?.into_iter().zip(ours) {
+            report.count(&case, &from_mesa(&case, seen, reader), &got, 0);
+        }
+        same &= report.close();
+    }
+    Ok(same)
+}
+
+// A block for each multiplier and row; of two halves the second has what the first has not had.
+fn every_channel(reader: u32, base: u8) -> Case {
+    let half = |second: u8| {
+        let index = EVERY_INDEX[second as usize % 2].to_be_bytes();
+        [base, second, index[2], index[3], index[4], index[5], index[6], index[7]]
+    };
+    let blocks =
+        (0..=255).flat_map(|second: u8| [half(second), half(!second)].concat().into_iter().take(block_size(reader)));
+    Case { reader, channel: 0, width: 512, height: 8, data: blocks.collect(), image: vec![0; 512 * 8] }
+}
+
+fn for_ours(mut case: Case, asked: u32) -> Case {
     if asked == WIDE_EACRG || asked == WIDE_EACRG_SIGNED {
         case.image.extend_from_within(..);
     }

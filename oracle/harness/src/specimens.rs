@@ -96,6 +96,9 @@ fn strict() -> Vec<Specimen> {
     ]
 }
 
+/// A base of 80 hex with index 6 everywhere: 02's specimen of the lowest signed base.
+pub const LOWEST: [u8; 8] = [0x80, 0x10, 0xdb, 0x6d, 0xb6, 0xdb, 0x6d, 0xb6];
+
 fn channels() -> Vec<Specimen> {
     vec![
         block(BLOCK_A8, &[0x80, 0x10], all(0x7d11_1111)),
@@ -104,6 +107,9 @@ fn channels() -> Vec<Specimen> {
         block(EACR, &[0x80, 0x10], all(0xff7d_0000)),
         block(EACR, &[0x80, 0x00], all(0xff80_0000)),
         block(EACR_SIGNED, &[0x00, 0x10], all(0xff7c_0000)),
+        block(EACR_SIGNED, &LOWEST, all(0xff08_0000)),
+        block(EACR_SIGNED, &[0x81, 0x10, 0xdb, 0x6d, 0xb6, 0xdb, 0x6d, 0xb6], all(0xff08_0000)),
+        block(EACR, &LOWEST, all(0xff88_0000)),
     ]
 }
 
