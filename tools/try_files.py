@@ -190,6 +190,8 @@ def inputs(room):
     for words in (["-", out], ["--info", "-"]):
         status, _, sentence = unpack(*words, stdin=terminal, timeout=60)
         note(status == 30 and "terminal" in sentence, "%s: a terminal" % words)
+    status, _, sentence = unpack("-", out, preexec_fn=lambda: os.close(0))
+    note(status == 30 and "closed" in sentence, "a closed standard input: %d %s" % (status, sentence))
     run = subprocess.run([TOOL, OLD, "-"], stdout=terminal, stderr=subprocess.PIPE, timeout=60)
     note(run.returncode == 36 and b"terminal" in run.stderr, "no PNG to a terminal")
     os.close(master)
