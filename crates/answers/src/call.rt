@@ -3,11 +3,6 @@ use super::census;
 use rules::Answer;
 ghost use Prim.Native.Nat.{_≤_};
 
-// Whether a number names a reader.
-pub fn is_reader(number: u32) -> bool {
-    number <= 8 || (number >= 16 && number <= 26) || number == 32 || number == 33
-}
-
 // Calls the reader of a number on the first n bytes and the first m elements.
 pub fn call_on(
     number: u32,
@@ -25,7 +20,7 @@ pub fn call_on(
     call(number, channel, width, height, &data[..n], &mut image[..m])
 }
 
-// The number is a reader's, by `is_reader`. Each match is short: what the check of one costs grows faster than its arms.
+// The number is a reader's, by `wire::is_case`. Each match is short: what the check of one costs grows faster than its arms.
 fn call(
     number: u32,
     channel: usize,

@@ -2,9 +2,7 @@
 // came out. Images are of 11111111 (hex) before, and have elements behind the picture that must keep that value.
 use libc::STDOUT_FILENO;
 use rules::Answer;
-ghost use mathlib.Core.Path.{_≡_};
-ghost use Prim.Native.Nat.{_+_, _*_, _/_, _<_};
-ghost use Rattle.picture_cases.specs.Digest.{digested};
+ghost use Prim.Native.Nat.{_<_};
 
 // The picture readers by number, in document 01's order; 8 is strict ETC1.
 fn read(reader: usize, data: &[u8], width: usize, height: usize, image: &mut [u32]) -> Answer {
@@ -147,89 +145,17 @@ fn largest() {
     empty(1, 1);
     empty(16384, 16384);
     empty(16384, 16385);
-    empty(18446744073709551615, 0);
-    empty(0, 18446744073709551615);
-    empty(18446744073709551615, 18446744073709551615);
-    empty(4294967296, 4294967296);
-}
-
-// A byte, without the difference bit where plain is set.
-fn byte_of(v: usize, plain: bool) -> u8
-    requires { ⌜ v < 256 ⌝ }
-{
-    if plain {
-        (v / 4 * 4 + v % 2) as u8
-    } else {
-        v as u8
-    }
-}
-
-// Bytes of every value, in an order that the seed moves. Where plain is set, no block has its difference bit, so that strict accepts it.
-fn fill(data: &mut [u8], seed: usize, plain: bool)
-    requires { ⌜ seed < 65536 ⌝ }
-{
-    let mut i: usize = 0;
-    let mut v: usize = seed % 256;
-    while i < data.len() {
-        data[i] = byte_of(v, plain);
-        v = (v * 5 + 89) % 256;
-        i += 1;
-    }
-}
-
-fn wide(element: u32) -> u64
-    ensures { λ r. ⌜ (r ≡ element) × (r < 4294967296) ⌝ }
-{
-    element as u64
-}
-
-// A number that changes with any element: it stands for an image in the stored output.
-fn digest(image: &[u32], before: u64) -> u64
-    requires { ⌜ before < 4294967296 ⌝ }
-    ensures { λ r. ⌜ r ≡ digested before (now (image .entry)) ⌝ }
-{
-    let mut sum = before;
-    let mut i: usize = 0;
-    while i < image.len() {
-        sum = (sum * 31 + wide(image[i])) % 4294967296;
-        i += 1;
-    }
-    sum
-}
-
-// The blocks that n pixels take.
-fn across(n: usize) -> usize
-    requires { ⌜ n < 10 ⌝ }
-    ensures { λ r. ⌜ (r ≡ (n + 3) / 4) × (r < 4) ⌝ }
-{
-    (n + 3) / 4
-}
-
-// The bytes that a picture of a reader takes.
-fn bytes_of(reader: usize, width: usize, height: usize) -> usize
-    requires { ⌜ (width < 10) × (height < 10) ⌝ }
-    ensures { λ r. ⌜ r < 145 ⌝ }
-{
-    let blocks = across(width) * across(height);
-    match reader {
-        3 | 6 | 7 => blocks * 16,
-        _ => blocks * 8,
-    }
-}
-
-// The pixels of a picture.
-fn pixels_of(width: usize, height: usize) -> usize
-    requires { ⌜ (width < 10) × (height < 10) ⌝ }
-    ensures { λ r. ⌜ (r ≡ width * height) × (r < 82) ⌝ }
-{
-    width * height
+    empty(0xFFFFFFFFFFFFFFFF, 0);
+    empty(0, 0xFFFFFFFFFFFFFFFF);
+    empty(0xFFFFFFFFFFFFFFFF, 0xFFFFFFFFFFFFFFFF);
+    empty(0x100000000, 0x100000000);
 }
 
 // What the reader answers to one byte less than enough, or - where there is none to leave out.
 fn without_a_byte(reader: usize, width: usize, height: usize, data: &[u8], image: &mut [u32])
     requires { ⌜ (width < 10) × (height < 10) ⌝ }
 {
-    let bytes = bytes_of(reader, width, height);
+    let bytes = samples::bytes_of(reader, width, height);
     if bytes == 0 {
         printing::say(b"-");
         return;
@@ -241,7 +167,7 @@ fn without_a_byte(reader: usize, width: usize, height: usize, data: &[u8], image
         width,
         height,
         image,
-        pixels_of(width, height),
+        samples::pixels_of(width, height),
     );
     printing::say_answer(answer);
 }
@@ -250,7 +176,7 @@ fn without_a_byte(reader: usize, width: usize, height: usize, data: &[u8], image
 fn without_an_element(reader: usize, width: usize, height: usize, data: &[u8], image: &mut [u32])
     requires { ⌜ (width < 10) × (height < 10) ⌝ }
 {
-    let elements = pixels_of(width, height);
+    let elements = samples::pixels_of(width, height);
     if elements == 0 {
         printing::say(b"-");
         return;
@@ -258,7 +184,7 @@ fn without_an_element(reader: usize, width: usize, height: usize, data: &[u8], i
     let answer = part(
         reader,
         data,
-        bytes_of(reader, width, height),
+        samples::bytes_of(reader, width, height),
         width,
         height,
         image,
@@ -276,8 +202,11 @@ fn size_case(reader: usize, width: usize, height: usize, data: &[u8], image: &mu
     without_an_element(reader, width, height, data, image);
     let refused = printing::changed(image, 0);
     with_enough(reader, width, height, data, image);
-    say_changed(refused, printing::changed(image, pixels_of(width, height)));
-    say_digest(digest(image, 0));
+    say_changed(
+        refused,
+        printing::changed(image, samples::pixels_of(width, height)),
+    );
+    say_digest(samples::digest(image, 0));
 }
 
 // What the reader answers to enough bytes, and to two elements more than enough.
@@ -287,11 +216,11 @@ fn with_enough(reader: usize, width: usize, height: usize, data: &[u8], image: &
     let answer = part(
         reader,
         data,
-        bytes_of(reader, width, height),
+        samples::bytes_of(reader, width, height),
         width,
         height,
         image,
-        pixels_of(width, height) + 2,
+        samples::pixels_of(width, height) + 2,
     );
     printing::say_answer(answer);
 }
@@ -315,7 +244,7 @@ fn fresh_case(reader: usize, width: usize, height: usize)
 {
     let mut data = [0u8; 144];
     let mut image = [0x11111111u32; 84];
-    fill(&mut data, reader * 100 + width * 10 + height, reader == 8);
+    samples::fill(&mut data, reader * 100 + width * 10 + height, reader == 8);
     size_case(reader, width, height, &data, &mut image);
 }
 

@@ -17,7 +17,7 @@ use Rattle.rules.specs.Places.{column, row, inside, across, blockAt, bytesOf, p
 use Rattle.rules.specs.declared.Picture.{Picture}
 use Rattle.laws.proofs.Filled.{is-build, length-build, getD-build}
 use Rattle.laws.proofs.Paint.{length-painted, getD-painted}
-use Rattle.place.proofs.Grid.{wide}
+use Rattle.place.proofs.Grid.{wide, covered}
 use Rattle.rows.specs.Rows.{high, rowOf, rowBytes, rowPixels, joined}
 
 -- ---- the bytes of a block
@@ -55,9 +55,6 @@ block n s i j d h =
 -- a row of blocks is at most four pixels high
 low : (y h j : ℕ) → y < high h j → (y / 4 ≡ 0) × ((j * 4 + y) / 4 ≡ j) × ((j * 4 + y) % 4 ≡ y % 4)
 low y h j i = omega arith
-
-covered : (x n : ℕ) → x < n → x / 4 < across n
-covered x n h = omega arith
 
 module _ (p : Picture) (j k : ℕ) (h : k < p .width * high (p .height) j) where
   -- the picture has a column

@@ -21,12 +21,12 @@ pub fn across(side: usize) -> usize
     requires { ⌜ side ≤ limit ⌝ }
     ensures { λ r. ⌜ (r ≡ acrossOf side) × (r ≤ 4096) ⌝ }
 {
-    place::across(side)
+    checks::across(side)
 }
 
 // The first pixel of a block, in rows of n blocks.
 pub fn corner_of(block: usize, n: usize) -> Corner
-    requires { ⌜ (0 < n) × (block < 16777216) ⌝ }
+    requires { ⌜ (0 < n) × (block < 0x1000000) ⌝ }
     ensures { λ r. ⌜ r ≡ cornerOf n block ⌝ }
 {
     Corner {

@@ -54,7 +54,7 @@ fn first_record(d: &[u8]) -> Found
         width: width,
         height: height,
     };
-    if picture::too_large(16384, pic) {
+    if checks::too_large(16384, pic) {
         return Found::Refused(Answer::TooLarge);
     }
     let head = Head {
