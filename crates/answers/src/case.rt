@@ -19,16 +19,16 @@ fn field(head: &[u8; 24], k: usize) -> u32
 
 // How many bytes of data the head of a case asks for.
 pub fn data_length(head: &[u8; 24]) -> usize
-    ensures { λ r. ⌜ (r ≡ atMost 65536 (wordAt (now (head .entry)) 16)) × (r ≤ 65536) ⌝ }
+    ensures { λ r. ⌜ (r ≡ atMost 262144 (wordAt (now (head .entry)) 16)) × (r ≤ 262144) ⌝ }
 {
-    length_of(head, 4, 65536)
+    length_of(head, 4, 262144)
 }
 
 // How many elements it asks for.
 pub fn image_length(head: &[u8; 24]) -> usize
-    ensures { λ r. ⌜ (r ≡ atMost 16384 (wordAt (now (head .entry)) 20)) × (r ≤ 16384) ⌝ }
+    ensures { λ r. ⌜ (r ≡ atMost 65536 (wordAt (now (head .entry)) 20)) × (r ≤ 65536) ⌝ }
 {
-    length_of(head, 5, 16384)
+    length_of(head, 5, 65536)
 }
 
 // A length that the head asks for, or the most that there is room for.
@@ -50,11 +50,11 @@ fn at_most(most: usize, n: usize) -> usize
 
 // Whether the reader is one, and there is room for the lengths.
 fn is_case(head: &[u8; 24]) -> bool {
-    call::is_reader(field(head, 0)) && field(head, 4) <= 65536 && field(head, 5) <= 16384
+    call::is_reader(field(head, 0)) && field(head, 4) <= 262144 && field(head, 5) <= 65536
 }
 
 // Takes a case: its head, its data, and the bytes of its image. False where the input has none.
-pub fn taken(head: &mut [u8; 24], data: &mut [u8; 65536], shown: &mut [u8; 65536]) -> bool {
+pub fn taken(head: &mut [u8; 24], data: &mut [u8; 262144], shown: &mut [u8; 262144]) -> bool {
     if !wire::taken(head, 24) {
         return false;
     }
@@ -71,9 +71,9 @@ pub fn taken(head: &mut [u8; 24], data: &mut [u8; 65536], shown: &mut [u8; 65536
 // words of the image are lent, since making room for them anew takes longer than a block.
 pub fn answered(
     head: &[u8; 24],
-    data: &[u8; 65536],
-    shown: &mut [u8; 65536],
-    image: &mut [u32; 16384],
+    data: &[u8; 262144],
+    shown: &mut [u8; 262144],
+    image: &mut [u32; 65536],
 ) -> [u8; 8] {
     let n = data_length(head);
     let m = image_length(head);

@@ -37,8 +37,8 @@ pub fn low(x: u32) -> u8
 }
 
 // The first n words of the bytes.
-pub fn unpack(part: &[u8; 65536], n: usize, words: &mut [u32; 16384])
-    requires { ⌜ n ≤ 16384 ⌝ }
+pub fn unpack(part: &[u8; 262144], n: usize, words: &mut [u32; 65536])
+    requires { ⌜ n ≤ 65536 ⌝ }
 {
     let mut i = 0;
     while i < n {
@@ -49,8 +49,8 @@ pub fn unpack(part: &[u8; 65536], n: usize, words: &mut [u32; 16384])
 }
 
 // The bytes of the first n words.
-pub fn pack(words: &[u32; 16384], n: usize, part: &mut [u8; 65536])
-    requires { ⌜ n ≤ 16384 ⌝ }
+pub fn pack(words: &[u32; 65536], n: usize, part: &mut [u8; 262144])
+    requires { ⌜ n ≤ 65536 ⌝ }
 {
     let mut i = 0;
     while i < n {

@@ -1,5 +1,5 @@
 -- A picture read in rows of blocks is the picture, for any format: each row, read from its own bytes as a picture of its own,
--- has the elements that it has in the whole, and all of them one after another are the whole.
+-- has the elements that it has in the whole, and all of them one after another are the whole. Rows of pixels have no gap.
 -- Assumes nothing.
 use mathlib.Core.Path.{_≡_, _∙_, sym, ap}
 use mathlib.Core.Bool.{Bool, cond}
@@ -13,11 +13,12 @@ use lib.ListN.{length, getD, take, drop, length-take, length-drop, length-append
 use lib.Seq.{ext-getD, getD-take, getD-drop, getD-append-add}
 use Rattle.rules.specs.Notation.{build}
 use Rattle.rules.specs.Pixel.{Shows}
-use Rattle.rules.specs.Places.{column, row, inside, across, blockAt, bytesOf, pixelAt, painted}
+use Rattle.rules.specs.Places.{sized, column, row, inside, across, blockAt, bytesOf, pixelAt, painted}
 use Rattle.rules.specs.declared.Picture.{Picture}
 use Rattle.laws.proofs.Filled.{is-build, length-build, getD-build}
 use Rattle.laws.proofs.Paint.{length-painted, getD-painted}
 use Rattle.place.proofs.Grid.{wide}
+use Rattle.place.proofs.Plain.{inside-plain}
 use Rattle.rows.specs.Rows.{high, rowOf, rowBytes, rowPixels, joined}
 
 -- ---- the bytes of a block
@@ -59,7 +60,10 @@ low y h j i = omega arith
 covered : (x n : ℕ) → x < n → x / 4 < across n
 covered x n h = omega arith
 
-module _ (p : Picture) (j k : ℕ) (h : k < p .width * high (p .height) j) where
+module _ (breadth tall j k : ℕ) (h : k < breadth * high tall j) where
+  abbrev p : Picture
+  p = sized breadth tall
+
   -- the picture has a column
   broad : 0 < p .width
   broad = wide (p .width) (high (p .height) j) k (omega (arith, mul-comm (p .width) (high (p .height) j)))
@@ -103,7 +107,10 @@ module _ (p : Picture) (j k : ℕ) (h : k < p .width * high (p .height) j) where
 
 -- ---- a row, and all rows
 
-module _ (shows : Shows) (s : ℕ) (p : Picture) (d : List ℕ) where
+module _ (shows : Shows) (s breadth tall : ℕ) (d : List ℕ) where
+  abbrev p : Picture
+  p = sized breadth tall
+
   -- an image over which row j was painted, from its own bytes, has the pixels of row j in front
   pub row-painted :
       (j : ℕ) (image : List ℕ) → p .width * high (p .height) j ≤ length image
@@ -116,8 +123,8 @@ module _ (shows : Shows) (s : ℕ) (p : Picture) (d : List ℕ) where
       (λ k q.
       getD-take n l k 0 q
       ∙ getD-painted (inside (rowOf p j)) (pixelAt shows s (rowOf p j) (rowBytes s p d j)) image k (omega arith)
-      ∙ ap (λ (b : Bool). cond b (pixelAt shows s (rowOf p j) (rowBytes s p d j) k) (getD image k 0)) (lt-ltb k n q)
-      ∙ pixel p j k q shows s d)
+      ∙ ap (λ (b : Bool). cond b (pixelAt shows s (rowOf p j) (rowBytes s p d j) k) (getD image k 0)) (inside-plain breadth (high tall j) k ∙ lt-ltb k n q)
+      ∙ pixel breadth tall j k q shows s d)
 
   -- the pixels of the first n elements
   first : ℕ → List ℕ

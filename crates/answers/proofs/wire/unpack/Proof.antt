@@ -1,4 +1,4 @@
--- `answers::wire::unpack` is safe and ends: four bytes a word are there, since there are at most 16,384 words. Assumes nothing.
+-- `answers::wire::unpack` is safe and ends: four bytes a word are there, since there are at most 65,536 words. Assumes nothing.
 use Prim.Native.Nat.{_≤_, _-_}
 use borrow.Author.Needs.{needs}
 use Rattle.answers.proofs.wire.unpack.Statement.{statement}
