@@ -97,13 +97,13 @@ fn rgba1_counts(c: [usize; 8]) -> Rgba1Counts
 pub fn rgb(data: &[u8], pic: Picture) -> RgbCensus
     ensures { λ r. ⌜ CountsRgb (now («data» .entry)) pic r ⌝ }
 {
-    if picture::too_large(16384, pic) {
+    if checks::too_large(16384, pic) {
         return RgbCensus::TooLarge;
     }
-    if picture::short_data(8, pic, data.len()) {
+    if checks::short_data(8, pic, data.len()) {
         return RgbCensus::ShortData;
     }
-    let n = picture::blocks_of(pic);
+    let n = checks::blocks_of(pic);
     RgbCensus::Counted(rgb_counts(tally(false, data, n)))
 }
 
@@ -111,12 +111,12 @@ pub fn rgb(data: &[u8], pic: Picture) -> RgbCensus
 pub fn rgba1(data: &[u8], pic: Picture) -> Rgba1Census
     ensures { λ r. ⌜ CountsRgba1 (now («data» .entry)) pic r ⌝ }
 {
-    if picture::too_large(16384, pic) {
+    if checks::too_large(16384, pic) {
         return Rgba1Census::TooLarge;
     }
-    if picture::short_data(8, pic, data.len()) {
+    if checks::short_data(8, pic, data.len()) {
         return Rgba1Census::ShortData;
     }
-    let n = picture::blocks_of(pic);
+    let n = checks::blocks_of(pic);
     Rgba1Census::Counted(rgba1_counts(tally(true, data, n)))
 }

@@ -27,7 +27,7 @@ use Rattle.laws.proofs.Judged.{all-pass}
 use Rattle.laws.proofs.Unique.{answer}
 use Rattle.place.specs.Tile.{Room}
 use Rattle.place.proofs.Grid.{column-at, row-at, inside-at, none-needed, beyond, in-gap, roomy}
-use Rattle.picture.proofs.Checks.{passed-by}
+use Rattle.checks.proofs.Checks.{passed-by}
 use Rattle.laws.proofs.Reach.{some-bytes}
 use Rattle.claims.proofs.Outcomes.{Same, same-outcome, an-acceptance-paints, the-length-stays, the-rest-stays}
 use Rattle.claims.proofs.Alike.{over, OnlyInTile, beside-in-tile, picture-alike, verdict-alike, behind}

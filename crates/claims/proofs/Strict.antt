@@ -23,7 +23,7 @@ use Rattle.laws.proofs.Guards.{strict-sound, finds-none}
 use Rattle.laws.proofs.Paint.{getD-painted}
 use Rattle.laws.proofs.Range.{agree}
 use Rattle.place.proofs.Grid.{beyond, in-gap, roomy}
-use Rattle.picture.proofs.Checks.{passed-by}
+use Rattle.checks.proofs.Checks.{passed-by}
 use Rattle.claims.proofs.Outcomes.{Same, an-acceptance-paints}
 use Rattle.claims.proofs.Alike.{OnlyInTile, verdict-alike}
 use Rattle.claims.proofs.Guarded as guarded-claims

@@ -6,16 +6,9 @@ ghost use Prim.Native.Nat.{ℕ, _+_, _*_, _<_, _≤_};
 ghost use lib.Dec.{ltb};
 ghost use lib.ListN.{length, getD};
 ghost use Rattle.rules.specs.Notation.{build};
-ghost use Rattle.rules.specs.Places.{across as acrossOf, painted};
+ghost use Rattle.rules.specs.Places.{painted};
 ghost use Rattle.laws.specs.Painted.{Painted};
 ghost use Rattle.place.specs.Tile.{InPiece, InTile, Room, numberIn, shown as shownOf, inRow};
-
-// How many blocks lie along a side, whatever it is.
-pub fn across(side: usize) -> usize
-    ensures { λ r. ⌜ r ≡ acrossOf side ⌝ }
-{
-    side / 4 + (side % 4 + 3) / 4
-}
 
 // Writes the pixels of a tile, from one on, through a part of a lent image: as many as the part has.
 fn fill(tile: [u32; 16], from: usize, part: &mut [u32])

@@ -13,7 +13,7 @@ use Rattle.rules.specs.Readers.{ReadsPicture, pictureOf, pictureVerdict}
 use Rattle.rules.specs.declared.Format.{Format}
 use Rattle.rules.specs.declared.Answer.{Answer}
 use Rattle.rules.specs.declared.Answer.the-variants.{Done}
-use Rattle.picture.proofs.Checks.{passed}
+use Rattle.checks.proofs.Checks.{passed}
 use Rattle.place.proofs.Plain.{needed-plain}
 use Rattle.rows.specs.Rows.{high, rowBytes, rowPixels, ReadsRow}
 use Rattle.rows.proofs.Whole.{row-painted}

@@ -20,7 +20,7 @@ pub fn across(side: usize) -> usize
     requires { ⌜ side ≤ 16384 ⌝ }
     ensures { λ r. ⌜ (r ≡ acrossOf side) × (r ≤ 4096) ⌝ }
 {
-    place::across(side)
+    checks::across(side)
 }
 
 // The first pixel of a block, in rows of n blocks.

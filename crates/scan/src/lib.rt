@@ -17,7 +17,7 @@ fn after_row(row: &[u8], n: usize, j: usize) -> Answer
     requires { ⌜ (n ≤ 4096) × (j < 4096) × (n * 8 ≤ length (now row)) ⌝ }
     ensures { λ r. ⌜ said r ≡ scannedRow n j (now (row .entry)) ⌝ }
 {
-    let first = picture::first_out_of_range(row, n);
+    let first = guard::first_out_of_range(row, n);
     if first < n {
         return Answer::OutOfRange(j * n + first);
     }

@@ -13,7 +13,7 @@ use Rattle.rules.specs.declared.Picture.{Picture}
 use Rattle.numbers.specs.Numbers.{inBytes}
 use Rattle.rules.specs.Sheets.{sheetLimit, blockBytes, sheetOf, writeChecks, writeVerdict}
 use Rattle.laws.proofs.Judged as judged-laws
-use Rattle.picture.proofs.Checks.{fails, passes, within}
+use Rattle.checks.proofs.Checks.{fails, passes, within}
 
 -- the head's record and the first six bytes of the blocks' are 21 bytes
 pub sheet-length : (f : ℕ) (p : Picture) (b : List ℕ) → length (sheetOf f p b) ≡ 21 + length b

@@ -11,7 +11,7 @@ use lib.ListN.{length}
 use Rattle.rules.specs.Answers.{refusal, judged, tooLarge}
 use Rattle.rules.specs.declared.Head.{Head}
 use Rattle.rules.specs.Records.{Record, Records, more, ended, short, recordsOf, first, later, kept}
-use Rattle.picture.proofs.Checks.{within}
+use Rattle.checks.proofs.Checks.{within}
 use Rattle.rules.specs.Sheets.{sheetLimit, blockBytes, formatIn, sizeIn, isHead, afterBlocks, afterHead, walkVerdict, headIn, blocksIn}
 use Rattle.sheet.specs.Shown.{walk, Passes, Halts, Sound, Shown}
 

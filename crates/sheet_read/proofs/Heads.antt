@@ -21,7 +21,7 @@ use Rattle.records.specs.declared.Met as met
 use Rattle.records.proofs.Met.{the-type}
 use Rattle.numbers.proofs.Little.{moved, inside}
 use Rattle.rules.specs.Sheets.{sheetLimit, blockBytes, formatIn, sizeIn, isHead, afterHead, walkVerdict, headIn}
-use Rattle.picture.proofs.Checks.{within}
+use Rattle.checks.proofs.Checks.{within}
 use Rattle.sheet.specs.Shown.{walk}
 use Rattle.sheet_read.specs.Found.{Refuses, Headed}
 

@@ -55,7 +55,7 @@ fn first_record(d: &[u8]) -> Found
         height: height,
         pitch: width,
     };
-    if picture::too_large(16384, pic) {
+    if checks::too_large(16384, pic) {
         return Found::Refused(Answer::TooLarge);
     }
     let head = Head {

@@ -57,7 +57,7 @@ fn verify(format: usize, pic: Picture, n: usize, room: usize) -> Answer
     if 7 < format {
         return Answer::NoHead;
     }
-    if picture::too_large(16384, pic) {
+    if checks::too_large(16384, pic) {
         return Answer::TooLarge;
     }
     let exact = sheet::block_bytes(format, pic);

@@ -14,7 +14,7 @@ use Rattle.rules.specs.Places.{blocks, bytesOf}
 use Rattle.rules.specs.Answers.{limit, tooLarge}
 use Rattle.rules.specs.Census.{counts, rgba1Tests}
 use Rattle.census.proofs.Answered.{too-large, too-short, passes, all-eight}
-use Rattle.picture.proofs.Checks.{within}
+use Rattle.checks.proofs.Checks.{within}
 use Rattle.census.proofs.rgba1.Statement.{statement}
 use Rattle.census.proofs.rgba1.Tie as tie
 

@@ -7,7 +7,7 @@ use denote.Ref.{now}
 use Rattle.rules.specs.Answers.{said}
 use Rattle.rules.specs.Formats.{sizeOf}
 use Rattle.rules.specs.Readers.{pictureOf, pictureVerdict}
-use Rattle.picture.proofs.Checks.{as-said, passed-by}
+use Rattle.checks.proofs.Checks.{as-said, passed-by}
 use borrow.Author.Needs.{needs}
 use Rattle.picture.proofs.read.Statement.{statement}
 use Rattle.picture.proofs.read.Tie as tie

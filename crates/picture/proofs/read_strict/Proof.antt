@@ -8,7 +8,7 @@ use Rattle.rules.specs.Formats.{sizeOf}
 use Rattle.rules.specs.Guards.{inRange, badAt}
 use Rattle.rules.specs.Readers.{strictChecks}
 use Rattle.laws.proofs.Guards.{strict-sound}
-use Rattle.picture.proofs.Checks.{passed-by}
+use Rattle.checks.proofs.Checks.{passed-by}
 use Rattle.picture.proofs.Guard.{reads}
 use borrow.Author.Needs.{needs}
 use Rattle.picture.proofs.read_strict.Statement.{statement}

@@ -13,8 +13,8 @@ use Rattle.rules.specs.Formats.{sizeOf}
 use Rattle.rules.specs.declared.Answer.{Answer}
 use Rattle.laws.proofs.Judged.{stops, goes-on}
 use Rattle.laws.proofs.Unique.{refusal}
-use Rattle.picture.specs.Run.{Passed}
-use Rattle.picture.proofs.Checks.{passed-by}
+use Rattle.checks.specs.Passed.{Passed}
+use Rattle.checks.proofs.Checks.{passed-by}
 use borrow.Author.Needs.{needs}
 use Rattle.picture.proofs.strict_answer.Statement.{statement}
 use Rattle.picture.proofs.strict_answer.Tie as tie

@@ -6,7 +6,7 @@ use native.Mathlib.Omega.{arith}
 use denote.Ref.{now}
 use Rattle.rules.specs.Places.{sized}
 use Rattle.rules.specs.Sheets.{sheetLimit}
-use Rattle.picture.proofs.Checks.{within}
+use Rattle.checks.proofs.Checks.{within}
 use Rattle.records.specs.Turns.{all, Turn}
 use Rattle.records.proofs.Turns.{turn-of}
 use Rattle.sheet_read.proofs.Heads.{nothing, wrong-kind, wrong-length, wrong-format, too-large, headed}

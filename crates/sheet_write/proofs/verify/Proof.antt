@@ -5,7 +5,7 @@ use mathlib.Core.Bool.{false}
 use native.Mathlib.Omega.{arith}
 use Rattle.rules.specs.Answers.{tooLarge}
 use Rattle.rules.specs.Sheets.{sheetLimit}
-use Rattle.picture.proofs.Checks.{within}
+use Rattle.checks.proofs.Checks.{within}
 use Rattle.sheet.proofs.Checks.{no-format, too-large, wrong-blocks, no-room, accepted}
 use borrow.Author.Needs.{needs}
 use Rattle.sheet_write.proofs.verify.Statement.{statement}

@@ -1,10 +1,10 @@
--- `picture::short_image` meets its contract: the product of two small numbers is small.
+-- `checks::short_image` meets its contract: the product of two small numbers is small.
 -- Assumes nothing.
 use native.Mathlib.Omega.{arith}
-use Rattle.picture.proofs.Blocks.{few}
+use Rattle.checks.proofs.Checks.{few}
 use borrow.Author.Needs.{needs}
-use Rattle.picture.proofs.short_image.Statement.{statement}
-use Rattle.picture.proofs.short_image.Tie as tie
+use Rattle.checks.proofs.short_image.Statement.{statement}
+use Rattle.checks.proofs.short_image.Tie as tie
 
 mul-result : tie.Need-mul-result
 mul-result c =

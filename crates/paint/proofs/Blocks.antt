@@ -6,7 +6,7 @@ use mathlib.Core.List.{List}
 use mathlib.Core.Logic.{_⊎_, inl, inr, ⊎-elim}
 use Prim.Native.Nat.{ℕ, suc, _+_, _*_, _/_, _%_, _<_, _≤_}
 use native.Mathlib.Omega.{arith}
-use native.Mathlib.Nat.{eq-or-lt-of-le, div-add-mod', mod-lt, mul-comm, mul-le-mul, mul-le-mul-right, lt-of-mul-lt-mul-right, sub-zero, suc-mul}
+use native.Mathlib.Nat.{eq-or-lt-of-le, div-add-mod', mod-lt, mul-comm, mul-le-mul-right, lt-of-mul-lt-mul-right, sub-zero, suc-mul}
 use lib.Dec.{T}
 use lib.ListN.{getD}
 use Rattle.rules.specs.Pixel.{Shows}
@@ -16,12 +16,8 @@ use Rattle.laws.specs.Painted.{Painted}
 use Rattle.laws.proofs.Paint.{none, said, also, is-painted}
 use Rattle.laws.proofs.Filled.{getD-build}
 use Rattle.place.specs.Tile.{InTile, numberIn}
-use Rattle.place.proofs.Grid.{rem-at, div-at, before, column-in, row-in}
-use Rattle.picture.specs.Run.{InRun, Stands}
-
--- a pixel's block is one of those that cover the side
-covered : (x n : ℕ) → x < n → x / 4 < across n
-covered x n h = omega arith
+use Rattle.place.proofs.Grid.{rem-at, div-at, before, covered, column-in, row-in}
+use Rattle.paint.specs.Run.{InRun, Stands}
 
 -- the place that a number in a tile stands for
 placed : (x y : ℕ) → ((y % 4 * 4 + x % 4) % 4 ≡ x % 4) × ((y % 4 * 4 + x % 4) / 4 ≡ y % 4) × (y % 4 * 4 + x % 4 < 16)
@@ -40,10 +36,6 @@ stands n b h = record { short = mod-lt b h; counted = div-add-mod' b n }
 
 pub high : (n h b bx by : ℕ) → Stands n b bx by → b < n * h → by < h
 high n h b bx by s i = lt-of-mul-lt-mul-right n (omega (arith, s .counted, mul-comm n h))
-
--- a product of two numbers of blocks
-pub few : (a b : ℕ) → a ≤ 16384 → b ≤ 16384 → a * b ≤ 268435456
-few a b h i = mul-le-mul h i
 
 module _ (pic : Picture) where
   -- a picture that is no block wide has no pixel

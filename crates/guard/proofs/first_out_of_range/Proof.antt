@@ -1,4 +1,4 @@
--- `picture::first_out_of_range` meets its contract: the block that the scan names, or the end where it names none.
+-- `guard::first_out_of_range` meets its contract: the block that the scan names, or the end where it names none.
 -- Assumes nothing.
 use mathlib.Core.Path.{_∙_, sym, ap}
 use mathlib.Core.Bool.{Bool}
@@ -10,10 +10,10 @@ use Rattle.rules.specs.Places.{bytesOf}
 use Rattle.rules.specs.Answers.{said}
 use Rattle.rules.specs.Colour.{outOfRange}
 use Rattle.laws.proofs.Guards.{named}
-use Rattle.picture.proofs.Guard.{unnamed}
+use Rattle.guard.proofs.Scan.{unnamed}
 use borrow.Author.Needs.{needs}
-use Rattle.picture.proofs.first_out_of_range.Statement.{statement}
-use Rattle.picture.proofs.first_out_of_range.Tie as tie
+use Rattle.guard.proofs.first_out_of_range.Statement.{statement}
+use Rattle.guard.proofs.first_out_of_range.Tie as tie
 
 -- the test that the scan makes
 abbrev test : List ℕ → ℕ → Bool

@@ -1,4 +1,4 @@
--- `picture::short_data` meets its contract: no product wraps, and the number of blocks is what `blocks_of` returns.
+-- `checks::short_data` meets its contract: no product wraps, and the number of blocks is what `blocks_of` returns.
 -- Assumes nothing.
 use mathlib.Core.Path.{ap}
 use Prim.Native.Nat.{ℕ, _*_, _≤_}
@@ -6,8 +6,8 @@ use native.Mathlib.Omega.{arith}
 use native.Mathlib.Nat.{mul-le-mul}
 use lib.Dec.{ltb}
 use borrow.Author.Needs.{needs}
-use Rattle.picture.proofs.short_data.Statement.{statement}
-use Rattle.picture.proofs.short_data.Tie as tie
+use Rattle.checks.proofs.short_data.Statement.{statement}
+use Rattle.checks.proofs.short_data.Tie as tie
 
 blocks-of-requires : tie.Need-blocks-of-requires
 blocks-of-requires c κs = search needs

@@ -1,4 +1,4 @@
--- `picture::out_of_range` meets its contract: a block goes by only where its kind says that its sums are in range.
+-- `guard::out_of_range` meets its contract: a block goes by only where its kind says that its sums are in range.
 -- Assumes nothing.
 use mathlib.Core.Bool.{Bool}
 use mathlib.Core.List.{List}
@@ -8,10 +8,10 @@ use lib.ListN.{length-take, length-drop}
 use denote.Ref.{now}
 use Rattle.rules.specs.Places.{bytesOf}
 use Rattle.rules.specs.Colour.{outOfRange}
-use Rattle.picture.proofs.Guard.{Scanned, begin, goes-on, found, ended, in-range, out-of-range}
+use Rattle.guard.proofs.Scan.{Scanned, begin, goes-on, found, ended, in-range, out-of-range}
 use borrow.Author.Needs.{needs}
-use Rattle.picture.proofs.out_of_range.Statement.{statement}
-use Rattle.picture.proofs.out_of_range.Tie as tie
+use Rattle.guard.proofs.out_of_range.Statement.{statement}
+use Rattle.guard.proofs.out_of_range.Tie as tie
 
 -- the test that the scan makes
 abbrev test : List ℕ → ℕ → Bool

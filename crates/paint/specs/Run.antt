@@ -1,25 +1,14 @@
--- A picture that has passed the checks, a run of its blocks, and where a block stands: what the functions inside this crate
--- promise each other.
+-- A run of a picture's blocks, and where a block stands.
 -- Assumes nothing.
 use mathlib.Core.Path.{_≡_}
 use mathlib.Core.List.{List}
 use Prim.Native.Nat.{ℕ, _+_, _*_, _≤_, _<_}
 use lib.Dec.{T}
-use Rattle.rules.specs.Places.{inside, needed, blocks, blockAt, bytesFrom, pixelBy}
-use Rattle.rules.specs.Answers.{said, limit, Outcome}
+use Rattle.rules.specs.Places.{inside, blockAt, bytesFrom, pixelBy}
 use Rattle.rules.specs.Formats.{sizeOf, showsOf}
-use Rattle.rules.specs.Readers.{pictureOf}
-use Rattle.rules.specs.declared.Answer.{Answer}
 use Rattle.rules.specs.declared.Format.{Format}
 use Rattle.rules.specs.declared.Picture.{Picture}
 use Rattle.laws.specs.Painted.{Painted}
-
--- what holds where every check passes, of a picture in blocks of s bytes
-pub record Passed (s : ℕ) (pic : Picture) (bytes elements : ℕ) : Type 0 where
-  pub narrow : pic .width ≤ limit
-  pub low : pic .height ≤ limit
-  pub enough : blocks pic * s ≤ bytes
-  pub roomy : needed pic ≤ elements
 
 -- element k is a pixel of one of the blocks from number first to last - 1
 pub record InRun (pic : Picture) (first last k : ℕ) : Type 0 where
@@ -37,7 +26,3 @@ pub record Stands (n b bx by : ℕ) : Type 0 where
 abbrev pub PaintsRun : Format → List ℕ → Picture → ℕ → ℕ → List ℕ → List ℕ → Type 0
 PaintsRun f d pic first last old new =
     Painted (InRun pic first last) (pixelBy (showsOf f) (bytesFrom (sizeOf f) first d) pic) old new
-
--- an answer handed on, and the picture painted where it accepts
-abbrev pub Obeys : Answer → Format → List ℕ → Picture → List ℕ → Answer → List ℕ → Type 0
-Obeys answer f d pic old handed new = Outcome (said answer) (pictureOf f pic d old) handed old new

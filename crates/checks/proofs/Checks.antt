@@ -4,6 +4,7 @@ use mathlib.Core.Path.{_≡_, _∙_, refl, sym, ap}
 use mathlib.Core.Bool.{Bool, true, false, cond, _||_, true≢false}
 use mathlib.Core.List.{List, [], _∷_}
 use Prim.Native.Nat.{ℕ, _*_, _≤_}
+use native.Mathlib.Nat.{mul-le-mul}
 use borrow.Author.Tests.{ltb-false}
 use lib.Dec.{ltb}
 use Rattle.rules.specs.Places.{needed, blocks}
@@ -11,7 +12,11 @@ use Rattle.rules.specs.Answers.{said, accepts, limit, tooLarge, Check, judged, 
 use Rattle.rules.specs.declared.Answer.{Answer}
 use Rattle.rules.specs.declared.Picture.{Picture}
 use Rattle.laws.proofs.Judged as judged-laws
-use Rattle.picture.specs.Run.{Passed}
+use Rattle.checks.specs.Passed.{Passed}
+
+-- a product of two numbers that are not too large
+pub few : (a b : ℕ) → a ≤ limit → b ≤ limit → a * b ≤ 0x10000000
+few a b h i = mul-le-mul h i
 
 -- a check that fails is the answer, and one that passes leaves it to the others
 pub fails : (c : Check) (cs : List Check) (then : List ℕ) → c .fails ≡ true → c .number ∷ [] ≡ judged (c ∷ cs) then

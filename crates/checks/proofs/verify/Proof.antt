@@ -1,4 +1,4 @@
--- `picture::verify` meets its contract: each answer is that of the first check that fails.
+-- `checks::verify` meets its contract: each answer is that of the first check that fails.
 -- Assumes nothing.
 use mathlib.Core.Path.{_≡_, _∙_, refl, sym}
 use mathlib.Core.Bool.{false}
@@ -6,10 +6,10 @@ use mathlib.Core.List.{List, [], _∷_}
 use Prim.Native.Nat.{ℕ, _*_, _≤_}
 use Rattle.rules.specs.Places.{needed, blocks}
 use Rattle.rules.specs.Answers.{Check, limit, verdict, sidesCheck, dataCheck, imageCheck}
-use Rattle.picture.proofs.Checks.{fails, passes, within}
+use Rattle.checks.proofs.Checks.{fails, passes, within}
 use borrow.Author.Needs.{needs}
-use Rattle.picture.proofs.verify.Statement.{statement}
-use Rattle.picture.proofs.verify.Tie as tie
+use Rattle.checks.proofs.verify.Statement.{statement}
+use Rattle.checks.proofs.verify.Tie as tie
 
 -- the three checks
 abbrev sides : tie.Start → Check
