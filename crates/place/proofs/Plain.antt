@@ -5,7 +5,7 @@ use mathlib.Core.Path.{_≡_, _∙_, refl, sym, ap}
 use mathlib.Core.Bool.{Bool, true, false, cond, _&&_}
 use mathlib.Core.List.{List}
 use mathlib.Core.Logic.{⊎-elim}
-use Prim.Native.Nat.{ℕ, suc, _+_, _-_, _*_, _/_, _%_, _<_, _≤_}
+use Prim.Native.Nat.{ℕ, zero, suc, _+_, _-_, _*_, _/_, _%_, _<_, _≤_}
 use native.Mathlib.Nat.{div-add-mod', div-lt-iff-lt-mul, mod-lt, mul-comm, mul-zero, zero-mul, suc-mul, eq-zero-or-pos}
 use native.Mathlib.Decide.{decLt}
 use native.Mathlib.Omega.{arith}
@@ -24,7 +24,10 @@ neither true true h = absurd (h refl refl)
 
 -- all rows but the last, and the last
 rows : (w h : ℕ) → 0 < h → (h - 1) * w + w ≡ w * h
-rows w (suc h) p = omega (arith, suc-mul h w, mul-comm w (suc h))
+rows w (suc h) p =
+    let e : suc h - 1 ≡ h = omega arith in
+    ap (λ (z : ℕ). z * w + w) e ∙ sym (suc-mul h w) ∙ mul-comm (suc h) w
+rows w zero p = absurd (omega arith)
 
 module _ (w h : ℕ) where
   pub needed-plain : needed (sized w h) ≡ w * h
