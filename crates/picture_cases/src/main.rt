@@ -1,10 +1,10 @@
 // Runs the picture readers on specimens S16, S17 and S18, at every size from 0 to 9 each way, and at the largest sizes, and prints what
-// came out. Images are of 11111111 (hex) before, and have elements behind the picture that must keep that value.
-use libc::STDOUT_FILENO;
+// came out; then those that take a pitch. Images are of 11111111 (hex) before, and have elements behind the picture that must keep that value.
+mod pitched;
+mod shapes;
+
 use rules::Answer;
-ghost use mathlib.Core.Path.{_≡_};
-ghost use Prim.Native.Nat.{_+_, _*_, _/_, _<_};
-ghost use Rattle.picture_cases.specs.Digest.{digested};
+ghost use Prim.Native.Nat.{_<_};
 
 // The picture readers by number, in document 01's order; 8 is strict ETC1.
 fn read(reader: usize, data: &[u8], width: usize, height: usize, image: &mut [u32]) -> Answer {
@@ -140,96 +140,25 @@ fn empty(width: usize, height: usize) {
 // S18, and sizes around the limit and beyond.
 fn largest() {
     empty(16384, 0);
-    empty(16385, 0);
-    empty(0, 16384);
-    empty(0, 16385);
+    empty(65536, 0);
+    empty(65537, 0);
+    empty(0, 65536);
+    empty(0, 65537);
     empty(0, 0);
     empty(1, 1);
-    empty(16384, 16384);
-    empty(16384, 16385);
+    empty(65536, 65536);
+    empty(65536, 65537);
     empty(18446744073709551615, 0);
     empty(0, 18446744073709551615);
     empty(18446744073709551615, 18446744073709551615);
     empty(4294967296, 4294967296);
 }
 
-// A byte, without the difference bit where plain is set.
-fn byte_of(v: usize, plain: bool) -> u8
-    requires { ⌜ v < 256 ⌝ }
-{
-    if plain {
-        (v / 4 * 4 + v % 2) as u8
-    } else {
-        v as u8
-    }
-}
-
-// Bytes of every value, in an order that the seed moves. Where plain is set, no block has its difference bit, so that strict accepts it.
-fn fill(data: &mut [u8], seed: usize, plain: bool)
-    requires { ⌜ seed < 65536 ⌝ }
-{
-    let mut i: usize = 0;
-    let mut v: usize = seed % 256;
-    while i < data.len() {
-        data[i] = byte_of(v, plain);
-        v = (v * 5 + 89) % 256;
-        i += 1;
-    }
-}
-
-fn wide(element: u32) -> u64
-    ensures { λ r. ⌜ (r ≡ element) × (r < 4294967296) ⌝ }
-{
-    element as u64
-}
-
-// A number that changes with any element: it stands for an image in the stored output.
-fn digest(image: &[u32], before: u64) -> u64
-    requires { ⌜ before < 4294967296 ⌝ }
-    ensures { λ r. ⌜ r ≡ digested before (now (image .entry)) ⌝ }
-{
-    let mut sum = before;
-    let mut i: usize = 0;
-    while i < image.len() {
-        sum = (sum * 31 + wide(image[i])) % 4294967296;
-        i += 1;
-    }
-    sum
-}
-
-// The blocks that n pixels take.
-fn across(n: usize) -> usize
-    requires { ⌜ n < 10 ⌝ }
-    ensures { λ r. ⌜ (r ≡ (n + 3) / 4) × (r < 4) ⌝ }
-{
-    (n + 3) / 4
-}
-
-// The bytes that a picture of a reader takes.
-fn bytes_of(reader: usize, width: usize, height: usize) -> usize
-    requires { ⌜ (width < 10) × (height < 10) ⌝ }
-    ensures { λ r. ⌜ r < 145 ⌝ }
-{
-    let blocks = across(width) * across(height);
-    match reader {
-        3 | 6 | 7 => blocks * 16,
-        _ => blocks * 8,
-    }
-}
-
-// The pixels of a picture.
-fn pixels_of(width: usize, height: usize) -> usize
-    requires { ⌜ (width < 10) × (height < 10) ⌝ }
-    ensures { λ r. ⌜ (r ≡ width * height) × (r < 82) ⌝ }
-{
-    width * height
-}
-
 // What the reader answers to one byte less than enough, or - where there is none to leave out.
 fn without_a_byte(reader: usize, width: usize, height: usize, data: &[u8], image: &mut [u32])
     requires { ⌜ (width < 10) × (height < 10) ⌝ }
 {
-    let bytes = bytes_of(reader, width, height);
+    let bytes = shapes::bytes_of(reader, width, height);
     if bytes == 0 {
         printing::say(b"-");
         return;
@@ -241,7 +170,7 @@ fn without_a_byte(reader: usize, width: usize, height: usize, data: &[u8], image
         width,
         height,
         image,
-        pixels_of(width, height),
+        shapes::pixels_of(width, height),
     );
     printing::say_answer(answer);
 }
@@ -250,7 +179,7 @@ fn without_a_byte(reader: usize, width: usize, height: usize, data: &[u8], image
 fn without_an_element(reader: usize, width: usize, height: usize, data: &[u8], image: &mut [u32])
     requires { ⌜ (width < 10) × (height < 10) ⌝ }
 {
-    let elements = pixels_of(width, height);
+    let elements = shapes::pixels_of(width, height);
     if elements == 0 {
         printing::say(b"-");
         return;
@@ -258,7 +187,7 @@ fn without_an_element(reader: usize, width: usize, height: usize, data: &[u8], i
     let answer = part(
         reader,
         data,
-        bytes_of(reader, width, height),
+        shapes::bytes_of(reader, width, height),
         width,
         height,
         image,
@@ -276,8 +205,8 @@ fn size_case(reader: usize, width: usize, height: usize, data: &[u8], image: &mu
     without_an_element(reader, width, height, data, image);
     let refused = printing::changed(image, 0);
     with_enough(reader, width, height, data, image);
-    say_changed(refused, printing::changed(image, pixels_of(width, height)));
-    say_digest(digest(image, 0));
+    say_changed(refused, printing::changed(image, shapes::pixels_of(width, height)));
+    shapes::say_digest(shapes::digest(image, 0));
 }
 
 // What the reader answers to enough bytes, and to two elements more than enough.
@@ -287,11 +216,11 @@ fn with_enough(reader: usize, width: usize, height: usize, data: &[u8], image: &
     let answer = part(
         reader,
         data,
-        bytes_of(reader, width, height),
+        shapes::bytes_of(reader, width, height),
         width,
         height,
         image,
-        pixels_of(width, height) + 2,
+        shapes::pixels_of(width, height) + 2,
     );
     printing::say_answer(answer);
 }
@@ -303,19 +232,13 @@ fn say_changed(refused: usize, behind: usize) {
     printing::say_number(behind);
 }
 
-fn say_digest(digest: u64) {
-    printing::say(b"/");
-    io::print_hex(STDOUT_FILENO, digest, 8);
-    printing::say(b" ");
-}
-
 // One size of one reader, over fresh bytes and a fresh image.
 fn fresh_case(reader: usize, width: usize, height: usize)
     requires { ⌜ (reader < 9) × (width < 10) × (height < 10) ⌝ }
 {
     let mut data = [0u8; 144];
     let mut image = [0x11111111u32; 84];
-    fill(&mut data, reader * 100 + width * 10 + height, reader == 8);
+    shapes::fill(&mut data, reader * 100 + width * 10 + height, reader == 8);
     size_case(reader, width, height, &data, &mut image);
 }
 
@@ -360,4 +283,5 @@ fn main() {
         widths(reader);
         reader += 1;
     }
+    pitched::all();
 }

@@ -4,8 +4,8 @@ use borrow.Author.Needs.{needs}
 use native.Mathlib.Omega.{arith}
 use Rattle.laws.proofs.Signed.{times-le}
 use Prim.Native.Nat.{_*_, _≤_}
-use Rattle.picture_cases.proofs.bytes_of.Statement.{statement}
-use Rattle.picture_cases.proofs.bytes_of.Tie as tie
+use Rattle.picture_cases.proofs.shapes.bytes_of.Statement.{statement}
+use Rattle.picture_cases.proofs.shapes.bytes_of.Tie as tie
 
 across-requires : tie.Need-across-requires
 across-requires c κs = search needs

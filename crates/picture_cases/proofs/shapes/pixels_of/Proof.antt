@@ -3,8 +3,8 @@
 use mathlib.Core.Path.{refl}
 use native.Mathlib.Omega.{arith}
 use Rattle.laws.proofs.Signed.{times-le}
-use Rattle.picture_cases.proofs.pixels_of.Statement.{statement}
-use Rattle.picture_cases.proofs.pixels_of.Tie as tie
+use Rattle.picture_cases.proofs.shapes.pixels_of.Statement.{statement}
+use Rattle.picture_cases.proofs.shapes.pixels_of.Tie as tie
 
 mul-result : tie.Need-mul-result
 mul-result c = omega (arith, times-le (c .args .width) 9 (c .args .height) 9 (omega arith) (omega arith))

@@ -8,8 +8,8 @@ use native.Mathlib.Omega.{arith}
 use lib.ListN.{length, drop}
 use Rattle.picture_cases.specs.Digest.{digested}
 use Rattle.picture_cases.proofs.Turns.{turn, end}
-use Rattle.picture_cases.proofs.digest.Statement.{statement}
-use Rattle.picture_cases.proofs.digest.Tie as tie
+use Rattle.picture_cases.proofs.shapes.digest.Statement.{statement}
+use Rattle.picture_cases.proofs.shapes.digest.Tie as tie
 
 abbrev Inv-loop : tie.InvT-loop
 Inv-loop image before sum₀ i₀ sum i = (i ≤ length image) × (sum < 4294967296) × (digested sum (drop i image) ≡ digested before image)

@@ -5,8 +5,8 @@ use mathlib.Core.Path.{_≡_, refl}
 use Prim.Native.Nat.{_≤_, _<_, _-_}
 use lib.ListN.{length}
 use native.Mathlib.Omega.{arith}
-use Rattle.picture_cases.proofs.fill.Statement.{statement}
-use Rattle.picture_cases.proofs.fill.Tie as tie
+use Rattle.picture_cases.proofs.shapes.fill.Statement.{statement}
+use Rattle.picture_cases.proofs.shapes.fill.Tie as tie
 
 abbrev Inv-loop : tie.InvT-loop
 Inv-loop data₀ seed plain i₀ v₀ «data» i v = (length «data» ≡ length data₀) × (i ≤ length data₀) × (v < 256)
