@@ -4,11 +4,13 @@ mod android;
 mod blocks;
 mod clock;
 mod formats;
+mod gap;
 mod sheet;
 
 use blocks::Random;
 use formats::{Format, FORMATS};
 use std::hint::black_box;
+use yalivucu::typed::{census_etc2_rgb, census_etc2_rgba1, Picture};
 
 const SIDE: usize = 2048;
 const TURNS: usize = 31;
@@ -27,6 +29,9 @@ fn main() {
         println!("|---|---|---|---|---|");
         for format in &FORMATS {
             alike &= compared(format, make);
+        }
+        for format in &FORMATS {
+            alike &= gap::print(format, make);
         }
         android::print(
             SIDE,
@@ -66,10 +71,10 @@ fn compared(format: &Format, make: Maker) -> bool {
 fn counted(make: Maker) {
     let rows: [(&str, blocks::Half, fn(&[u8])); 2] = [
         ("RGB", blocks::Half::Colour, |data| {
-            black_box(yalivucu::census_etc2_rgb(data, SIDE, SIDE).expect("refused"));
+            black_box(census_etc2_rgb(data, Picture::new(SIDE, SIDE)).expect("refused"));
         }),
         ("RGBA1", blocks::Half::Punched, |data| {
-            black_box(yalivucu::census_etc2_rgba1(data, SIDE, SIDE).expect("refused"));
+            black_box(census_etc2_rgba1(data, Picture::new(SIDE, SIDE)).expect("refused"));
         }),
     ];
     for (name, half, count) in rows {

@@ -105,7 +105,11 @@ pub struct Picture {
 impl Picture {
     /// A picture of that size, whose rows follow each other.
     pub const fn new(width: usize, height: usize) -> Picture {
-        Picture { width, height, pitch: width }
+        Picture {
+            width,
+            height,
+            pitch: width,
+        }
     }
 
     /// The same picture in an image whose rows take so many elements.

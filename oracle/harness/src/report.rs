@@ -1,8 +1,8 @@
 //! Progress on standard error, one line a reader on standard output, and the first
 //! few differences in full.
 
-use crate::protocol::{Answer, Case};
 use crate::pitched::pitch;
+use crate::protocol::{Answer, Case};
 use crate::readers::{block_size, elements, is_block, is_census, is_pitched, name};
 use crate::rules::{blocks, blocks_across};
 use std::time::{Duration, Instant};
