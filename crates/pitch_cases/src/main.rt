@@ -44,14 +44,7 @@ fn pitched(width: usize, height: usize, pitch: usize) -> Picture {
 }
 
 // The first n bytes and m elements, read as a picture; with nothing where they are not there.
-fn part(
-    reader: usize,
-    data: &[u8],
-    n: usize,
-    pic: Picture,
-    image: &mut [u32],
-    m: usize,
-) -> Answer {
+fn part(reader: usize, data: &[u8], n: usize, pic: Picture, image: &mut [u32], m: usize) -> Answer {
     if data.len() < n {
         return Answer::ShortData;
     }
@@ -108,7 +101,11 @@ fn largest() {
     empty(65536, 65536, 65536);
     empty(5, 5, 18446744073709551615);
     empty(5, 18446744073709551615, 18446744073709551615);
-    empty(18446744073709551615, 18446744073709551615, 18446744073709551615);
+    empty(
+        18446744073709551615,
+        18446744073709551615,
+        18446744073709551615,
+    );
     empty(4, 4294967296, 4294967296);
 }
 
@@ -230,7 +227,13 @@ fn fresh_case(reader: usize, width: usize, height: usize, gap: usize)
     samples::fill(&mut data, reader * 100 + width * 10 + height, reader == 8);
     read(reader, &data, pitched(width, height, width), &mut painted);
     short_pitch(reader, pic, &data, &mut image);
-    short_data(reader, pic, &data, samples::bytes_of(reader, width, height), &mut image);
+    short_data(
+        reader,
+        pic,
+        &data,
+        samples::bytes_of(reader, width, height),
+        &mut image,
+    );
     short_image(reader, pic, &data, &mut image, elements_of(pic));
     printing::say(b" ");
     printing::say_answer(read(reader, &data, pic, &mut image));
