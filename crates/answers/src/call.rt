@@ -5,11 +5,6 @@ use rules::Answer;
 use rules::Picture;
 ghost use Prim.Native.Nat.{_≤_};
 
-// Whether a number names a reader.
-pub fn is_reader(number: u32) -> bool {
-    number <= 8 || (number >= 16 && number <= 26) || number == 32 || number == 33 || is_pitched(number)
-}
-
 // Whether a number names a reader of pictures with a pitch, which stands in the place of a channel.
 fn is_pitched(number: u32) -> bool {
     number >= 40 && number <= 48
@@ -32,7 +27,7 @@ pub fn call_on(
     call(number, channel, width, height, &data[..n], &mut image[..m])
 }
 
-// The number is a reader's, by `is_reader`. Each match is short: what the check of one costs grows faster than its arms.
+// The number is a reader's, by `wire::is_case`. Each match is short: what the check of one costs grows faster than its arms.
 fn call(
     number: u32,
     channel: usize,

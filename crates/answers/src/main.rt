@@ -1,11 +1,11 @@
 // Answers cases by the public readers, as oracle/PROTOCOL.md says. With any argument it replays a stored list instead: it
 // compares each answer with the one that the list has for it, and says what differs.
+mod bytes;
 mod call;
 mod case;
 mod census;
 mod pitched;
 mod replay;
-mod wire;
 
 fn main() {
     let mut head = [0u8; 24];
@@ -44,8 +44,8 @@ fn answer_one(
         return false;
     }
     let said = case::answered(head, data, shown, image);
-    if !wire::given(&said, 8) {
+    if !bytes::given(&said, 8) {
         return false;
     }
-    wire::given(shown, case::image_length(head) * 4)
+    bytes::given(shown, wire::image_length(head) * 4)
 }

@@ -1,7 +1,7 @@
 // The stored list, that oracle/record makes: 1,024 bytes of text that say how and when it was made, then groups. A group is
 // 44 bytes of name and the number of its cases; a case is followed by the answer that is due.
+use super::bytes;
 use super::case;
-use super::wire;
 use libc::STDOUT_FILENO;
 ghost use Prim.Native.Nat.{_≤_};
 
@@ -13,7 +13,7 @@ pub fn replay(
     image: &mut [u32; 65536],
     due: &mut [u8; 262144],
 ) {
-    wire::taken(due, 1024);
+    bytes::taken(due, 1024);
     let mut turns = u64::MAX;
     while turns > 0 && group(head, data, shown, image, due) {
         turns -= 1;
@@ -29,7 +29,7 @@ fn group(
     due: &mut [u8; 262144],
 ) -> bool {
     let mut name = [0u8; 48];
-    if !wire::taken(&mut name, 48) {
+    if !bytes::taken(&mut name, 48) {
         return false;
     }
     let count = wire::word(name[44], name[45], name[46], name[47]);
@@ -37,7 +37,7 @@ fn group(
         return false;
     }
     let differ = differing(count, head, data, shown, image, due);
-    wire::given(&name, 44);
+    bytes::given(&name, 44);
     report(count, differ);
     true
 }
@@ -76,13 +76,13 @@ fn is_held(
     }
     let said = case::answered(head, data, shown, image);
     let is_right = is_said(&said);
-    is_shown(shown, due, case::image_length(head) * 4) && is_right
+    is_shown(shown, due, wire::image_length(head) * 4) && is_right
 }
 
 // Whether the next eight bytes of the list are these.
 fn is_said(said: &[u8; 8]) -> bool {
     let mut due = [0u8; 8];
-    if !wire::taken(&mut due, 8) {
+    if !bytes::taken(&mut due, 8) {
         return false;
     }
     check::same(said, &due)
@@ -93,7 +93,7 @@ fn is_shown(shown: &[u8; 262144], due: &mut [u8; 262144], n: usize) -> bool {
     if 262144 < n {
         return false;
     }
-    if !wire::taken(due, n) {
+    if !bytes::taken(due, n) {
         return false;
     }
     is_same(shown, due, n)

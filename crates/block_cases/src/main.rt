@@ -37,31 +37,9 @@ fn red_and_green(reader: u8, data: &[u8], image: &mut [u32]) -> Answer {
     }
 }
 
-// Sixteen bytes, the highest first.
-fn bytes(first: u64, second: u64) -> [u8; 16] {
-    [
-        (first / 0x0100_0000_0000_0000) as u8,
-        (first / 0x0001_0000_0000_0000 % 256) as u8,
-        (first / 0x0000_0100_0000_0000 % 256) as u8,
-        (first / 0x0000_0001_0000_0000 % 256) as u8,
-        (first / 0x0100_0000 % 256) as u8,
-        (first / 0x0001_0000 % 256) as u8,
-        (first / 256 % 256) as u8,
-        (first % 256) as u8,
-        (second / 0x0100_0000_0000_0000) as u8,
-        (second / 0x0001_0000_0000_0000 % 256) as u8,
-        (second / 0x0000_0100_0000_0000 % 256) as u8,
-        (second / 0x0000_0001_0000_0000 % 256) as u8,
-        (second / 0x0100_0000 % 256) as u8,
-        (second / 0x0001_0000 % 256) as u8,
-        (second / 256 % 256) as u8,
-        (second % 256) as u8,
-    ]
-}
-
 // One block: its name, the answer, and the seventeen elements afterwards.
 fn case(name: &[u8], reader: u8, channel: usize, first: u64, second: u64) {
-    let data = bytes(first, second);
+    let data = samples::bytes(first, second);
     let mut image = [0x11111111u32; 17];
     let answer = read(reader, channel, &data, &mut image);
     printing::say(name);
@@ -132,7 +110,7 @@ fn channels(reader: u8) {
     case(
         b"channel at its largest",
         reader,
-        18446744073709551615,
+        0xFFFFFFFFFFFFFFFF,
         block,
         0,
     );

@@ -2,14 +2,10 @@
 -- Assumes nothing.
 use mathlib.Core.Path.{_≡_, sym, ap, subst}
 use mathlib.Core.List.{List}
-use Prim.Native.Nat.{ℕ, _≤_, _<_}
+use Prim.Native.Nat.{ℕ, _≤_}
 use Rattle.rules.specs.Places.{tile}
 use Rattle.rules.specs.Formats.{sizeOf, showsOf}
 use Rattle.rules.specs.declared.Format.{Format}
-
--- its size, where that is between 1 and 16
-pub sized : {f g : Format} → f ≡ g → sizeOf g ≤ 16 → 0 < sizeOf g → (sizeOf g ≡ sizeOf f) × (sizeOf g ≤ 16) × (0 < sizeOf g)
-sized e h p = (sym (ap sizeOf e), h, p)
 
 -- enough bytes for it
 pub enough : {f g : Format} {n : ℕ} → f ≡ g → sizeOf f ≤ n → sizeOf g ≤ n

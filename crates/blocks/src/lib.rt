@@ -1,26 +1,10 @@
-// The eight formats: how many bytes a block has, and the sixteen pixels that they show.
+// The eight formats: the sixteen pixels that the bytes of a block show.
 use rules::Format;
 ghost use mathlib.Core.Path.{_≡_};
-ghost use Prim.Native.Nat.{_+_, _*_, _<_, _≤_};
+ghost use Prim.Native.Nat.{_+_, _*_, _≤_};
 ghost use lib.ListN.{length};
 ghost use Rattle.rules.specs.Places.{tile, bytesOf};
 ghost use Rattle.rules.specs.Formats.{sizeOf, showsOf};
-
-// The number of bytes of a block.
-pub fn size(f: Format) -> usize
-    ensures { λ r. ⌜ (r ≡ sizeOf f) × (r ≤ 16) × (0 < r) ⌝ }
-{
-    match f {
-        Format::Etc1 => 8,
-        Format::Etc2Rgb => 8,
-        Format::Etc2Rgba1 => 8,
-        Format::Etc2Rgba8 => 16,
-        Format::EacR => 8,
-        Format::EacRSigned => 8,
-        Format::EacRg => 16,
-        Format::EacRgSigned => 16,
-    }
-}
 
 // The sixteen pixels that the bytes of a block show, row by row. Bytes beyond the block's own are not read.
 pub fn block(f: Format, data: &[u8]) -> [u32; 16]
@@ -44,7 +28,7 @@ pub fn block_at(f: Format, data: &[u8], n: usize) -> [u32; 16]
     requires { ⌜ n * sizeOf f + sizeOf f ≤ length (now «data») ⌝ }
     ensures { λ r. ⌜ r ≡ tile (showsOf f) (bytesOf (sizeOf f) (now («data» .entry)) n) ⌝ }
 {
-    let s = size(f);
+    let s = checks::size(f);
     let at = n * s;
     let end = at + s;
     block(f, &data[at..end])

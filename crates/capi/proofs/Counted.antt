@@ -16,7 +16,8 @@ use Rattle.rules.specs.declared.Picture.{Picture}
 use Rattle.laws.proofs.Judged.{Clear, numbered, all-pass, passed, halted}
 use Rattle.laws.proofs.Outcome.{unchanged, done}
 use Rattle.capi.specs.Told.{Told}
-use Rattle.capi.specs.Census.{laid, Lays, roomChecks, CountsInto}
+use Rattle.lay.specs.Lays.{laid, Lays}
+use Rattle.capi.specs.Census.{roomChecks, CountsInto}
 
 -- a refusal is the same whatever comes behind the checks, where what came there was none
 halts : (cs : List Check) → T (numbered cs) → (n : ℕ) (l m : List ℕ) → 0 < n → n ∷ [] ≡ judged cs (0 ∷ l) → n ∷ [] ≡ judged cs m

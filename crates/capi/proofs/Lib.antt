@@ -1,4 +1,3 @@
 pub mod Block
 pub mod Unique
-pub mod Laid
 pub mod Counted

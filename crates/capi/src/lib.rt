@@ -13,7 +13,7 @@ ghost use Rattle.rules.specs.Places.{sized, pitched};
 ghost use Rattle.rules.specs.Readers.{ReadsPicture, ReadsStrict, ReadsBlock, ReadsAlpha, ReadsChannel};
 ghost use Rattle.rules.specs.Census.{rgbTests, rgba1Tests};
 ghost use Rattle.rules.specs.Sheets.{ReadsSheet};
-ghost use Rattle.capi.specs.Census.{Lays, CountsInto};
+ghost use Rattle.capi.specs.Census.{CountsInto};
 ghost use Rattle.capi.specs.Told.{Told, blockOr, HeadTold, WriterTold};
 
 // Reads an ETC1 picture.
@@ -457,21 +457,6 @@ pub extern "C" fn yalivucu_decode_eac_signed_block(
     etc::number(etc::decode_eac_signed_block(data, channel, out))
 }
 
-// Lays counts into the room lent for them, where there is enough.
-fn lay(counts: &[usize], room: &mut [usize]) -> u32
-    ensures { λ r. ⌜ Lays (now (counts .entry)) (now (room .entry)) r (now (room .exit)) ⌝ }
-{
-    if room.len() < counts.len() {
-        return 3;
-    }
-    let mut i: usize = 0;
-    while i < counts.len() {
-        room[i] = counts[i];
-        i += 1;
-    }
-    0
-}
-
 // Counts the blocks of each kind of an ETC2 RGB picture: individual, differential, T, H, planar.
 #[no_mangle]
 pub extern "C" fn yalivucu_census_etc2_rgb(
@@ -488,7 +473,7 @@ pub extern "C" fn yalivucu_census_etc2_rgb(
         RgbCensus::ShortData => 2,
         RgbCensus::Counted(c) => {
             let five = [c.individual, c.differential, c.t, c.h, c.planar];
-            lay(&five, counts)
+            lay::lay(&five, counts)
         }
     }
 }
@@ -520,7 +505,7 @@ pub extern "C" fn yalivucu_census_etc2_rgba1(
                 u.h,
                 u.planar,
             ];
-            lay(&eight, counts)
+            lay::lay(&eight, counts)
         }
     }
 }

@@ -1,11 +1,30 @@
-// How many blocks a picture has, how many elements it needs, and the checks of its description, which every reader of a picture makes before it looks at a block.
+// How many bytes a block has, how many blocks a picture and how many elements it needs, and the checks of its description, which every
+// reader of a picture makes before it looks at a block.
 use rules::Answer;
+use rules::Format;
 use rules::Picture;
 ghost use mathlib.Core.Path.{_≡_};
-ghost use Prim.Native.Nat.{_*_, _≤_};
+ghost use Prim.Native.Nat.{_*_, _<_, _≤_};
 ghost use lib.Dec.{ltb};
 ghost use Rattle.rules.specs.Places.{across as acrossOf, needed, blocks};
 ghost use Rattle.rules.specs.Answers.{said, limit, tooLarge, overLimit, pictureChecks, verdict};
+ghost use Rattle.rules.specs.Formats.{sizeOf};
+
+// The number of bytes of a block.
+pub fn size(f: Format) -> usize
+    ensures { λ r. ⌜ (r ≡ sizeOf f) × (r ≤ 16) × (0 < r) ⌝ }
+{
+    match f {
+        Format::Etc1 => 8,
+        Format::Etc2Rgb => 8,
+        Format::Etc2Rgba1 => 8,
+        Format::Etc2Rgba8 => 16,
+        Format::EacR => 8,
+        Format::EacRSigned => 8,
+        Format::EacRg => 16,
+        Format::EacRgSigned => 16,
+    }
+}
 
 // How many blocks lie along a side, whatever it is.
 pub fn across(side: usize) -> usize

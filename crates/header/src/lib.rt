@@ -130,7 +130,7 @@ fn laid_out(f: Format, width: usize, height: usize, start: usize, len: usize) ->
     if 16384 < height {
         return Header::TooLarge;
     }
-    let bytes = checks::blocks_of(pic) * blocks::size(f);
+    let bytes = checks::blocks_of(pic) * checks::size(f);
     if len < start + bytes {
         return Header::ShortData;
     }

@@ -43,7 +43,7 @@ pub fn paint_if_done(
 pub fn read(f: Format, data: &[u8], pic: Picture, image: &mut [u32]) -> Answer
     ensures { λ r. ⌜ ReadsPicture f (now («data» .entry)) pic (now (image .entry)) r (now (image .exit)) ⌝ }
 {
-    let answer = checks::verify(blocks::size(f), pic, data.len(), image.len());
+    let answer = checks::verify(checks::size(f), pic, data.len(), image.len());
     paint_if_done(answer, f, data, pic, image)
 }
 

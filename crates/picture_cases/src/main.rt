@@ -1,8 +1,6 @@
 // Runs the picture readers on specimens S16, S17 and S18, at every size from 0 to 9 each way, and at the largest sizes, and prints what
-// came out; then those that take a pitch. Images are of 11111111 (hex) before, and have elements behind the picture that must keep that value.
-mod pitched;
-mod shapes;
-
+// came out. Images are of 11111111 (hex) before, and have elements behind the picture that must keep that value.
+use libc::STDOUT_FILENO;
 use rules::Answer;
 ghost use Prim.Native.Nat.{_<_};
 
@@ -148,17 +146,17 @@ fn largest() {
     empty(1, 1);
     empty(65536, 65536);
     empty(65536, 65537);
-    empty(18446744073709551615, 0);
-    empty(0, 18446744073709551615);
-    empty(18446744073709551615, 18446744073709551615);
-    empty(4294967296, 4294967296);
+    empty(0xFFFFFFFFFFFFFFFF, 0);
+    empty(0, 0xFFFFFFFFFFFFFFFF);
+    empty(0xFFFFFFFFFFFFFFFF, 0xFFFFFFFFFFFFFFFF);
+    empty(0x100000000, 0x100000000);
 }
 
 // What the reader answers to one byte less than enough, or - where there is none to leave out.
 fn without_a_byte(reader: usize, width: usize, height: usize, data: &[u8], image: &mut [u32])
     requires { ⌜ (width < 10) × (height < 10) ⌝ }
 {
-    let bytes = shapes::bytes_of(reader, width, height);
+    let bytes = samples::bytes_of(reader, width, height);
     if bytes == 0 {
         printing::say(b"-");
         return;
@@ -170,7 +168,7 @@ fn without_a_byte(reader: usize, width: usize, height: usize, data: &[u8], image
         width,
         height,
         image,
-        shapes::pixels_of(width, height),
+        samples::pixels_of(width, height),
     );
     printing::say_answer(answer);
 }
@@ -179,7 +177,7 @@ fn without_a_byte(reader: usize, width: usize, height: usize, data: &[u8], image
 fn without_an_element(reader: usize, width: usize, height: usize, data: &[u8], image: &mut [u32])
     requires { ⌜ (width < 10) × (height < 10) ⌝ }
 {
-    let elements = shapes::pixels_of(width, height);
+    let elements = samples::pixels_of(width, height);
     if elements == 0 {
         printing::say(b"-");
         return;
@@ -187,7 +185,7 @@ fn without_an_element(reader: usize, width: usize, height: usize, data: &[u8], i
     let answer = part(
         reader,
         data,
-        shapes::bytes_of(reader, width, height),
+        samples::bytes_of(reader, width, height),
         width,
         height,
         image,
@@ -205,8 +203,11 @@ fn size_case(reader: usize, width: usize, height: usize, data: &[u8], image: &mu
     without_an_element(reader, width, height, data, image);
     let refused = printing::changed(image, 0);
     with_enough(reader, width, height, data, image);
-    say_changed(refused, printing::changed(image, shapes::pixels_of(width, height)));
-    shapes::say_digest(shapes::digest(image, 0));
+    say_changed(
+        refused,
+        printing::changed(image, samples::pixels_of(width, height)),
+    );
+    say_digest(samples::digest(image, 0));
 }
 
 // What the reader answers to enough bytes, and to two elements more than enough.
@@ -216,11 +217,11 @@ fn with_enough(reader: usize, width: usize, height: usize, data: &[u8], image: &
     let answer = part(
         reader,
         data,
-        shapes::bytes_of(reader, width, height),
+        samples::bytes_of(reader, width, height),
         width,
         height,
         image,
-        shapes::pixels_of(width, height) + 2,
+        samples::pixels_of(width, height) + 2,
     );
     printing::say_answer(answer);
 }
@@ -232,13 +233,19 @@ fn say_changed(refused: usize, behind: usize) {
     printing::say_number(behind);
 }
 
+fn say_digest(digest: u64) {
+    printing::say(b"/");
+    io::print_hex(STDOUT_FILENO, digest, 8);
+    printing::say(b" ");
+}
+
 // One size of one reader, over fresh bytes and a fresh image.
 fn fresh_case(reader: usize, width: usize, height: usize)
     requires { ⌜ (reader < 9) × (width < 10) × (height < 10) ⌝ }
 {
     let mut data = [0u8; 144];
     let mut image = [0x11111111u32; 84];
-    shapes::fill(&mut data, reader * 100 + width * 10 + height, reader == 8);
+    samples::fill(&mut data, reader * 100 + width * 10 + height, reader == 8);
     size_case(reader, width, height, &data, &mut image);
 }
 
@@ -283,5 +290,4 @@ fn main() {
         widths(reader);
         reader += 1;
     }
-    pitched::all();
 }

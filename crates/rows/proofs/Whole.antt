@@ -17,7 +17,7 @@ use Rattle.rules.specs.Places.{sized, column, row, inside, across, blockAt, byt
 use Rattle.rules.specs.declared.Picture.{Picture}
 use Rattle.laws.proofs.Filled.{is-build, length-build, getD-build}
 use Rattle.laws.proofs.Paint.{length-painted, getD-painted}
-use Rattle.place.proofs.Grid.{wide}
+use Rattle.place.proofs.Grid.{wide, covered}
 use Rattle.place.proofs.Plain.{inside-plain}
 use Rattle.rows.specs.Rows.{high, rowOf, rowBytes, rowPixels, joined}
 
@@ -56,9 +56,6 @@ block n s i j d h =
 -- a row of blocks is at most four pixels high
 low : (y h j : ℕ) → y < high h j → (y / 4 ≡ 0) × ((j * 4 + y) / 4 ≡ j) × ((j * 4 + y) % 4 ≡ y % 4)
 low y h j i = omega arith
-
-covered : (x n : ℕ) → x < n → x / 4 < across n
-covered x n h = omega arith
 
 module _ (breadth tall j k : ℕ) (h : k < breadth * high tall j) where
   abbrev p : Picture

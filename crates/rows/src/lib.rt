@@ -25,7 +25,7 @@ pub fn across(side: usize) -> usize
 
 // The first pixel of a block, in rows of n blocks.
 pub fn corner_of(block: usize, n: usize) -> Corner
-    requires { ⌜ (0 < n) × (block < 16777216) ⌝ }
+    requires { ⌜ (0 < n) × (block < 0x1000000) ⌝ }
     ensures { λ r. ⌜ r ≡ cornerOf n block ⌝ }
 {
     Corner {

@@ -27,5 +27,5 @@ pub fn block_bytes(format: usize, pic: Picture) -> usize
     requires { ⌜ (format < 8) × (pic .width ≤ sheetLimit) × (pic .height ≤ sheetLimit) ⌝ }
     ensures { λ r. ⌜ (r ≡ blockBytes format pic) × (r ≤ 0x10000000) ⌝ }
 {
-    checks::blocks_of(pic) * blocks::size(format_of(format))
+    checks::blocks_of(pic) * checks::size(format_of(format))
 }

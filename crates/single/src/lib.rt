@@ -23,7 +23,7 @@ fn verify(size: usize, bytes: usize, elements: usize) -> Answer
 pub fn read_block(f: Format, data: &[u8], image: &mut [u32]) -> Answer
     ensures { λ r. ⌜ ReadsBlock f (now («data» .entry)) (now (image .entry)) r (now (image .exit)) ⌝ }
 {
-    let answer = verify(blocks::size(f), data.len(), image.len());
+    let answer = verify(checks::size(f), data.len(), image.len());
     let Answer::Done = answer else {
         return answer;
     };

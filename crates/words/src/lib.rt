@@ -94,9 +94,9 @@ pub fn texture(t: Texture) {
     tell(b" x ");
     count(t.height as u64);
     tell(b" pixels\nblocks ");
-    count((t.bytes / blocks::size(f)) as u64);
+    count((t.bytes / checks::size(f)) as u64);
     tell(b" of ");
-    count(blocks::size(f) as u64);
+    count(checks::size(f) as u64);
     tell(b" bytes, from byte ");
     count(t.start as u64);
     tell(b" on\n");

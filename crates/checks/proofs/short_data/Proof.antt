@@ -14,7 +14,7 @@ blocks-of-requires c κs = search needs
 
 mul-result : tie.Need-mul-result
 mul-result c =
-    let h : c .blocks-of .result * c .before .args .size ≤ 4294967296 = mul-le-mul (c .blocks-of .ensures .1) (c .before .pre .0) in
+    let h : c .blocks-of .result * c .before .args .size ≤ 0x100000000 = mul-le-mul (c .blocks-of .ensures .1) (c .before .pre .0) in
     omega arith
 
 returns : tie.Need-returns

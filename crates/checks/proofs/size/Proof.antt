@@ -1,0 +1,91 @@
+-- `checks::size` meets its contract, format by format.
+-- Assumes nothing.
+use mathlib.Core.Path.{_≡_, sym, ap}
+use Prim.Native.Nat.{_≤_, _<_}
+use lib.Dec.{lit<, lit≤}
+use Rattle.rules.specs.Formats.{sizeOf}
+use Rattle.rules.specs.declared.Format.{Format}
+use borrow.Author.Needs.{needs}
+use Rattle.checks.proofs.size.Statement.{statement}
+use Rattle.checks.proofs.size.Tie as tie
+
+-- the size of a format that a match has told, where that is between 1 and 16
+sized : {f g : Format} → f ≡ g → sizeOf g ≤ 16 → 0 < sizeOf g → (sizeOf g ≡ sizeOf f) × (sizeOf g ≤ 16) × (0 < sizeOf g)
+sized e h p = (sym (ap sizeOf e), h, p)
+
+enum-told : tie.Need-enum-told
+enum-told c = search needs
+
+enum-told-2 : tie.Need-enum-told-2
+enum-told-2 c = search needs
+
+enum-told-3 : tie.Need-enum-told-3
+enum-told-3 c = search needs
+
+enum-told-4 : tie.Need-enum-told-4
+enum-told-4 c = search needs
+
+enum-told-5 : tie.Need-enum-told-5
+enum-told-5 c = search needs
+
+enum-told-6 : tie.Need-enum-told-6
+enum-told-6 c = search needs
+
+enum-told-7 : tie.Need-enum-told-7
+enum-told-7 c = search needs
+
+enum-told-8 : tie.Need-enum-told-8
+enum-told-8 c = search needs
+
+returns : tie.Need-returns
+unfolding sizeOf
+returns c = sized (c .enum-told .given .1) (lit≤ tt) (lit< tt)
+
+returns-2 : tie.Need-returns-2
+unfolding sizeOf
+returns-2 c = sized (c .enum-told2 .given .1) (lit≤ tt) (lit< tt)
+
+returns-3 : tie.Need-returns-3
+unfolding sizeOf
+returns-3 c = sized (c .enum-told3 .given .1) (lit≤ tt) (lit< tt)
+
+returns-4 : tie.Need-returns-4
+unfolding sizeOf
+returns-4 c = sized (c .enum-told4 .given .1) (lit≤ tt) (lit< tt)
+
+returns-5 : tie.Need-returns-5
+unfolding sizeOf
+returns-5 c = sized (c .enum-told5 .given .1) (lit≤ tt) (lit< tt)
+
+returns-6 : tie.Need-returns-6
+unfolding sizeOf
+returns-6 c = sized (c .enum-told6 .given .1) (lit≤ tt) (lit< tt)
+
+returns-7 : tie.Need-returns-7
+unfolding sizeOf
+returns-7 c = sized (c .enum-told7 .given .1) (lit≤ tt) (lit< tt)
+
+returns-8 : tie.Need-returns-8
+unfolding sizeOf
+returns-8 c = sized (c .enum-told8 .given .1) (lit≤ tt) (lit< tt)
+
+pub size-spec : {M : Type 1} → statement M
+size-spec =
+    tie.close
+    (tie.spec
+    enum-told
+    enum-told-2
+    enum-told-3
+    enum-told-4
+    enum-told-5
+    enum-told-6
+    enum-told-7
+    enum-told-8
+    returns
+    returns-2
+    returns-3
+    returns-4
+    returns-5
+    returns-6
+    returns-7
+    returns-8)
