@@ -44,14 +44,7 @@ fn pitched(width: usize, height: usize, pitch: usize) -> Picture {
 }
 
 // The first n bytes and m elements, read as a picture; with nothing where they are not there.
-fn part(
-    reader: usize,
-    data: &[u8],
-    n: usize,
-    pic: Picture,
-    image: &mut [u32],
-    m: usize,
-) -> Answer {
+fn part(reader: usize, data: &[u8], n: usize, pic: Picture, image: &mut [u32], m: usize) -> Answer {
     if data.len() < n {
         return Answer::ShortData;
     }
@@ -108,7 +101,11 @@ fn largest() {
     empty(65536, 65536, 65536);
     empty(5, 5, 18446744073709551615);
     empty(5, 18446744073709551615, 18446744073709551615);
-    empty(18446744073709551615, 18446744073709551615, 18446744073709551615);
+    empty(
+        18446744073709551615,
+        18446744073709551615,
+        18446744073709551615,
+    );
     empty(4, 4294967296, 4294967296);
 }
 
@@ -138,9 +135,16 @@ fn long_of(width: usize, height: usize, pitch: usize) {
     printing::say(b"\n");
 }
 
+// The element of a pixel of a picture without a gap.
+fn element_of(x: usize, y: usize, width: usize) -> usize
+    requires { ⌜ (x < 10) × (y < 10) × (width < 10) ⌝ }
+{
+    y * width + x
+}
+
 // What is due at place k, where the reader painted so without a gap.
 fn due(k: usize, painted: &[u32], pic: Picture) -> u32
-    requires { ⌜ (k < 128) × (pic .width < 10) ⌝ }
+    requires { ⌜ (pic .width < 10) × (pic .height < 10) ⌝ }
 {
     if pic.pitch == 0 {
         return 0x11111111;
@@ -153,7 +157,7 @@ fn due(k: usize, painted: &[u32], pic: Picture) -> u32
     if pic.height <= y {
         return 0x11111111;
     }
-    let at = y * pic.width + x;
+    let at = element_of(x, y, pic.width);
     if at < painted.len() {
         return painted[at];
     }
@@ -161,7 +165,7 @@ fn due(k: usize, painted: &[u32], pic: Picture) -> u32
 }
 
 fn wrong(image: &[u32; 128], painted: &[u32], pic: Picture) -> usize
-    requires { ⌜ pic .width < 10 ⌝ }
+    requires { ⌜ (pic .width < 10) × (pic .height < 10) ⌝ }
 {
     let mut n: usize = 0;
     let mut k: usize = 0;
@@ -230,7 +234,13 @@ fn fresh_case(reader: usize, width: usize, height: usize, gap: usize)
     samples::fill(&mut data, reader * 100 + width * 10 + height, reader == 8);
     read(reader, &data, pitched(width, height, width), &mut painted);
     short_pitch(reader, pic, &data, &mut image);
-    short_data(reader, pic, &data, samples::bytes_of(reader, width, height), &mut image);
+    short_data(
+        reader,
+        pic,
+        &data,
+        samples::bytes_of(reader, width, height),
+        &mut image,
+    );
     short_image(reader, pic, &data, &mut image, elements_of(pic));
     printing::say(b" ");
     printing::say_answer(read(reader, &data, pic, &mut image));
