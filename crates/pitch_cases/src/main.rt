@@ -135,9 +135,16 @@ fn long_of(width: usize, height: usize, pitch: usize) {
     printing::say(b"\n");
 }
 
+// The element of a pixel of a picture without a gap.
+fn element_of(x: usize, y: usize, width: usize) -> usize
+    requires { ⌜ (x < 10) × (y < 10) × (width < 10) ⌝ }
+{
+    y * width + x
+}
+
 // What is due at place k, where the reader painted so without a gap.
 fn due(k: usize, painted: &[u32], pic: Picture) -> u32
-    requires { ⌜ (k < 128) × (pic .width < 10) ⌝ }
+    requires { ⌜ (pic .width < 10) × (pic .height < 10) ⌝ }
 {
     if pic.pitch == 0 {
         return 0x11111111;
@@ -150,7 +157,7 @@ fn due(k: usize, painted: &[u32], pic: Picture) -> u32
     if pic.height <= y {
         return 0x11111111;
     }
-    let at = y * pic.width + x;
+    let at = element_of(x, y, pic.width);
     if at < painted.len() {
         return painted[at];
     }
@@ -158,7 +165,7 @@ fn due(k: usize, painted: &[u32], pic: Picture) -> u32
 }
 
 fn wrong(image: &[u32; 128], painted: &[u32], pic: Picture) -> usize
-    requires { ⌜ pic .width < 10 ⌝ }
+    requires { ⌜ (pic .width < 10) × (pic .height < 10) ⌝ }
 {
     let mut n: usize = 0;
     let mut k: usize = 0;
