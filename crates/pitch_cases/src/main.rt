@@ -4,6 +4,7 @@
 use libc::STDOUT_FILENO;
 use rules::Answer;
 use rules::Picture;
+ghost use mathlib.Core.Path.{_≡_};
 ghost use Prim.Native.Nat.{_+_, _<_, _≤_};
 
 // The readers by number, in document 01's order; 8 is strict ETC1.
@@ -35,7 +36,9 @@ fn channels(reader: usize, data: &[u8], pic: Picture, image: &mut [u32]) -> Answ
     }
 }
 
-fn pitched(width: usize, height: usize, pitch: usize) -> Picture {
+fn pitched(width: usize, height: usize, pitch: usize) -> Picture
+    ensures { λ r. ⌜ (r .width ≡ width) × (r .height ≡ height) × (r .pitch ≡ pitch) ⌝ }
+{
     Picture {
         width: width,
         height: height,
@@ -143,9 +146,7 @@ fn element_of(x: usize, y: usize, width: usize) -> usize
 }
 
 // What is due at place k, where the reader painted so without a gap.
-fn due(k: usize, painted: &[u32], pic: Picture) -> u32
-    requires { ⌜ (pic .width < 10) × (pic .height < 10) ⌝ }
-{
+fn due(k: usize, painted: &[u32], pic: Picture) -> u32 {
     if pic.pitch == 0 {
         return 0x11111111;
     }
@@ -157,6 +158,13 @@ fn due(k: usize, painted: &[u32], pic: Picture) -> u32
     if pic.height <= y {
         return 0x11111111;
     }
+    // No size here is larger.
+    if 9 < pic.width {
+        return 0;
+    }
+    if 9 < pic.height {
+        return 0;
+    }
     let at = element_of(x, y, pic.width);
     if at < painted.len() {
         return painted[at];
@@ -164,15 +172,18 @@ fn due(k: usize, painted: &[u32], pic: Picture) -> u32
     0
 }
 
-fn wrong(image: &[u32; 128], painted: &[u32], pic: Picture) -> usize
-    requires { ⌜ (pic .width < 10) × (pic .height < 10) ⌝ }
+// 1 where two elements are not the same.
+fn other(one: u32, two: u32) -> usize
+    ensures { λ r. ⌜ r ≤ 1 ⌝ }
 {
+    if one == two { 0 } else { 1 }
+}
+
+fn wrong(image: &[u32; 128], painted: &[u32], pic: Picture) -> usize {
     let mut n: usize = 0;
     let mut k: usize = 0;
     while k < 128 {
-        if image[k] != due(k, painted, pic) {
-            n += 1;
-        }
+        n += other(image[k], due(k, painted, pic));
         k += 1;
     }
     n

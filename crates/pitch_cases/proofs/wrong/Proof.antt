@@ -14,14 +14,17 @@ abbrev μ-loop : tie.MeasureT-loop
 loop-holds : tie.Need-loop-holds Inv-loop μ-loop
 loop-holds c = search needs
 
-mul-if1 : tie.Need-mul-if1 Inv-loop μ-loop
-mul-if1 c = search needs
+mul-other : tie.Need-mul-other Inv-loop μ-loop
+mul-other c = search needs
 
-element-copy-out-if1 : tie.Need-element-copy-out-if1 Inv-loop μ-loop
-element-copy-out-if1 c = search needs
+element-copy-out-other : tie.Need-element-copy-out-other Inv-loop μ-loop
+element-copy-out-other c = search needs
 
 due-requires : tie.Need-due-requires Inv-loop μ-loop
 due-requires c κs = search needs
+
+other-requires : tie.Need-other-requires Inv-loop μ-loop
+other-requires c κs = search needs
 
 add-n : tie.Need-add-n Inv-loop μ-loop
 add-n c = search needs
@@ -45,9 +48,10 @@ wrong-spec =
     Inv-loop
     μ-loop
     loop-holds
-    mul-if1
-    element-copy-out-if1
+    mul-other
+    element-copy-out-other
     due-requires
+    other-requires
     add-n
     add-k
     loop-less
