@@ -1,7 +1,6 @@
 // Runs the picture readers that take a pitch: around the limits, at 65,536 by 1 and 1 by 65,536, and at every size from 0 to 9 each way with
 // gaps of 0 to 5 elements, and prints what came out. An element is wrong where it is not the pixel that the reader paints without a
 // gap, or, in a gap or behind the last pixel, no more the 11111111 (hex) of before.
-use libc::STDOUT_FILENO;
 use rules::Answer;
 use rules::Picture;
 ghost use mathlib.Core.Path.{_≡_};
@@ -112,7 +111,7 @@ fn largest() {
     empty(4, 4294967296, 4294967296);
 }
 
-// A long picture over fresh bytes: the answer, how many elements changed, and the digest.
+// A long picture over fresh bytes: the answer, and how many elements changed.
 fn long(reader: usize, pic: Picture)
     requires { ⌜ reader < 9 ⌝ }
 {
@@ -123,8 +122,6 @@ fn long(reader: usize, pic: Picture)
     printing::say_answer(read(reader, &data, pic, &mut image));
     printing::say(b"/");
     printing::say_number(printing::changed(&image, 0));
-    printing::say(b"/");
-    io::print_hex(STDOUT_FILENO, samples::digest(&image, 0), 8);
 }
 
 fn long_of(width: usize, height: usize, pitch: usize) {
