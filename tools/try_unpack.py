@@ -2,7 +2,8 @@
 
 For each example: the PNG is read by PIL, by netpbm's pngtopam and by this script's own few lines over zlib, and all three have
 the same pixels. For each bad file: the exit status is the number of the refusal, a sentence goes to standard error, and nothing
-is left behind. Its last line is 'N passed, M failed'.
+is left behind. tools/try_files.py has what must not happen to files, and tools/try_build.py how the program is built and
+installed. Its last line is 'N passed, M failed'.
 """
 import os
 import struct
@@ -13,20 +14,9 @@ import zlib
 
 from PIL import Image
 
-TOP = os.path.dirname(os.path.dirname(os.path.abspath(__file__)))
-TOOL = os.path.join(TOP, "unpack")
-COUNT = {True: 0, False: 0}
-
-
-def note(ok, what):
-    COUNT[ok] += 1
-    if not ok:
-        print("FAILED " + what)
-
-
-def unpack(*words):
-    run = subprocess.run([TOOL] + list(words), capture_output=True)
-    return run.returncode, run.stdout.decode(), run.stderr.decode()
+import try_build
+import try_files
+from try_common import COUNT, TOP, note, unpack
 
 
 def own(path):
@@ -106,10 +96,11 @@ def refusals(room):
         path, out = os.path.join(room, "bad"), os.path.join(room, "bad.png")
         with open(path, "wb") as f:
             f.write(data)
+        before = sorted(os.listdir(room))
         status, _, sentence = unpack(path, out)
         note(status == number, "%s: status %d, not %d" % (what, status, number))
         note(sentence.strip().endswith("."), what + ": no sentence")
-        note(not os.path.exists(out) and not os.path.exists(out + ".part"), what + ": something is left")
+        note(sorted(os.listdir(room)) == before, what + ": something is left")
     old, kinds, glow = (os.path.join(TOP, "examples", n) for n in ("old.pkm", "kinds.ktx", "glow.ktx"))
     for words, number in (
         (["--check", old], 0),
@@ -119,20 +110,36 @@ def refusals(room):
         (["--help"], 0),
         ([], 32),
         (["--check"], 32),
+        (["--check", old, kinds], 32),
+        (["--check", "--info", old], 32),
+        (["--force", "--check", old], 32),
+        (["--into", room], 32),
+        (["--into", "--force", old], 32),
+        (["--unknown", old, out], 32),
+        ([old, "--out"], 32),
+        (["--raw", "etc1", "4", "4", old], 32),
+        (["--help", "--version"], 32),
+        (["--version"], 0),
         (["--raw", "dxt1", "4", "4", old, out], 23),
         (["--raw", "etc1", "four", "4", old, out], 24),
         (["--raw", "etc1", "64", "64", old, out], 2),
         (["--raw", "eac-rg", "8", "8", old, out], 0),
         ([os.path.join(room, "nothing"), out], 30),
+        (["", out], 30),
         ([old, os.path.join(room, "no", "folder.png")], 31),
+        (["--into", os.path.join(room, "no"), old], 31),
     ):
-        note(unpack(*words)[0] == number, " ".join(words) + ": status")
+        status, said, sentence = unpack(*words)
+        note(status == number, " ".join(words) + ": status %d, not %d" % (status, number))
+        note((said if number in (0, 4) else sentence).strip() != "", " ".join(words) + ": nothing is said")
 
 
 def main():
     with tempfile.TemporaryDirectory() as room:
         examples(room)
         refusals(room)
+    try_files.cases()
+    try_build.cases()
     print("%d passed, %d failed" % (COUNT[True], COUNT[False]))
     sys.exit(1 if COUNT[False] else 0)
 

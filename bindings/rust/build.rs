@@ -25,7 +25,7 @@ fn copy(ready: &Path, linked: &Path) {
 /// proving goes to standard error, which `cargo build -vv` shows.
 fn make(folder: &Path, archive: &Path) {
     let top = Path::new(env!("CARGO_MANIFEST_DIR")).join("../..");
-    for part in ["crates", "crates.txt", "bindings/archive"] {
+    for part in ["crates", "crates.txt", "bindings/archive", "bindings/native.sh"] {
         println!("cargo:rerun-if-changed={}", top.join(part).display());
     }
     assert_eq!(
@@ -36,7 +36,7 @@ fn make(folder: &Path, archive: &Path) {
     let status = Command::new("sh")
         .arg(top.join("bindings/archive"))
         .arg("--in")
-        .arg(folder.join("proved"))
+        .arg(folder.join("copy"))
         .arg(archive)
         .status();
     assert!(
