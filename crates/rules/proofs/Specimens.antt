@@ -55,8 +55,10 @@ bench =
     ∷ one (picture EacR) 0x8010000000000000 (all 0xFF7D0000)
     ∷ one (picture EacR) 0x8000000000000000 (all 0xFF800000)
     ∷ one (picture EacRSigned) 0x0010000000000000 (all 0xFF7C0000)
-    -- 02's "A block 80 10 whose index is 6 everywhere gives the byte 7 by the old rule, 8 by the new."; its base read as unsigned stays
+    -- 02's "A block 80 10 whose index is 6 everywhere gives the byte 7 by the old rule, 8 by the new.", and "All other bases answer as
+    -- before.": the next base, whose byte is 8 as it was, and the same base read as unsigned
     ∷ one (picture EacRSigned) 0x8010DB6DB6DB6DB6 (all 0xFF080000)
+    ∷ one (picture EacRSigned) 0x8110DB6DB6DB6DB6 (all 0xFF080000)
     ∷ one (picture EacR) 0x8010DB6DB6DB6DB6 (all 0xFF880000)
     -- S16
     ∷ shows (picture Etc1) 5 1 (0x0400000200000000 ∷ 0x0000000000000000 ∷ [])

@@ -108,6 +108,7 @@ fn channels() -> Vec<Specimen> {
         block(EACR, &[0x80, 0x00], all(0xff80_0000)),
         block(EACR_SIGNED, &[0x00, 0x10], all(0xff7c_0000)),
         block(EACR_SIGNED, &LOWEST, all(0xff08_0000)),
+        block(EACR_SIGNED, &[0x81, 0x10, 0xdb, 0x6d, 0xb6, 0xdb, 0x6d, 0xb6], all(0xff08_0000)),
         block(EACR, &LOWEST, all(0xff88_0000)),
     ]
 }
