@@ -1,39 +1,43 @@
-/* Run by bench/count: reads 256 random blocks by the reader that is named, as often as is said. */
+/* One picture of random blocks, read once: count READER SIDE [PITCH]. For bench/count, which counts the reader's instructions. */
+#include "yalivucu.h"
+#include <stdio.h>
 #include <stdlib.h>
 #include <string.h>
-#include "yalivucu.h"
 
-enum { SIDE = 64, BLOCKS = 256 };
-static uint8_t data[16 * BLOCKS];
-static uint32_t image[SIDE * SIDE];
+#define READERS(each) each(etc1) each(etc2_rgb) each(etc2_rgba1) each(etc2_rgba8) each(eacr) each(eacrg)
 
-static uint64_t next(void) {
-    static uint64_t x = 0x9E3779B97F4A7C15;
-    x ^= x << 13;
-    x ^= x >> 7;
-    x ^= x << 17;
-    return x * 0x2545F4914F6CDD1D;
-}
-
-static uint32_t read(const char *reader) {
-    if (!strcmp(reader, "etc1")) return yalivucu_decode_etc1(data, sizeof data, SIDE, SIDE, image, SIDE * SIDE);
-    if (!strcmp(reader, "etc2_rgb")) return yalivucu_decode_etc2_rgb(data, sizeof data, SIDE, SIDE, image, SIDE * SIDE);
-    if (!strcmp(reader, "etc2_rgba1")) return yalivucu_decode_etc2_rgba1(data, sizeof data, SIDE, SIDE, image, SIDE * SIDE);
-    if (!strcmp(reader, "etc2_rgba8")) return yalivucu_decode_etc2_rgba8(data, sizeof data, SIDE, SIDE, image, SIDE * SIDE);
-    if (!strcmp(reader, "eacr")) return yalivucu_decode_eacr(data, sizeof data, SIDE, SIDE, image, SIDE * SIDE);
-    if (!strcmp(reader, "eacrg")) return yalivucu_decode_eacrg(data, sizeof data, SIDE, SIDE, image, SIDE * SIDE);
-    uint32_t answer = YALIVUCU_DONE;
-    for (size_t n = 0; n < BLOCKS; n++) answer |= yalivucu_decode_etc2_a8_block(data + 16 * n, 8, image + 16 * n, 16);
-    return answer;
-}
-
-int main(int count, char **words) {
-    if (count != 3) return 2;
-    for (size_t k = 0; k < sizeof data; k += 8) {
-        uint64_t random = next();
-        memcpy(data + k, &random, 8);
+int main(int argc, char **argv)
+{
+    if (argc < 3) return 2;
+    const size_t side = strtoul(argv[2], NULL, 10);
+    const size_t pitch = argc > 3 ? strtoul(argv[3], NULL, 10) : side;
+    const size_t bytes = side * side;
+    uint8_t *data = malloc(bytes);
+    uint32_t *image = calloc(pitch * side, sizeof *image);
+    uint32_t answer = 99, sum = 0;
+    uint64_t random = 88172645463325252u;
+    if (!data || !image) return 2;
+    for (size_t k = 0; k < bytes; k++) {
+        random ^= random << 13;
+        random ^= random >> 7;
+        random ^= random << 17;
+        data[k] = (uint8_t)random;
     }
-    for (int turns = atoi(words[2]); turns > 0; turns--)
-        if (read(words[1]) != YALIVUCU_DONE) return 1;
-    return 0;
+#define PLAIN(name) \
+    if (argc == 3 && !strcmp(argv[1], #name)) answer = yalivucu_decode_##name(data, bytes, side, side, image, pitch * side);
+    READERS(PLAIN)
+#ifdef PITCHED
+#define GAPPED(name) \
+    if (argc > 3 && !strcmp(argv[1], #name)) \
+        answer = yalivucu_decode_##name##_pitched(data, bytes, side, side, pitch, image, pitch * side);
+    READERS(GAPPED)
+#endif
+    /* the alpha half alone: as many blocks as the picture has, each onto its own sixteen elements */
+    if (!strcmp(argv[1], "etc2_a8_block")) {
+        answer = 0;
+        for (size_t k = 0; k < bytes; k += 16) answer |= yalivucu_decode_etc2_a8_block(data + k, 16, image + k, 16);
+    }
+    for (size_t k = 0; k < pitch * side; k++) sum = sum * 31 + image[k];
+    printf("%08x\n", sum);
+    return answer != 0;
 }

@@ -8,20 +8,24 @@
  *   data, data_len     the compressed bytes and how many there are. They are only read, and
  *                      bytes beyond the last block of the picture are not looked at.
  *   width, height      of the picture in pixels: any numbers; 0 is a picture with no pixels.
+ *   pitch              how many elements a row of the image takes, of which the first width are
+ *                      pixels and the others a gap. Where there is no such argument, the width.
  *   image, image_len   the pixels and how many elements there is room for. Pixel (x, y) is
- *                      image[y * width + x]; a pixel is
+ *                      image[y * pitch + x]; a pixel is
  *                      alpha << 24 | red << 16 | green << 8 | blue.
  *   out, out_len       the same for the sixteen pixels of one block, row by row.
  *   counts, counts_len the counts of a census and how many there is room for.
  *
  * Answers
  *   0  done: the picture's width * height elements, or a block's 16, or a census's 5 or 8 counts
- *      are written. No other element is touched, so what lies behind them keeps its value.
- *   1  refused: the width or the height is above 16384.
+ *      are written. No other element is touched, so gaps and what lies behind keep their value.
+ *   1  refused: the width, the height or the pitch is above 65536; of a sheet, and of its writer,
+ *      the width or the height above 16384.
  *   2  refused: data_len is less than the blocks have. A picture has
  *      ((width + 3) / 4) * ((height + 3) / 4) blocks of 8 bytes, or 16 where it says so below.
- *   3  refused: image_len is less than width * height, or out_len less than 16, or counts_len
- *      less than the census has counts.
+ *   3  refused: image_len is less than (height - 1) * pitch + width, which is width * height where
+ *      there is no gap (and 0 where a side is 0), or out_len less than 16, or counts_len less than
+ *      the census has counts.
  *   4  refused by yalivucu_decode_etc1_strict alone: a block's base plus step is out of range.
  *   5  refused: the channel is above 3.
  *   7  refused, of a sheet: a record is cut short, or there are no bytes at all.
@@ -29,9 +33,10 @@
  *      of the writer: the format is above 7.
  *   9  refused: a record of another kind, a second one of kind 1 included.
  *  10  refused: no record of blocks, a second one, or blocks that are not of the exact length.
- * Pictures test 1, 2, 3, 4 in that order, blocks 5, 2, 3, censuses 1, 2, 3. A sheet is walked front
- * to back and the first fault is the answer, 3 last; the writer tests 8, 1, 10, 3. A refusal touches
- * no element.
+ *  12  refused: the pitch is below the width.
+ * Pictures test 1, 12, 2, 3, 4 in that order, blocks 5, 2, 3, censuses 1, 2, 3. A sheet is walked
+ * front to back and the first fault is the answer, 3 last; the writer tests 8, 1, 10, 3. A refusal
+ * touches no element.
  *
  * What the caller owes
  *   data points to data_len bytes that may be read, image (out, counts) to image_len (out_len,
@@ -60,7 +65,8 @@ enum yalivucu_answer {
     YALIVUCU_CUT_SHORT = 7,
     YALIVUCU_NO_HEAD = 8,
     YALIVUCU_OTHER_KIND = 9,
-    YALIVUCU_WRONG_BLOCKS = 10
+    YALIVUCU_WRONG_BLOCKS = 10,
+    YALIVUCU_SHORT_PITCH = 12
 };
 
 /* Pictures in blocks of 8 bytes. */
@@ -75,11 +81,23 @@ uint32_t yalivucu_decode_etc2_rgba8(const uint8_t *data, size_t data_len, size_t
 uint32_t yalivucu_decode_eacrg(const uint8_t *data, size_t data_len, size_t width, size_t height, uint32_t *image, size_t image_len);
 uint32_t yalivucu_decode_eacrg_signed(const uint8_t *data, size_t data_len, size_t width, size_t height, uint32_t *image, size_t image_len);
 
+/* The same with a pitch, for an image whose rows have a gap. With pitch = width each does what the
+ * function without one does. */
+uint32_t yalivucu_decode_etc1_pitched(const uint8_t *data, size_t data_len, size_t width, size_t height, size_t pitch, uint32_t *image, size_t image_len);
+uint32_t yalivucu_decode_etc2_rgb_pitched(const uint8_t *data, size_t data_len, size_t width, size_t height, size_t pitch, uint32_t *image, size_t image_len);
+uint32_t yalivucu_decode_etc2_rgba1_pitched(const uint8_t *data, size_t data_len, size_t width, size_t height, size_t pitch, uint32_t *image, size_t image_len);
+uint32_t yalivucu_decode_eacr_pitched(const uint8_t *data, size_t data_len, size_t width, size_t height, size_t pitch, uint32_t *image, size_t image_len);
+uint32_t yalivucu_decode_eacr_signed_pitched(const uint8_t *data, size_t data_len, size_t width, size_t height, size_t pitch, uint32_t *image, size_t image_len);
+uint32_t yalivucu_decode_etc2_rgba8_pitched(const uint8_t *data, size_t data_len, size_t width, size_t height, size_t pitch, uint32_t *image, size_t image_len);
+uint32_t yalivucu_decode_eacrg_pitched(const uint8_t *data, size_t data_len, size_t width, size_t height, size_t pitch, uint32_t *image, size_t image_len);
+uint32_t yalivucu_decode_eacrg_signed_pitched(const uint8_t *data, size_t data_len, size_t width, size_t height, size_t pitch, uint32_t *image, size_t image_len);
+
 /* An ETC1 picture, in blocks of 8 bytes, that holds no block out of range: what it accepts, an
  * ETC2 decoder shows alike. With answer 4, *block is the number of the first such block, from 0,
  * left to right and then down; with any other answer *block is not written. block is not NULL
  * and points into neither data nor image. */
 uint32_t yalivucu_decode_etc1_strict(const uint8_t *data, size_t data_len, size_t width, size_t height, uint32_t *image, size_t image_len, size_t *block);
+uint32_t yalivucu_decode_etc1_strict_pitched(const uint8_t *data, size_t data_len, size_t width, size_t height, size_t pitch, uint32_t *image, size_t image_len, size_t *block);
 
 /* The same with its whole answer as one value, so that there is no pointer to be wrong about:
  * block is the first block out of range where answer is 4, and 0 with any other answer. */
@@ -91,6 +109,12 @@ static inline struct yalivucu_strict yalivucu_etc1_strict(const uint8_t *data, s
 {
     struct yalivucu_strict told = {0, 0};
     told.answer = yalivucu_decode_etc1_strict(data, data_len, width, height, image, image_len, &told.block);
+    return told;
+}
+static inline struct yalivucu_strict yalivucu_etc1_strict_pitched(const uint8_t *data, size_t data_len, size_t width, size_t height, size_t pitch, uint32_t *image, size_t image_len)
+{
+    struct yalivucu_strict told = {0, 0};
+    told.answer = yalivucu_decode_etc1_strict_pitched(data, data_len, width, height, pitch, image, image_len, &told.block);
     return told;
 }
 

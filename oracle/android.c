@@ -5,7 +5,7 @@
 #include <stdio.h>
 #include <stdlib.h>
 
-enum { MOST_DATA = 65536, MOST_IMAGE = 16384 };
+enum { MOST_DATA = 262144, MOST_IMAGE = 65536 };
 
 static void need(int fact, const char *what)
 {

@@ -12,7 +12,7 @@
 #include <stdlib.h>
 #include <string.h>
 
-enum { MOST_DATA = 65536, MOST_IMAGE = 16384 };
+enum { MOST_DATA = 262144, MOST_IMAGE = 65536 };
 
 /* In the order of the readers; the first is ETC1 from its own extension. */
 static const GLenum FORMAT[8] = {0x8D64, 0x9274, 0x9276, 0x9278, 0x9270, 0x9271, 0x9272, 0x9273};

@@ -41,6 +41,8 @@ class Made:
 
 def apply(function, *arguments):
     while arguments:
+        if isinstance(function, Made):  # a constructor that has not had all its parts yet
+            return Made(function.name, (*function.parts, *arguments))
         if len(arguments) < function.count:
             return Function(function.count - len(arguments), functools.partial(function.body, *arguments))
         function, arguments = function.body(*arguments[: function.count]), arguments[function.count:]

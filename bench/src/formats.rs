@@ -3,10 +3,13 @@ use crate::blocks::Half;
 
 pub type Reader = fn(&[u8], usize, usize, &mut [u32]) -> Result<(), &'static str>;
 
+pub type Pitched = fn(&[u8], usize, usize, usize, &mut [u32]) -> Result<(), &'static str>;
+
 pub struct Format {
     pub name: &'static str,
     pub halves: &'static [Half],
     pub library: Reader,
+    pub pitched: Pitched,
     pub given: Reader,
 }
 
@@ -15,24 +18,28 @@ pub const FORMATS: [Format; 7] = [
         name: "ETC1",
         halves: &[Half::Colour],
         library: yalivucu::decode_etc1,
+        pitched: yalivucu::decode_etc1_pitched,
         given: given::decode_etc1,
     },
     Format {
         name: "RGB",
         halves: &[Half::Colour],
         library: yalivucu::decode_etc2_rgb,
+        pitched: yalivucu::decode_etc2_rgb_pitched,
         given: given::decode_etc2_rgb,
     },
     Format {
         name: "RGBA1",
         halves: &[Half::Punched],
         library: yalivucu::decode_etc2_rgba1,
+        pitched: yalivucu::decode_etc2_rgba1_pitched,
         given: given::decode_etc2_rgba1,
     },
     Format {
         name: "RGBA8",
         halves: &[Half::Alpha, Half::Colour],
         library: yalivucu::decode_etc2_rgba8,
+        pitched: yalivucu::decode_etc2_rgba8_pitched,
         given: given::decode_etc2_rgba8,
     },
     Format {
@@ -45,12 +52,14 @@ pub const FORMATS: [Format; 7] = [
         name: "EAC R",
         halves: &[Half::Channel],
         library: yalivucu::decode_eacr,
+        pitched: yalivucu::decode_eacr_pitched,
         given: given::decode_eacr,
     },
     Format {
         name: "EAC RG",
         halves: &[Half::Channel, Half::Channel],
         library: yalivucu::decode_eacrg,
+        pitched: yalivucu::decode_eacrg_pitched,
         given: given::decode_eacrg,
     },
 ];

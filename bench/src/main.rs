@@ -4,6 +4,7 @@ mod android;
 mod blocks;
 mod clock;
 mod formats;
+mod gap;
 mod sheet;
 
 use blocks::Random;
@@ -28,6 +29,9 @@ fn main() {
         println!("|---|---|---|---|---|");
         for format in &FORMATS {
             alike &= compared(format, make);
+        }
+        for format in &FORMATS {
+            alike &= gap::print(format, make);
         }
         android::print(
             SIDE,

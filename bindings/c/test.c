@@ -49,16 +49,74 @@ static void pictures(void)
     };
     for (size_t k = 0; k < sizeof row / sizeof *row; k++) {
         clear();
-        same(row[k].name, row[k].read(ZERO, row[k].size, 16385, 0, image, 0), YALIVUCU_TOO_LARGE);
+        same(row[k].name, row[k].read(ZERO, row[k].size, 65537, 0, image, 0), YALIVUCU_TOO_LARGE);
         same(row[k].name, row[k].read(ZERO, row[k].size, SIZE_MAX, SIZE_MAX, image, MOST), YALIVUCU_TOO_LARGE);
         same(row[k].name, row[k].read(ZERO, row[k].size - 1, 4, 4, image, 15), YALIVUCU_SHORT_DATA);
         same(row[k].name, row[k].read(ZERO, row[k].size, 4, 4, image, 15), YALIVUCU_SHORT_IMAGE);
-        same(row[k].name, row[k].read(ZERO, 0, 16384, 0, image, 0), YALIVUCU_DONE);
+        same(row[k].name, row[k].read(ZERO, 0, 65536, 0, image, 0), YALIVUCU_DONE);
         untouched(row[k].name, 0);
         same(row[k].name, row[k].read(ZERO, row[k].size, 4, 4, image, MOST), YALIVUCU_DONE);
         same(row[k].name, image[0], row[k].first);
         untouched(row[k].name, 16);
     }
+}
+
+/* A picture of 3 by 2 in rows of 5 elements: two gaps, of which the last has no need to be there. */
+static void pitched(void)
+{
+    const struct {
+        const char *name;
+        uint32_t (*read)(const uint8_t *, size_t, size_t, size_t, size_t, uint32_t *, size_t);
+        size_t size;
+        uint32_t first;
+    } row[] = {
+        {"etc1_pitched", yalivucu_decode_etc1_pitched, 8, 0xff020202},
+        {"etc2_rgb_pitched", yalivucu_decode_etc2_rgb_pitched, 8, 0xff020202},
+        {"etc2_rgba1_pitched", yalivucu_decode_etc2_rgba1_pitched, 8, 0xff000000},
+        {"etc2_rgba8_pitched", yalivucu_decode_etc2_rgba8_pitched, 16, 0x00020202},
+        {"eacr_pitched", yalivucu_decode_eacr_pitched, 8, 0xff000000},
+        {"eacr_signed_pitched", yalivucu_decode_eacr_signed_pitched, 8, 0xff7f0000},
+        {"eacrg_pitched", yalivucu_decode_eacrg_pitched, 16, 0xff000000},
+        {"eacrg_signed_pitched", yalivucu_decode_eacrg_signed_pitched, 16, 0xff7f7f00},
+    };
+    for (size_t k = 0; k < sizeof row / sizeof *row; k++) {
+        const char *name = row[k].name;
+        clear();
+        same(name, row[k].read(ZERO, 0, 3, 2, 65537, image, 0), YALIVUCU_TOO_LARGE);
+        same(name, row[k].read(ZERO, 0, 65537, 2, 3, image, 0), YALIVUCU_TOO_LARGE);
+        same(name, row[k].read(ZERO, 0, 3, SIZE_MAX, SIZE_MAX, image, 0), YALIVUCU_TOO_LARGE);
+        same(name, row[k].read(ZERO, 0, 3, 2, 2, image, 0), YALIVUCU_SHORT_PITCH);
+        same(name, row[k].read(ZERO, 0, 3, 0, 2, image, 0), YALIVUCU_SHORT_PITCH);
+        same(name, row[k].read(ZERO, row[k].size - 1, 3, 2, 5, image, 7), YALIVUCU_SHORT_DATA);
+        same(name, row[k].read(ZERO, row[k].size, 3, 2, 5, image, 7), YALIVUCU_SHORT_IMAGE);
+        same(name, row[k].read(ZERO, 0, 3, 0, 65536, image, 0), YALIVUCU_DONE);
+        same(name, row[k].read(NULL, 0, 0, 2, 5, NULL, 0), YALIVUCU_DONE);
+        untouched(name, 0);
+        same(name, row[k].read(ZERO, row[k].size, 3, 2, 5, image, 8), YALIVUCU_DONE);
+        for (size_t at = 0; at < 8; at++) same(name, image[at], at % 5 < 3 ? row[k].first : STOOD);
+        untouched(name, 8);
+    }
+}
+
+/* Strict with a pitch: the gap is no pixel of the block beside it. */
+static void strict_pitched(void)
+{
+    uint8_t data[16];
+    size_t block = 77;
+    memcpy(data, ZERO, 8);
+    memcpy(data + 8, TWO, 8);
+    clear();
+    same("strict pitched, short", yalivucu_decode_etc1_strict_pitched(data, 16, 5, 1, 4, image, 8, &block), YALIVUCU_SHORT_PITCH);
+    same("strict pitched, accepted", yalivucu_decode_etc1_strict_pitched(data, 16, 4, 2, 6, image, 10, &block), YALIVUCU_DONE);
+    same("strict pitched, block kept", (uint32_t)block, 77);
+    for (int at = 0; at < 10; at++) same("strict pitched", image[at], at % 6 < 4 ? 0xff020202 : STOOD);
+    clear();
+    same("strict pitched, refused", yalivucu_decode_etc1_strict_pitched(data, 16, 5, 1, 6, image, 6, &block), YALIVUCU_OUT_OF_RANGE);
+    same("strict pitched, block", (uint32_t)block, 1);
+    struct yalivucu_strict told = yalivucu_etc1_strict_pitched(data, 16, 5, 1, 6, image, 6);
+    same("strict pitched as a value, refused", told.answer, YALIVUCU_OUT_OF_RANGE);
+    same("strict pitched as a value, block", (uint32_t)told.block, 1);
+    untouched("strict pitched, refused", 0);
 }
 
 /* With a length of 0 the pointer is not followed: NULL is answered like any other. */
@@ -69,7 +127,7 @@ static void nothing(void)
     same("no data, no image", yalivucu_decode_etc1(NULL, 0, 4, 4, NULL, 0), YALIVUCU_SHORT_DATA);
     same("no data", yalivucu_decode_etc2_rgba8(NULL, 0, 4, 4, image, MOST), YALIVUCU_SHORT_DATA);
     same("no image", yalivucu_decode_etc2_rgb(TWO, 8, 4, 4, NULL, 0), YALIVUCU_SHORT_IMAGE);
-    same("no pixels", yalivucu_decode_eacrg(NULL, 0, 0, 16384, NULL, 0), YALIVUCU_DONE);
+    same("no pixels", yalivucu_decode_eacrg(NULL, 0, 0, 65536, NULL, 0), YALIVUCU_DONE);
     same("strict, no data", yalivucu_decode_etc1_strict(NULL, 0, 4, 4, NULL, 0, &block), YALIVUCU_SHORT_DATA);
     same("strict, no pixels", yalivucu_decode_etc1_strict(NULL, 0, 0, 0, NULL, 0, &block), YALIVUCU_DONE);
     same("strict, block kept", (uint32_t)block, 77);
@@ -159,7 +217,7 @@ static void census(const char *what, uint32_t (*count)(const uint8_t *, size_t, 
 {
     size_t counts[9];
     for (size_t k = 0; k < 9; k++) counts[k] = 77;
-    same(what, count(KINDS, 48, 16385, 0, counts, 0), YALIVUCU_TOO_LARGE);
+    same(what, count(KINDS, 48, 65537, 0, counts, 0), YALIVUCU_TOO_LARGE);
     same(what, count(KINDS, 47, 24, 4, counts, 0), YALIVUCU_SHORT_DATA);
     same(what, count(KINDS, 48, 24, 4, counts, most - 1), YALIVUCU_SHORT_IMAGE);
     for (size_t k = 0; k < 9; k++) same(what, (uint32_t)counts[k], 77);
@@ -223,8 +281,10 @@ static void sheets(void)
 int main(void)
 {
     pictures();
+    pitched();
     nothing();
     strict();
+    strict_pitched();
     blocks();
     channels();
     censuses();

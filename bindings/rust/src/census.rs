@@ -41,7 +41,7 @@ pub struct Rgba1Counts {
 }
 
 /// Counts the blocks of each kind of an ETC2 RGB picture. Bytes beyond the last block are not
-/// counted.
+/// counted, and a pitch is not looked at.
 ///
 /// Refuses with [`Refusal::TooLarge`] or [`Refusal::ShortData`], tested in that order.
 ///
@@ -77,7 +77,7 @@ pub fn census_etc2_rgb(data: &[u8], picture: Picture) -> Result<RgbCounts, Refus
 }
 
 /// Counts the blocks of each kind of an ETC2 RGBA1 picture, split by the opaque bit. Bytes beyond
-/// the last block are not counted.
+/// the last block are not counted, and a pitch is not looked at.
 ///
 /// Refuses with [`Refusal::TooLarge`] or [`Refusal::ShortData`], tested in that order.
 ///

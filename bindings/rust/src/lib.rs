@@ -8,14 +8,15 @@
 //! ```
 //!
 //! A picture reader reads the picture, or refuses with a text and changes nothing: there is no
-//! third outcome. The texts are the crate's own two, and one more where a side is above 16,384. A block reader
+//! third outcome. The texts are the crate's own two, and two more: where a side or the pitch is above 65,536, and where the pitch is below the width. A block reader
 //! of the crate returns nothing, so what it refuses it can only panic at, as the crate does: here
 //! with a sentence, and before anything is written. [`typed`] has the same readers with a
 //! [`Refusal`](typed::Refusal) in place of text and panic, and what is ours alone.
 //!
 //! A pixel is `alpha << 24 | red << 16 | green << 8 | blue`, and pixel (x, y) is
-//! `image[y * width + x]`. Bytes beyond the last block are not read; elements beyond the picture
-//! keep their value. Where the pixels differ from the crate's on purpose, docs/DIFFERENCES.md of
+//! `image[y * width + x]`. For images whose rows have a gap each picture reader has a twin that
+//! takes a pitch: there it is `image[y * pitch + x]`. Bytes beyond the last block are not read;
+//! elements in the gaps and beyond the picture keep their value. Where the pixels differ from the crate's on purpose, docs/DIFFERENCES.md of
 //! the repository says on which formats and bytes.
 //!
 //! What is proved is the code in the archive, up to its functions of C names. The few lines
@@ -34,10 +35,10 @@ pub mod typed;
 use typed::{Format, Picture, Refusal};
 
 macro_rules! pictures {
-    ($($(#[$doc:meta])* $name:ident = $format:ident;)*) => {$(
+    ($($(#[$doc:meta])* $name:ident, $pitched:ident = $format:ident;)*) => {$(
         $(#[$doc])*
         ///
-        /// Refuses where a side is above 16,384, where there are too few bytes, or where `image`
+        /// Refuses where a side is above 65,536, where there are too few bytes, or where `image`
         /// has too few elements, tested in that order, and then `image` is as it was.
         ///
         /// ```
@@ -53,6 +54,32 @@ macro_rules! pictures {
         /// ```
         pub fn $name(data: &[u8], width: usize, height: usize, image: &mut [u32]) -> Result<(), &'static str> {
             typed::read(Format::$format, data, Picture::new(width, height), image).map_err(Refusal::text)
+        }
+
+        $(#[$doc])*
+        ///
+        /// The same with a pitch: pixel (x, y) is `image[y * pitch + x]`, and elements in the gaps keep
+        /// their value. A pitch above 65,536 is refused as a side is, and after that one below the width.
+        ///
+        /// ```
+        #[doc = concat!("use yalivucu::", stringify!($pitched), ";")]
+        ///
+        /// let mut image = [7; 10];
+        #[doc = concat!("let refused = ", stringify!($pitched), "(&[0; 16], 3, 2, 2, &mut image);")]
+        /// assert_eq!(refused, Err("The pitch is below the width!"));
+        #[doc = concat!(stringify!($pitched), "(&[0; 16], 3, 2, 5, &mut image)?;")]
+        /// assert!(image.iter().enumerate().all(|(k, pixel)| (k % 5 < 3) == (*pixel != 7)));
+        /// # Ok::<(), &'static str>(())
+        /// ```
+        pub fn $pitched(
+            data: &[u8],
+            width: usize,
+            height: usize,
+            pitch: usize,
+            image: &mut [u32],
+        ) -> Result<(), &'static str> {
+            let picture = Picture::new(width, height).with_pitch(pitch);
+            typed::read(Format::$format, data, picture, image).map_err(Refusal::text)
         }
     )*};
 }
@@ -118,21 +145,21 @@ fn of(format: Format) -> impl Fn(&[u8], &mut [u32]) -> Result<(), Refusal> {
 
 pictures! {
     /// Reads an ETC1 picture, in blocks of 8 bytes.
-    decode_etc1 = Etc1;
+    decode_etc1, decode_etc1_pitched = Etc1;
     /// Reads an ETC2 RGB picture, in blocks of 8 bytes.
-    decode_etc2_rgb = Etc2Rgb;
+    decode_etc2_rgb, decode_etc2_rgb_pitched = Etc2Rgb;
     /// Reads an ETC2 RGBA1 picture, in blocks of 8 bytes.
-    decode_etc2_rgba1 = Etc2Rgba1;
+    decode_etc2_rgba1, decode_etc2_rgba1_pitched = Etc2Rgba1;
     /// Reads an ETC2 RGBA8 picture, in blocks of 16 bytes.
-    decode_etc2_rgba8 = Etc2Rgba8;
+    decode_etc2_rgba8, decode_etc2_rgba8_pitched = Etc2Rgba8;
     /// Reads an EAC R picture, in blocks of 8 bytes.
-    decode_eacr = EacR;
+    decode_eacr, decode_eacr_pitched = EacR;
     /// Reads a signed EAC R picture, in blocks of 8 bytes.
-    decode_eacr_signed = EacRSigned;
+    decode_eacr_signed, decode_eacr_signed_pitched = EacRSigned;
     /// Reads an EAC RG picture, in blocks of 16 bytes.
-    decode_eacrg = EacRg;
+    decode_eacrg, decode_eacrg_pitched = EacRg;
     /// Reads a signed EAC RG picture, in blocks of 16 bytes.
-    decode_eacrg_signed = EacRgSigned;
+    decode_eacrg_signed, decode_eacrg_signed_pitched = EacRgSigned;
 }
 
 blocks! {

@@ -5,7 +5,8 @@ use core::fmt;
 #[derive(Clone, Copy, Debug, PartialEq, Eq, Hash)]
 #[non_exhaustive]
 pub enum Refusal {
-    /// Refusal 1: the width or the height is above 16,384.
+    /// Refusal 1: the width, the height or the pitch is above 65,536; of a sheet, the width or the
+    /// height above 16,384.
     TooLarge,
     /// Refusal 2: there are fewer bytes than the blocks have.
     ShortData,
@@ -27,6 +28,8 @@ pub enum Refusal {
     OtherKind,
     /// Refusal 10, of a sheet: no block record, a second one, or blocks of a wrong length.
     WrongBlocks,
+    /// Refusal 12: the pitch is below the width.
+    ShortPitch,
     /// A number that this package does not know: another archive than its own was linked.
     Unknown {
         /// What the archive answered.
@@ -47,6 +50,7 @@ impl Refusal {
             Refusal::NoHead => 8,
             Refusal::OtherKind => 9,
             Refusal::WrongBlocks => 10,
+            Refusal::ShortPitch => 12,
             Refusal::Unknown { number } => number,
         }
     }
@@ -54,7 +58,7 @@ impl Refusal {
     /// What went wrong, without the number and the block: the crate's own text where it has one.
     pub fn text(self) -> &'static str {
         match self {
-            Refusal::TooLarge => "The width or the height is above 16,384!",
+            Refusal::TooLarge => "The width, the height or the pitch is above the limit!",
             Refusal::ShortData => "Not enough data to decode image!",
             Refusal::ShortImage => "Image buffer is too small!",
             Refusal::OutOfRange { .. } => "An ETC1 block has a sum out of range!",
@@ -63,6 +67,7 @@ impl Refusal {
             Refusal::NoHead => "The sheet has no head, or its format has no number!",
             Refusal::OtherKind => "The sheet has a record of an unknown kind!",
             Refusal::WrongBlocks => "The sheet has not exactly its blocks!",
+            Refusal::ShortPitch => "The pitch is below the width!",
             Refusal::Unknown { .. } => "The linked library gave an answer that this package does not know!",
         }
     }
@@ -80,6 +85,7 @@ impl Refusal {
             8 => Err(Refusal::NoHead),
             9 => Err(Refusal::OtherKind),
             10 => Err(Refusal::WrongBlocks),
+            12 => Err(Refusal::ShortPitch),
             number => Err(Refusal::Unknown { number }),
         }
     }
@@ -89,7 +95,10 @@ impl fmt::Display for Refusal {
     fn fmt(&self, f: &mut fmt::Formatter<'_>) -> fmt::Result {
         let number = self.number();
         match self {
-            Refusal::TooLarge => write!(f, "Refusal {number}: the width or the height is above 16,384."),
+            Refusal::TooLarge => write!(
+                f,
+                "Refusal {number}: the width, the height or the pitch is above the limit."
+            ),
             Refusal::ShortData => write!(f, "Refusal {number}: there are too few bytes for the blocks."),
             Refusal::ShortImage => write!(f, "Refusal {number}: the image or the room is too short."),
             Refusal::OutOfRange { block } => write!(
@@ -107,6 +116,7 @@ impl fmt::Display for Refusal {
             ),
             Refusal::OtherKind => write!(f, "Refusal {number}: the sheet has a record of an unknown kind."),
             Refusal::WrongBlocks => write!(f, "Refusal {number}: the sheet has not exactly its blocks."),
+            Refusal::ShortPitch => write!(f, "Refusal {number}: the pitch is below the width."),
             Refusal::Unknown { .. } => write!(f, "Refusal {number}: the linked library is not this package's own."),
         }
     }

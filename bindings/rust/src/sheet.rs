@@ -70,7 +70,7 @@ pub fn read_sheet(sheet: &[u8], image: &mut [u32]) -> Result<(), Refusal> {
 }
 
 /// Writes a sheet, 21 bytes and the blocks, to the front of `room`, and returns the number of its
-/// bytes. Bytes behind it keep their value.
+/// bytes. Bytes behind it keep their value. A sheet has no gaps: the pitch is not looked at.
 ///
 /// Refuses with [`Refusal::NoHead`] (a format that has no number), [`Refusal::TooLarge`],
 /// [`Refusal::WrongBlocks`] (not exactly the blocks) or [`Refusal::ShortImage`] (too little room),

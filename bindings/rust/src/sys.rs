@@ -1,13 +1,13 @@
 //! The functions of the archive, as include/yalivucu.h declares them. A slice goes over as its
 //! pointer and its length.
 
-pub type Picture = unsafe extern "C" fn(*const u8, usize, usize, usize, *mut u32, usize) -> u32;
+pub type Picture = unsafe extern "C" fn(*const u8, usize, usize, usize, usize, *mut u32, usize) -> u32;
 pub type Block = unsafe extern "C" fn(*const u8, usize, *mut u32, usize) -> u32;
 pub type Channel = unsafe extern "C" fn(*const u8, usize, usize, *mut u32, usize) -> u32;
 
 macro_rules! declared {
     ($($name:ident)*) => {$(
-        pub fn $name(data: *const u8, data_len: usize, width: usize, height: usize, image: *mut u32, image_len: usize) -> u32;
+        pub fn $name(data: *const u8, data_len: usize, width: usize, height: usize, pitch: usize, image: *mut u32, image_len: usize) -> u32;
     )*};
 }
 macro_rules! declared_block {
@@ -28,14 +28,14 @@ macro_rules! declared_census {
 
 extern "C" {
     declared! {
-        yalivucu_decode_etc1
-        yalivucu_decode_etc2_rgb
-        yalivucu_decode_etc2_rgba1
-        yalivucu_decode_etc2_rgba8
-        yalivucu_decode_eacr
-        yalivucu_decode_eacr_signed
-        yalivucu_decode_eacrg
-        yalivucu_decode_eacrg_signed
+        yalivucu_decode_etc1_pitched
+        yalivucu_decode_etc2_rgb_pitched
+        yalivucu_decode_etc2_rgba1_pitched
+        yalivucu_decode_etc2_rgba8_pitched
+        yalivucu_decode_eacr_pitched
+        yalivucu_decode_eacr_signed_pitched
+        yalivucu_decode_eacrg_pitched
+        yalivucu_decode_eacrg_signed_pitched
     }
     declared_block! {
         yalivucu_decode_etc1_block
@@ -56,11 +56,12 @@ extern "C" {
         yalivucu_census_etc2_rgb
         yalivucu_census_etc2_rgba1
     }
-    pub fn yalivucu_decode_etc1_strict(
+    pub fn yalivucu_decode_etc1_strict_pitched(
         data: *const u8,
         data_len: usize,
         width: usize,
         height: usize,
+        pitch: usize,
         image: *mut u32,
         image_len: usize,
         block: *mut usize,

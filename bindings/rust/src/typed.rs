@@ -64,14 +64,14 @@ impl Format {
 
     fn picture_reader(self) -> sys::Picture {
         match self {
-            Format::Etc1 => sys::yalivucu_decode_etc1,
-            Format::Etc2Rgb => sys::yalivucu_decode_etc2_rgb,
-            Format::Etc2Rgba1 => sys::yalivucu_decode_etc2_rgba1,
-            Format::Etc2Rgba8 => sys::yalivucu_decode_etc2_rgba8,
-            Format::EacR => sys::yalivucu_decode_eacr,
-            Format::EacRSigned => sys::yalivucu_decode_eacr_signed,
-            Format::EacRg => sys::yalivucu_decode_eacrg,
-            Format::EacRgSigned => sys::yalivucu_decode_eacrg_signed,
+            Format::Etc1 => sys::yalivucu_decode_etc1_pitched,
+            Format::Etc2Rgb => sys::yalivucu_decode_etc2_rgb_pitched,
+            Format::Etc2Rgba1 => sys::yalivucu_decode_etc2_rgba1_pitched,
+            Format::Etc2Rgba8 => sys::yalivucu_decode_etc2_rgba8_pitched,
+            Format::EacR => sys::yalivucu_decode_eacr_pitched,
+            Format::EacRSigned => sys::yalivucu_decode_eacr_signed_pitched,
+            Format::EacRg => sys::yalivucu_decode_eacrg_pitched,
+            Format::EacRgSigned => sys::yalivucu_decode_eacrg_signed_pitched,
         }
     }
 
@@ -89,7 +89,8 @@ impl Format {
     }
 }
 
-/// A picture's description: its size in pixels. Pixel (x, y) is `image[y * width + x]`.
+/// A picture's description: its size in pixels, and how many elements of the image a row takes.
+/// Pixel (x, y) is `image[y * pitch + x]`.
 #[derive(Clone, Copy, Debug, PartialEq, Eq, Hash)]
 #[non_exhaustive]
 pub struct Picture {
@@ -97,12 +98,33 @@ pub struct Picture {
     pub width: usize,
     /// The height in pixels.
     pub height: usize,
+    /// The elements that a row takes: its pixels, and a gap that is never written.
+    pub pitch: usize,
 }
 
 impl Picture {
     /// A picture of that size, whose rows follow each other.
     pub const fn new(width: usize, height: usize) -> Picture {
-        Picture { width, height }
+        Picture {
+            width,
+            height,
+            pitch: width,
+        }
+    }
+
+    /// The same picture in an image whose rows take so many elements.
+    ///
+    /// ```
+    /// use yalivucu::typed::{read, Format, Picture, Refusal};
+    ///
+    /// let mut image = [7; 10];
+    /// read(Format::Etc1, &[0; 8], Picture::new(3, 2).with_pitch(5), &mut image)?;
+    /// let (a, b) = (0xff020202, 7);
+    /// assert_eq!(image, [a, a, a, b, b, a, a, a, b, b]);
+    /// # Ok::<(), Refusal>(())
+    /// ```
+    pub const fn with_pitch(self, pitch: usize) -> Picture {
+        Picture { pitch, ..self }
     }
 
     /// How many bytes the picture's blocks have, unless that is more than can be counted.
@@ -118,15 +140,24 @@ impl Picture {
     }
 
     /// How many elements the image must have, unless that is more than can be counted.
+    ///
+    /// ```
+    /// use yalivucu::typed::Picture;
+    /// assert_eq!(Picture::new(5, 5).elements(), Some(25));
+    /// assert_eq!(Picture::new(5, 5).with_pitch(8).elements(), Some(37)); // four rows of 8 and one of 5
+    /// ```
     pub fn elements(self) -> Option<usize> {
-        self.width.checked_mul(self.height)
+        if self.width == 0 || self.height == 0 {
+            return Some(0);
+        }
+        (self.height - 1).checked_mul(self.pitch)?.checked_add(self.width)
     }
 }
 
 /// Reads a picture of any format.
 ///
-/// Refuses with [`Refusal::TooLarge`], [`Refusal::ShortData`] or [`Refusal::ShortImage`], tested
-/// in that order, and then `image` is as it was.
+/// Refuses with [`Refusal::TooLarge`], [`Refusal::ShortPitch`], [`Refusal::ShortData`] or
+/// [`Refusal::ShortImage`], tested in that order, and then `image` is as it was.
 ///
 /// ```
 /// use yalivucu::typed::{read, Format, Picture, Refusal};
@@ -145,6 +176,7 @@ pub fn read(format: Format, data: &[u8], picture: Picture, image: &mut [u32]) ->
             data.len(),
             picture.width,
             picture.height,
+            picture.pitch,
             image.as_mut_ptr(),
             image.len(),
         )
@@ -156,8 +188,9 @@ pub fn read(format: Format, data: &[u8], picture: Picture, image: &mut [u32]) ->
 /// [`Refusal::OutOfRange`] and the number of the first such block. What it accepts, an ETC2
 /// decoder shows alike.
 ///
-/// Refuses with [`Refusal::TooLarge`], [`Refusal::ShortData`], [`Refusal::ShortImage`] or
-/// [`Refusal::OutOfRange`], tested in that order, and then `image` is as it was.
+/// Refuses with [`Refusal::TooLarge`], [`Refusal::ShortPitch`], [`Refusal::ShortData`],
+/// [`Refusal::ShortImage`] or [`Refusal::OutOfRange`], tested in that order, and then `image` is as
+/// it was.
 ///
 /// ```
 /// use yalivucu::typed::{read_strict, Picture, Refusal};
@@ -172,11 +205,12 @@ pub fn read_strict(data: &[u8], picture: Picture, image: &mut [u32]) -> Result<(
     // SAFETY: the pointers and lengths are those of two slices that live through the call, and
     // `block` is a local of its own.
     let number = unsafe {
-        sys::yalivucu_decode_etc1_strict(
+        sys::yalivucu_decode_etc1_strict_pitched(
             data.as_ptr(),
             data.len(),
             picture.width,
             picture.height,
+            picture.pitch,
             image.as_mut_ptr(),
             image.len(),
             &mut block,

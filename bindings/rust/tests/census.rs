@@ -47,14 +47,14 @@ fn leftover_bytes_are_not_counted() {
     assert_eq!((counts.t, counts.h, counts.planar), (2, 0, 0));
     assert_eq!(census_etc2_rgb(&[], Picture::new(0, 9)), Ok(RgbCounts::default()));
     assert_eq!(
-        census_etc2_rgba1(&data, Picture::new(16384, 0)),
+        census_etc2_rgba1(&data, Picture::new(65536, 0)),
         Ok(Rgba1Counts::default())
     );
 }
 
 #[test]
 fn refusals() {
-    for (width, height) in [(16385, 0), (0, 16385), (usize::MAX, usize::MAX)] {
+    for (width, height) in [(65537, 0), (0, 65537), (usize::MAX, usize::MAX)] {
         assert_eq!(
             census_etc2_rgb(&[], Picture::new(width, height)),
             Err(Refusal::TooLarge)

@@ -22,18 +22,30 @@ impl Reader {
         }
     }
 
-    /// Reads with so many bytes and elements, and sees that a refusal changed nothing.
+    /// Reads with so many bytes and elements, and sees that pixels and nothing else changed: no gap, and
+    /// in a refusal no element.
     fn read(self, bytes: usize, width: usize, height: usize, elements: usize) -> Result<(), Refusal> {
+        self.read_pitched(bytes, width, height, width, elements)
+    }
+
+    fn read_pitched(
+        self,
+        bytes: usize,
+        width: usize,
+        height: usize,
+        pitch: usize,
+        elements: usize,
+    ) -> Result<(), Refusal> {
         let mut image = vec![STOOD; elements];
         let data = vec![0; bytes];
-        let picture = Picture::new(width, height);
+        let picture = Picture::new(width, height).with_pitch(pitch);
         let answer = match self {
             Reader::Plain(format) => read(format, &data, picture, &mut image),
             Reader::Strict => read_strict(&data, picture, &mut image),
         };
-        let written = if answer.is_ok() { width * height } else { 0 };
-        assert!(image[..written].iter().all(|pixel| *pixel != STOOD));
-        assert!(image[written..].iter().all(|pixel| *pixel == STOOD));
+        let is_pixel = |k: usize| answer.is_ok() && k % pitch.max(1) < width && k / pitch.max(1) < height;
+        let kept = |(k, pixel): (usize, &u32)| is_pixel(k) == (*pixel != STOOD);
+        assert!(image.iter().enumerate().all(kept));
         answer
     }
 }
@@ -60,15 +72,45 @@ fn every_size_of_data_and_image() {
 }
 
 #[test]
+fn every_small_size_with_a_gap() {
+    for reader in Reader::all() {
+        for (width, height, gap) in (0..600_usize).map(|k| (k % 10, k / 10 % 10, k / 100)) {
+            let pitch = width + gap;
+            let bytes = width.div_ceil(4) * height.div_ceil(4) * reader.block_size();
+            let elements = Picture::new(width, height).with_pitch(pitch).elements().unwrap();
+            let read = |bytes, elements| reader.read_pitched(bytes, width, height, pitch, elements);
+            assert_eq!(read(bytes, elements), Ok(()));
+            assert_eq!(read(bytes + 5, elements + 2 * pitch), Ok(()));
+            if elements > 0 {
+                assert_eq!(read(bytes - 1, elements - 1), Err(Refusal::ShortData));
+                assert_eq!(read(bytes, elements - 1), Err(Refusal::ShortImage));
+            }
+            if width > 0 {
+                let short = reader.read_pitched(0, width, height, width - 1, 0);
+                assert_eq!(short, Err(Refusal::ShortPitch));
+            }
+        }
+    }
+}
+
+#[test]
 fn the_largest_sizes() {
     for reader in Reader::all() {
-        assert_eq!(reader.read(0, 16384, 0, 0), Ok(()));
-        assert_eq!(reader.read(0, 0, 16384, 0), Ok(()));
-        assert_eq!(reader.read(4096 * reader.block_size(), 16384, 1, 16384), Ok(()));
-        for (width, height) in [(16385, 0), (0, 16385), (usize::MAX, usize::MAX), (1 << 32, 1 << 32)] {
+        let size = reader.block_size();
+        assert_eq!(reader.read(0, 65536, 0, 0), Ok(()));
+        assert_eq!(reader.read(0, 0, 65536, 0), Ok(()));
+        assert_eq!(reader.read(16384 * size, 65536, 1, 65536), Ok(()));
+        assert_eq!(reader.read(16384 * size, 1, 65536, 65536), Ok(()));
+        assert_eq!(reader.read_pitched(size, 4, 2, 65536, 65540), Ok(()));
+        for (width, height) in [(65537, 0), (0, 65537), (usize::MAX, usize::MAX), (1 << 32, 1 << 32)] {
             assert_eq!(reader.read(64, width, height, 64), Err(Refusal::TooLarge));
         }
-        assert_eq!(reader.read(64, 16384, 16384, 64), Err(Refusal::ShortData));
+        for pitch in [65537, usize::MAX, 1 << 32] {
+            assert_eq!(reader.read_pitched(64, 4, 0, pitch, 64), Err(Refusal::TooLarge));
+        }
+        assert_eq!(reader.read_pitched(64, 65537, 1, 3, 64), Err(Refusal::TooLarge));
+        assert_eq!(reader.read_pitched(64, 4, 0, 3, 64), Err(Refusal::ShortPitch));
+        assert_eq!(reader.read(64, 65536, 65536, 64), Err(Refusal::ShortData));
     }
 }
 
@@ -79,6 +121,8 @@ fn what_a_picture_needs() {
     assert_eq!(Picture::new(5, 5).elements(), Some(25));
     assert_eq!(Picture::new(usize::MAX, usize::MAX).bytes(Format::Etc1), None);
     assert_eq!(Picture::new(usize::MAX, 2).elements(), None);
+    assert_eq!(Picture::new(5, 0).with_pitch(8).elements(), Some(0));
+    assert_eq!(Picture::new(2, 3).with_pitch(usize::MAX).elements(), None);
 }
 
 #[test]
@@ -135,7 +179,7 @@ fn refusals_say_what_is_wrong() {
     let told = |refusal: Refusal| refusal.to_string();
     assert_eq!(
         told(Refusal::TooLarge),
-        "Refusal 1: the width or the height is above 16,384."
+        "Refusal 1: the width, the height or the pitch is above the limit."
     );
     assert_eq!(
         told(Refusal::ShortData),
@@ -150,6 +194,7 @@ fn refusals_say_what_is_wrong() {
         "Refusal 4: an ETC1 block has a sum out of range, the first of them block 7."
     );
     assert_eq!(told(Refusal::NoChannel), "Refusal 5: the channel is above 3.");
+    assert_eq!(told(Refusal::ShortPitch), "Refusal 12: the pitch is below the width.");
 }
 
 /// A refusal is an error like any other.

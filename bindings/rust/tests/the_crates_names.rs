@@ -19,6 +19,20 @@ const PICTURES: [(Picture, usize); 8] = [
     (decode_eacrg_signed, 16),
 ];
 
+type Pitched = fn(&[u8], usize, usize, usize, &mut [u32]) -> Result<(), &'static str>;
+
+/// The twins that take a pitch, in the same order.
+const PITCHED: [Pitched; 8] = [
+    decode_etc1_pitched,
+    decode_etc2_rgb_pitched,
+    decode_etc2_rgba1_pitched,
+    decode_etc2_rgba8_pitched,
+    decode_eacr_pitched,
+    decode_eacr_signed_pitched,
+    decode_eacrg_pitched,
+    decode_eacrg_signed_pitched,
+];
+
 const BLOCKS: [(Block, usize); 9] = [
     (decode_etc1_block, 8),
     (decode_etc2_rgb_block, 8),
@@ -38,8 +52,8 @@ fn the_texts_of_refusals() {
     for (reader, size) in PICTURES {
         let mut image = [STOOD; 16];
         let data = vec![0; size];
-        let large = "The width or the height is above 16,384!";
-        assert_eq!(reader(&data, 16385, 0, &mut image), Err(large));
+        let large = "The width, the height or the pitch is above the limit!";
+        assert_eq!(reader(&data, 65537, 0, &mut image), Err(large));
         assert_eq!(
             reader(&data[1..], 4, 4, &mut image[..15]),
             Err("Not enough data to decode image!")
@@ -47,6 +61,25 @@ fn the_texts_of_refusals() {
         assert_eq!(reader(&data, 4, 4, &mut image[..15]), Err("Image buffer is too small!"));
         assert_eq!(image, [STOOD; 16]);
         assert_eq!(reader(&data, 4, 4, &mut image), Ok(()));
+    }
+}
+
+#[test]
+fn with_a_pitch_each_paints_what_its_twin_paints() {
+    for ((reader, size), pitched) in PICTURES.into_iter().zip(PITCHED) {
+        let data: Vec<u8> = (0..4 * size).map(|k| (k * 37 + 11) as u8).collect();
+        let mut image = [STOOD; 30];
+        reader(&data, 5, 6, &mut image).unwrap();
+        let mut same = [STOOD; 30];
+        pitched(&data, 5, 6, 5, &mut same).unwrap();
+        assert_eq!(image, same);
+        let mut gaps = [STOOD; 48];
+        pitched(&data, 5, 6, 8, &mut gaps).unwrap();
+        for (row, gapped) in image.chunks(5).zip(gaps.chunks(8)) {
+            assert_eq!(*row, gapped[..5]);
+            assert_eq!(gapped[5..], [STOOD; 3]);
+        }
+        assert_eq!(pitched(&data, 5, 6, 4, &mut gaps), Err("The pitch is below the width!"));
     }
 }
 

@@ -1,7 +1,14 @@
 // The public readers and censuses by the numbers of oracle/PROTOCOL.md.
 use super::census;
+use super::pitched;
 use rules::Answer;
+use rules::Picture;
 ghost use Prim.Native.Nat.{_≤_};
+
+// Whether a number names a reader of pictures with a pitch, which stands in the place of a channel.
+fn is_pitched(number: u32) -> bool {
+    number >= 40 && number <= 48
+}
 
 // Calls the reader of a number on the first n bytes and the first m elements.
 pub fn call_on(
@@ -31,6 +38,14 @@ fn call(
 ) -> Answer {
     if number <= 8 {
         return picture(number, data, width, height, image);
+    }
+    if is_pitched(number) {
+        let pic = Picture {
+            width: width,
+            height: height,
+            pitch: channel,
+        };
+        return pitched::picture(number, data, pic, image);
     }
     if number <= 20 {
         return colour_block(number, data, image);

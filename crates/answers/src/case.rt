@@ -3,7 +3,7 @@ use super::bytes;
 use super::call;
 
 // Takes a case: its head, its data, and the bytes of its image. False where the input has none.
-pub fn taken(head: &mut [u8; 24], data: &mut [u8; 65536], shown: &mut [u8; 65536]) -> bool {
+pub fn taken(head: &mut [u8; 24], data: &mut [u8; 262144], shown: &mut [u8; 262144]) -> bool {
     if !bytes::taken(head, 24) {
         return false;
     }
@@ -20,9 +20,9 @@ pub fn taken(head: &mut [u8; 24], data: &mut [u8; 65536], shown: &mut [u8; 65536
 // words of the image are lent, since making room for them anew takes longer than a block.
 pub fn answered(
     head: &[u8; 24],
-    data: &[u8; 65536],
-    shown: &mut [u8; 65536],
-    image: &mut [u32; 16384],
+    data: &[u8; 262144],
+    shown: &mut [u8; 262144],
+    image: &mut [u32; 65536],
 ) -> [u8; 8] {
     let n = wire::data_length(head);
     let m = wire::image_length(head);

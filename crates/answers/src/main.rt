@@ -4,15 +4,16 @@ mod bytes;
 mod call;
 mod case;
 mod census;
+mod pitched;
 mod replay;
 
 fn main() {
     let mut head = [0u8; 24];
-    let mut data = io::large_buffer();
-    let mut shown = io::large_buffer();
-    let mut image = [0u32; 16384];
+    let mut data = [0u8; 262144];
+    let mut shown = [0u8; 262144];
+    let mut image = [0u32; 65536];
     if os::arg_count() > 1 {
-        let mut due = io::large_buffer();
+        let mut due = [0u8; 262144];
         replay::replay(&mut head, &mut data, &mut shown, &mut image, &mut due);
     } else {
         answer_all(&mut head, &mut data, &mut shown, &mut image);
@@ -22,9 +23,9 @@ fn main() {
 // A proved loop has to end, and nothing says that the input does: it counts down from a number that no run uses up.
 fn answer_all(
     head: &mut [u8; 24],
-    data: &mut [u8; 65536],
-    shown: &mut [u8; 65536],
-    image: &mut [u32; 16384],
+    data: &mut [u8; 262144],
+    shown: &mut [u8; 262144],
+    image: &mut [u32; 65536],
 ) {
     let mut turns = u64::MAX;
     while turns > 0 && answer_one(head, data, shown, image) {
@@ -35,9 +36,9 @@ fn answer_all(
 // False where the input has no further case, or an answer cannot be written.
 fn answer_one(
     head: &mut [u8; 24],
-    data: &mut [u8; 65536],
-    shown: &mut [u8; 65536],
-    image: &mut [u32; 16384],
+    data: &mut [u8; 262144],
+    shown: &mut [u8; 262144],
+    image: &mut [u32; 65536],
 ) -> bool {
     if !case::taken(head, data, shown) {
         return false;

@@ -8,10 +8,10 @@ ghost use Prim.Native.Nat.{_≤_};
 // Writes a line for each group, and before it one for each of its cases whose answer is not the one that is due.
 pub fn replay(
     head: &mut [u8; 24],
-    data: &mut [u8; 65536],
-    shown: &mut [u8; 65536],
-    image: &mut [u32; 16384],
-    due: &mut [u8; 65536],
+    data: &mut [u8; 262144],
+    shown: &mut [u8; 262144],
+    image: &mut [u32; 65536],
+    due: &mut [u8; 262144],
 ) {
     bytes::taken(due, 1024);
     let mut turns = u64::MAX;
@@ -23,10 +23,10 @@ pub fn replay(
 // One group. False where the list ends, or has a number of cases that no list has.
 fn group(
     head: &mut [u8; 24],
-    data: &mut [u8; 65536],
-    shown: &mut [u8; 65536],
-    image: &mut [u32; 16384],
-    due: &mut [u8; 65536],
+    data: &mut [u8; 262144],
+    shown: &mut [u8; 262144],
+    image: &mut [u32; 65536],
+    due: &mut [u8; 262144],
 ) -> bool {
     let mut name = [0u8; 48];
     if !bytes::taken(&mut name, 48) {
@@ -46,10 +46,10 @@ fn group(
 fn differing(
     count: u32,
     head: &mut [u8; 24],
-    data: &mut [u8; 65536],
-    shown: &mut [u8; 65536],
-    image: &mut [u32; 16384],
-    due: &mut [u8; 65536],
+    data: &mut [u8; 262144],
+    shown: &mut [u8; 262144],
+    image: &mut [u32; 65536],
+    due: &mut [u8; 262144],
 ) -> u32 {
     let mut differ: u32 = 0;
     let mut i: u32 = 0;
@@ -66,10 +66,10 @@ fn differing(
 // Takes a case and the answer that is due, and compares. False too where the list is cut short.
 fn is_held(
     head: &mut [u8; 24],
-    data: &mut [u8; 65536],
-    shown: &mut [u8; 65536],
-    image: &mut [u32; 16384],
-    due: &mut [u8; 65536],
+    data: &mut [u8; 262144],
+    shown: &mut [u8; 262144],
+    image: &mut [u32; 65536],
+    due: &mut [u8; 262144],
 ) -> bool {
     if !case::taken(head, data, shown) {
         return false;
@@ -89,8 +89,8 @@ fn is_said(said: &[u8; 8]) -> bool {
 }
 
 // Whether the next n bytes of the list are the first n of these.
-fn is_shown(shown: &[u8; 65536], due: &mut [u8; 65536], n: usize) -> bool {
-    if 65536 < n {
+fn is_shown(shown: &[u8; 262144], due: &mut [u8; 262144], n: usize) -> bool {
+    if 262144 < n {
         return false;
     }
     if !bytes::taken(due, n) {

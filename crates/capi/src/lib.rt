@@ -3,12 +3,13 @@
 // nothing can check. include/yalivucu.h tells a C programmer the same in words.
 use rules::Answer;
 use rules::Format;
+use rules::Picture;
 use rules::RgbCensus;
 use rules::Rgba1Census;
 use rules::Sheet;
 ghost use mathlib.Core.Path.{_≡_};
 ghost use mathlib.Core.Bool.{true, false};
-ghost use Rattle.rules.specs.Places.{sized};
+ghost use Rattle.rules.specs.Places.{sized, pitched};
 ghost use Rattle.rules.specs.Readers.{ReadsPicture, ReadsStrict, ReadsBlock, ReadsAlpha, ReadsChannel};
 ghost use Rattle.rules.specs.Census.{rgbTests, rgba1Tests};
 ghost use Rattle.rules.specs.Sheets.{ReadsSheet};
@@ -30,6 +31,27 @@ pub extern "C" fn yalivucu_decode_etc1(
     etc::number(etc::decode_etc1(data, width, height, image))
 }
 
+// The same of a picture with a pitch.
+#[no_mangle]
+pub extern "C" fn yalivucu_decode_etc1_pitched(
+    data: &[u8],
+    width: usize,
+    height: usize,
+    pitch: usize,
+    image: &mut [u32],
+) -> u32
+    ensures { λ r. ⌜ Told
+        (λ a. ReadsPicture Format.Etc1 (now («data» .entry)) (pitched width height pitch) (now (image .entry)) a (now (image .exit)))
+        r ⌝ }
+{
+    let pic = Picture {
+        width: width,
+        height: height,
+        pitch: pitch,
+    };
+    etc::number(etc::decode_etc1_pitched(data, pic, image))
+}
+
 // Reads an ETC2 RGB picture.
 #[no_mangle]
 pub extern "C" fn yalivucu_decode_etc2_rgb(
@@ -43,6 +65,27 @@ pub extern "C" fn yalivucu_decode_etc2_rgb(
         r ⌝ }
 {
     etc::number(etc::decode_etc2_rgb(data, width, height, image))
+}
+
+// The same of a picture with a pitch.
+#[no_mangle]
+pub extern "C" fn yalivucu_decode_etc2_rgb_pitched(
+    data: &[u8],
+    width: usize,
+    height: usize,
+    pitch: usize,
+    image: &mut [u32],
+) -> u32
+    ensures { λ r. ⌜ Told
+        (λ a. ReadsPicture Format.Etc2Rgb (now («data» .entry)) (pitched width height pitch) (now (image .entry)) a (now (image .exit)))
+        r ⌝ }
+{
+    let pic = Picture {
+        width: width,
+        height: height,
+        pitch: pitch,
+    };
+    etc::number(etc::decode_etc2_rgb_pitched(data, pic, image))
 }
 
 // Reads an ETC2 RGBA1 picture.
@@ -60,6 +103,27 @@ pub extern "C" fn yalivucu_decode_etc2_rgba1(
     etc::number(etc::decode_etc2_rgba1(data, width, height, image))
 }
 
+// The same of a picture with a pitch.
+#[no_mangle]
+pub extern "C" fn yalivucu_decode_etc2_rgba1_pitched(
+    data: &[u8],
+    width: usize,
+    height: usize,
+    pitch: usize,
+    image: &mut [u32],
+) -> u32
+    ensures { λ r. ⌜ Told
+        (λ a. ReadsPicture Format.Etc2Rgba1 (now («data» .entry)) (pitched width height pitch) (now (image .entry)) a (now (image .exit)))
+        r ⌝ }
+{
+    let pic = Picture {
+        width: width,
+        height: height,
+        pitch: pitch,
+    };
+    etc::number(etc::decode_etc2_rgba1_pitched(data, pic, image))
+}
+
 // Reads an ETC2 RGBA8 picture.
 #[no_mangle]
 pub extern "C" fn yalivucu_decode_etc2_rgba8(
@@ -73,6 +137,27 @@ pub extern "C" fn yalivucu_decode_etc2_rgba8(
         r ⌝ }
 {
     etc::number(etc::decode_etc2_rgba8(data, width, height, image))
+}
+
+// The same of a picture with a pitch.
+#[no_mangle]
+pub extern "C" fn yalivucu_decode_etc2_rgba8_pitched(
+    data: &[u8],
+    width: usize,
+    height: usize,
+    pitch: usize,
+    image: &mut [u32],
+) -> u32
+    ensures { λ r. ⌜ Told
+        (λ a. ReadsPicture Format.Etc2Rgba8 (now («data» .entry)) (pitched width height pitch) (now (image .entry)) a (now (image .exit)))
+        r ⌝ }
+{
+    let pic = Picture {
+        width: width,
+        height: height,
+        pitch: pitch,
+    };
+    etc::number(etc::decode_etc2_rgba8_pitched(data, pic, image))
 }
 
 // Reads an EAC R picture.
@@ -90,6 +175,27 @@ pub extern "C" fn yalivucu_decode_eacr(
     etc::number(etc::decode_eacr(data, width, height, image))
 }
 
+// The same of a picture with a pitch.
+#[no_mangle]
+pub extern "C" fn yalivucu_decode_eacr_pitched(
+    data: &[u8],
+    width: usize,
+    height: usize,
+    pitch: usize,
+    image: &mut [u32],
+) -> u32
+    ensures { λ r. ⌜ Told
+        (λ a. ReadsPicture Format.EacR (now («data» .entry)) (pitched width height pitch) (now (image .entry)) a (now (image .exit)))
+        r ⌝ }
+{
+    let pic = Picture {
+        width: width,
+        height: height,
+        pitch: pitch,
+    };
+    etc::number(etc::decode_eacr_pitched(data, pic, image))
+}
+
 // Reads a signed EAC R picture.
 #[no_mangle]
 pub extern "C" fn yalivucu_decode_eacr_signed(
@@ -103,6 +209,27 @@ pub extern "C" fn yalivucu_decode_eacr_signed(
         r ⌝ }
 {
     etc::number(etc::decode_eacr_signed(data, width, height, image))
+}
+
+// The same of a picture with a pitch.
+#[no_mangle]
+pub extern "C" fn yalivucu_decode_eacr_signed_pitched(
+    data: &[u8],
+    width: usize,
+    height: usize,
+    pitch: usize,
+    image: &mut [u32],
+) -> u32
+    ensures { λ r. ⌜ Told
+        (λ a. ReadsPicture Format.EacRSigned (now («data» .entry)) (pitched width height pitch) (now (image .entry)) a (now (image .exit)))
+        r ⌝ }
+{
+    let pic = Picture {
+        width: width,
+        height: height,
+        pitch: pitch,
+    };
+    etc::number(etc::decode_eacr_signed_pitched(data, pic, image))
 }
 
 // Reads an EAC RG picture.
@@ -120,6 +247,27 @@ pub extern "C" fn yalivucu_decode_eacrg(
     etc::number(etc::decode_eacrg(data, width, height, image))
 }
 
+// The same of a picture with a pitch.
+#[no_mangle]
+pub extern "C" fn yalivucu_decode_eacrg_pitched(
+    data: &[u8],
+    width: usize,
+    height: usize,
+    pitch: usize,
+    image: &mut [u32],
+) -> u32
+    ensures { λ r. ⌜ Told
+        (λ a. ReadsPicture Format.EacRg (now («data» .entry)) (pitched width height pitch) (now (image .entry)) a (now (image .exit)))
+        r ⌝ }
+{
+    let pic = Picture {
+        width: width,
+        height: height,
+        pitch: pitch,
+    };
+    etc::number(etc::decode_eacrg_pitched(data, pic, image))
+}
+
 // Reads a signed EAC RG picture.
 #[no_mangle]
 pub extern "C" fn yalivucu_decode_eacrg_signed(
@@ -133,6 +281,42 @@ pub extern "C" fn yalivucu_decode_eacrg_signed(
         r ⌝ }
 {
     etc::number(etc::decode_eacrg_signed(data, width, height, image))
+}
+
+// The same of a picture with a pitch.
+#[no_mangle]
+pub extern "C" fn yalivucu_decode_eacrg_signed_pitched(
+    data: &[u8],
+    width: usize,
+    height: usize,
+    pitch: usize,
+    image: &mut [u32],
+) -> u32
+    ensures { λ r. ⌜ Told
+        (λ a. ReadsPicture Format.EacRgSigned (now («data» .entry)) (pitched width height pitch) (now (image .entry)) a (now (image .exit)))
+        r ⌝ }
+{
+    let pic = Picture {
+        width: width,
+        height: height,
+        pitch: pitch,
+    };
+    etc::number(etc::decode_eacrg_signed_pitched(data, pic, image))
+}
+
+// The strict reader of a picture with any pitch: the block that an answer names is written, and any other answer writes none.
+fn strict(data: &[u8], pic: Picture, image: &mut [u32], block: &mut usize) -> u32
+    ensures { λ r. ⌜ Told
+        (λ a. ReadsStrict (now («data» .entry)) pic (now (image .entry)) a (now (image .exit))
+        × (now (block .exit) ≡ blockOr a (now (block .entry))))
+        r ⌝ }
+{
+    let answer = etc::decode_etc1_strict_pitched(data, pic, image);
+    let Answer::OutOfRange(n) = answer else {
+        return etc::number(answer);
+    };
+    *block = n;
+    4
 }
 
 // Reads an ETC1 picture that holds no block out of range. Where it refuses for one, `block` is its number; otherwise `block` stays as it
@@ -150,12 +334,35 @@ pub extern "C" fn yalivucu_decode_etc1_strict(
         × (now (block .exit) ≡ blockOr a (now (block .entry))))
         r ⌝ }
 {
-    let answer = etc::decode_etc1_strict(data, width, height, image);
-    let Answer::OutOfRange(n) = answer else {
-        return etc::number(answer);
+    let pic = Picture {
+        width: width,
+        height: height,
+        pitch: width,
     };
-    *block = n;
-    4
+    strict(data, pic, image, block)
+}
+
+// The same of a picture with a pitch.
+#[no_mangle]
+pub extern "C" fn yalivucu_decode_etc1_strict_pitched(
+    data: &[u8],
+    width: usize,
+    height: usize,
+    pitch: usize,
+    image: &mut [u32],
+    block: &mut usize,
+) -> u32
+    ensures { λ r. ⌜ Told
+        (λ a. ReadsStrict (now («data» .entry)) (pitched width height pitch) (now (image .entry)) a (now (image .exit))
+        × (now (block .exit) ≡ blockOr a (now (block .entry))))
+        r ⌝ }
+{
+    let pic = Picture {
+        width: width,
+        height: height,
+        pitch: pitch,
+    };
+    strict(data, pic, image, block)
 }
 
 // Reads an ETC1 block of 8 bytes into the elements 0 to 15.

@@ -49,7 +49,7 @@ fn rgba1_counts(c: [usize; 8]) -> Rgba1Counts
 pub fn rgb(data: &[u8], pic: Picture) -> RgbCensus
     ensures { λ r. ⌜ CountsRgb (now («data» .entry)) pic r ⌝ }
 {
-    if checks::too_large(16384, pic) {
+    if checks::too_large(65536, pic) {
         return RgbCensus::TooLarge;
     }
     if checks::short_data(8, pic, data.len()) {
@@ -63,7 +63,7 @@ pub fn rgb(data: &[u8], pic: Picture) -> RgbCensus
 pub fn rgba1(data: &[u8], pic: Picture) -> Rgba1Census
     ensures { λ r. ⌜ CountsRgba1 (now («data» .entry)) pic r ⌝ }
 {
-    if checks::too_large(16384, pic) {
+    if checks::too_large(65536, pic) {
         return Rgba1Census::TooLarge;
     }
     if checks::short_data(8, pic, data.len()) {

@@ -8,14 +8,14 @@ use native.Mathlib.Nat.{mul-le-mul}
 use borrow.Author.Tests.{ltb-false}
 use lib.Dec.{ltb}
 use Rattle.rules.specs.Places.{needed, blocks}
-use Rattle.rules.specs.Answers.{said, accepts, limit, tooLarge, Check, judged, pictureChecks, left, Outcome}
+use Rattle.rules.specs.Answers.{said, accepts, limit, tooLarge, overLimit, Check, judged, pictureChecks, left, Outcome}
 use Rattle.rules.specs.declared.Answer.{Answer}
 use Rattle.rules.specs.declared.Picture.{Picture}
 use Rattle.laws.proofs.Judged as judged-laws
 use Rattle.checks.specs.Passed.{Passed}
 
--- a product of two numbers that are not too large
-pub few : (a b : ℕ) → a ≤ limit → b ≤ limit → a * b ≤ 0x10000000
+-- a product of two numbers of blocks along a side that is not too large
+pub few : (a b : ℕ) → a ≤ 0x4000 → b ≤ 0x4000 → a * b ≤ 0x10000000
 few a b h i = mul-le-mul h i
 
 -- a check that fails is the answer, and one that passes leaves it to the others
@@ -30,7 +30,8 @@ pub as-said : (v w after old new : List ℕ) (a : Answer) → v ≡ w → Outcom
 as-said v w after old new a e o =
     record { says = o .says ∙ e; leaves = o .leaves ∙ ap (λ (z : List ℕ). left z after old) e }
 
-neither : (a b : Bool) → (a || b) ≡ false → (a ≡ false) × (b ≡ false)
+-- where one test or another does not hold, neither does
+pub neither : (a b : Bool) → (a || b) ≡ false → (a ≡ false) × (b ≡ false)
 neither true b e = absurd (true≢false e)
 neither false b e = (refl, e)
 
@@ -40,17 +41,26 @@ within most pic e =
     let t = neither (ltb most (pic .width)) (ltb most (pic .height)) e in
     (ltb-false most (pic .width) (t .0), ltb-false most (pic .height) (t .1))
 
+-- and one whose pitch is not either
+pub within-limit : (pic : Picture) → overLimit pic ≡ false → (pic .width ≤ limit) × (pic .height ≤ limit) × (pic .pitch ≤ limit)
+within-limit pic e =
+    let t = neither (tooLarge limit pic) (ltb limit (pic .pitch)) e in
+    let w = within limit pic (t .0) in
+    (w .0, w .1, ltb-false limit (pic .pitch) (t .1))
+
 module _ (s : ℕ) (pic : Picture) (bytes elements : ℕ) (then : List ℕ) where
   -- where the verdict accepts, whatever was checked then
   pub passed : accepts (judged (pictureChecks s pic bytes elements) then) ≡ true → Passed s pic bytes elements
   passed e =
       let k = judged-laws.passed (pictureChecks s pic bytes elements) then tt e in
-      let t = within limit pic (k .first) in
+      let t = within-limit pic (k .first) in
       record {
         narrow = t .0;
         low = t .1;
-        enough = ltb-false bytes (blocks pic * s) (k .rest .first);
-        roomy = ltb-false elements (needed pic) (k .rest .rest .first);
+        close = t .2;
+        fits = ltb-false (pic .pitch) (pic .width) (k .rest .first);
+        enough = ltb-false bytes (blocks pic * s) (k .rest .rest .first);
+        roomy = ltb-false elements (needed pic) (k .rest .rest .rest .first);
       }
 
   -- and so where an answer does, that says it

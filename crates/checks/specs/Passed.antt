@@ -9,5 +9,7 @@ use Rattle.rules.specs.declared.Picture.{Picture}
 pub record Passed (s : ℕ) (pic : Picture) (bytes elements : ℕ) : Type 0 where
   pub narrow : pic .width ≤ limit
   pub low : pic .height ≤ limit
+  pub close : pic .pitch ≤ limit
+  pub fits : pic .width ≤ pic .pitch
   pub enough : blocks pic * s ≤ bytes
   pub roomy : needed pic ≤ elements

@@ -1,5 +1,5 @@
-// How many bytes a block has and how many blocks a picture, and the checks of its sizes, which every reader of a picture makes before
-// it looks at a block.
+// How many bytes a block has, how many blocks a picture and how many elements it needs, and the checks of its description, which every
+// reader of a picture makes before it looks at a block.
 use rules::Answer;
 use rules::Format;
 use rules::Picture;
@@ -7,7 +7,7 @@ ghost use mathlib.Core.Path.{_≡_};
 ghost use Prim.Native.Nat.{_*_, _<_, _≤_};
 ghost use lib.Dec.{ltb};
 ghost use Rattle.rules.specs.Places.{across as acrossOf, needed, blocks};
-ghost use Rattle.rules.specs.Answers.{said, limit, tooLarge, pictureChecks, verdict};
+ghost use Rattle.rules.specs.Answers.{said, limit, tooLarge, overLimit, pictureChecks, verdict};
 ghost use Rattle.rules.specs.Formats.{sizeOf};
 
 // The number of bytes of a block.
@@ -50,6 +50,22 @@ pub fn too_large(most: usize, pic: Picture) -> bool
     wide | high
 }
 
+// Check 1 of the picture readers: a side or the pitch above their limit.
+pub fn over_limit(pic: Picture) -> bool
+    ensures { λ r. ⌜ r ≡ overLimit pic ⌝ }
+{
+    let large = too_large(65536, pic);
+    let broad = 65536 < pic.pitch;
+    large | broad
+}
+
+// Check 12: a pitch below the width.
+pub fn short_pitch(pic: Picture) -> bool
+    ensures { λ r. ⌜ r ≡ ltb (pic .pitch) (pic .width) ⌝ }
+{
+    pic.pitch < pic.width
+}
+
 // Check 2: fewer bytes than the blocks of a picture have, which is not too large.
 pub fn short_data(size: usize, pic: Picture, bytes: usize) -> bool
     requires { ⌜ (size ≤ 16) × (pic .width ≤ limit) × (pic .height ≤ limit) ⌝ }
@@ -58,12 +74,26 @@ pub fn short_data(size: usize, pic: Picture, bytes: usize) -> bool
     bytes < blocks_of(pic) * size
 }
 
+// The image elements that a picture needs, which is not too large: its rows but the last by their pitch, and the last by its width.
+pub fn elements_of(pic: Picture) -> usize
+    requires { ⌜ (pic .width ≤ limit) × (pic .height ≤ limit) × (pic .pitch ≤ limit) ⌝ }
+    ensures { λ r. ⌜ r ≡ needed pic ⌝ }
+{
+    if pic.width == 0 {
+        return 0;
+    }
+    if pic.height == 0 {
+        return 0;
+    }
+    (pic.height - 1) * pic.pitch + pic.width
+}
+
 // Check 3: fewer elements than a picture needs, which is not too large.
 pub fn short_image(pic: Picture, elements: usize) -> bool
-    requires { ⌜ (pic .width ≤ limit) × (pic .height ≤ limit) ⌝ }
+    requires { ⌜ (pic .width ≤ limit) × (pic .height ≤ limit) × (pic .pitch ≤ limit) ⌝ }
     ensures { λ r. ⌜ r ≡ ltb elements (needed pic) ⌝ }
 {
-    elements < pic.width * pic.height
+    elements < elements_of(pic)
 }
 
 // The checks that all picture readers share, of any block size up to 16, whatever the numbers.
@@ -71,11 +101,16 @@ pub fn verify(size: usize, pic: Picture, bytes: usize, elements: usize) -> Answe
     requires { ⌜ size ≤ 16 ⌝ }
     ensures { λ r. ⌜ said r ≡ verdict (pictureChecks size pic bytes elements) ⌝ }
 {
-    if too_large(16384, pic) {
+    let large = over_limit(pic);
+    let narrow = short_pitch(pic);
+    if large {
         return Answer::TooLarge;
     }
     let lacks_data = short_data(size, pic, bytes);
     let lacks_room = short_image(pic, elements);
+    if narrow {
+        return Answer::ShortPitch;
+    }
     if lacks_data {
         return Answer::ShortData;
     }

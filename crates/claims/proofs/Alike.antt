@@ -13,7 +13,7 @@ use lib.ListN.{length, getD, take, drop, length-take, length-drop}
 use lib.Seq.{take-append-le, drop-append-le}
 use Rattle.rules.specs.Pixel.{Shows}
 use Rattle.rules.specs.Places.{inside, inTile, needed, blocks, blockAt, bytesOf, column, row, pixelAt, pictureBy, Alike, Beside}
-use Rattle.rules.specs.Answers.{limit, refusal, sidesCheck, imageCheck, pictureChecks, judged}
+use Rattle.rules.specs.Answers.{refusal, limitCheck, pitchCheck, imageCheck, pictureChecks, judged}
 use Rattle.rules.specs.declared.Picture.{Picture}
 use Rattle.laws.proofs.Paint.{length-painted, getD-painted, painted-same}
 use Rattle.paint.proofs.Blocks.{block-in, room}
@@ -79,7 +79,7 @@ module _ (s : ℕ) (pic : Picture) (d e : List ℕ) where
 
     pub verdict-alike : 0 < s → (elements : ℕ) (then then' : List ℕ) → then ≡ then' → judged (pictureChecks s pic (length d) elements) then ≡ judged (pictureChecks s pic (length e) elements) then'
     verdict-alike p elements then then' q =
-        ap (λ (t : Bool). judged (sidesCheck limit pic ∷ refusal 2 t ∷ imageCheck (needed pic) elements ∷ []) then) (enough-either p)
+        ap (λ (t : Bool). judged (limitCheck pic ∷ pitchCheck pic ∷ refusal 2 t ∷ imageCheck (needed pic) elements ∷ []) then) (enough-either p)
         ∙ ap (judged (pictureChecks s pic (length e) elements)) q
 
 -- bytes put behind the last block change no block

@@ -33,7 +33,11 @@ use Rattle.claims.proofs.Determined.{picture-determined}
 use Rattle.claims.proofs.Encoded.{Fits, one}
 use Rattle.claims.proofs.Sheets.{head-determined}
 
-module _ (f : ℕ) (p : Picture) (b : List ℕ) (room : ℕ) (s : Accepted f p b room) where
+-- "A sheet has pitch equal to width" (M-104), and so has the picture that is written
+module _ (f w h : ℕ) (b : List ℕ) (room : ℕ) (s : Accepted f (sized w h) b room) where
+  abbrev p : Picture
+  p = sized w h
+
   abbrev sheet : List ℕ
   sheet = sheetOf f p b
 
@@ -77,7 +81,7 @@ module _ (f : ℕ) (p : Picture) (b : List ℕ) (room : ℕ) (s : Accepted f p b
 
   size : sizeIn head ≡ p
   size =
-      ap (λ (z : ℕ). sized z (little 4 5 (head .payload))) wide-is ∙ ap (λ (z : ℕ). sized (p .width) z) high-is
+      ap (λ (z : ℕ). sized z (little 4 5 (head .payload))) wide-is ∙ ap (λ (z : ℕ). sized w z) high-is
 
   is-head : isHead head ≡ true
   unfolding inBytes
@@ -121,34 +125,37 @@ module _ (f : ℕ) (p : Picture) (b : List ℕ) (room : ℕ) (s : Accepted f p b
       }
 
 -- where the writer answers 0 and gives n bytes, the first n bytes of the buffer are the sheet
-module _ (f : ℕ) (p : Picture) (b out new : List ℕ) (n : ℕ) (x : WritesSheet f p b out (record { answer = Done; bytes = n }) new) where
+module _ (f w h : ℕ) (b out new : List ℕ) (n : ℕ) (x : WritesSheet f (sized w h) b out (record { answer = Done; bytes = n }) new) where
+  abbrev pic : Picture
+  pic = sized w h
+
   abbrev there : List ℕ
   there = take n new
 
-  whole : Shown (sheetOf f p b) (written-head f p b (length out) (passed f p b (length out) (x .outcome .says))) b
-  whole = written-sheet f p b (length out) (passed f p b (length out) (x .outcome .says))
+  whole : Shown (sheetOf f pic b) (written-head f w h b (length out) (passed f pic b (length out) (x .outcome .says))) b
+  whole = written-sheet f w h b (length out) (passed f pic b (length out) (x .outcome .says))
 
-  long : n ≡ length (sheetOf f p b)
-  long = x .bytes ∙ ap (λ (v : List ℕ). cond (accepts v) (length (sheetOf f p b)) 0) (sym (x .outcome .says))
+  long : n ≡ length (sheetOf f pic b)
+  long = x .bytes ∙ ap (λ (v : List ℕ). cond (accepts v) (length (sheetOf f pic b)) 0) (sym (x .outcome .says))
 
-  stands : there ≡ sheetOf f p b
+  stands : there ≡ sheetOf f pic b
   stands =
-      ap (take n) (x .outcome .leaves ∙ sym (ap (λ (v : List ℕ). left v (sheetOver f p b out) out) (x .outcome .says)))
-      ∙ take-at (sheetOf f p b) (drop (length (sheetOf f p b)) out) n (sym long)
+      ap (take n) (x .outcome .leaves ∙ sym (ap (λ (v : List ℕ). left v (sheetOver f pic b out) out) (x .outcome .says)))
+      ∙ take-at (sheetOf f pic b) (drop (length (sheetOf f pic b)) out) n (sym long)
 
-  pub head-reads-back : (told : Sheet) → TellsHead there told → told ≡ Holds (record { format = f; width = p .width; height = p .height })
+  pub head-reads-back : (told : Sheet) → TellsHead there told → told ≡ Holds (record { format = f; width = w; height = h })
   head-reads-back told q =
-      head-determined (sheetOf f p b) told _ (q ∙ ap headVerdict stands) (tells (sheetOf f p b) _ b whole)
+      head-determined (sheetOf f pic b) told _ (q ∙ ap headVerdict stands) (tells (sheetOf f pic b) _ b whole)
 
   module _ (image image' : List ℕ) (a : Answer) (q : ReadsSheet there image a image') where
-    again : ReadsSheet (sheetOf f p b) image a image'
+    again : ReadsSheet (sheetOf f pic b) image a image'
     again = subst (λ (d : List ℕ). ReadsSheet d image a image') stands q
 
-    pub reads-back-alike : (plain : List ℕ) (c : Answer) → ReadsPicture (formatOf f) b p image c plain → (a ≡ c) × (image' ≡ plain)
+    pub reads-back-alike : (plain : List ℕ) (c : Answer) → ReadsPicture (formatOf f) b pic image c plain → (a ≡ c) × (image' ≡ plain)
     reads-back-alike plain c o =
-        picture-determined b image a c image' plain (formatOf f) p (plainly (sheetOf f p b) _ b whole image image' a again) o
+        picture-determined b image a c image' plain (formatOf f) pic (plainly (sheetOf f pic b) _ b whole image image' a again) o
 
-    pub reads-back : needed p ≤ length image → a ≡ Done
+    pub reads-back : needed pic ≤ length image → a ≡ Done
     reads-back r =
         answer a Done
-        (again .says ∙ reads-room (sheetOf f p b) _ b whole image ∙ ap (λ (t : Bool). cond t (3 ∷ []) (0 ∷ [])) (le-ltb (length image) (needed p) r))
+        (again .says ∙ reads-room (sheetOf f pic b) _ b whole image ∙ ap (λ (t : Bool). cond t (3 ∷ []) (0 ∷ [])) (le-ltb (length image) (needed pic) r))

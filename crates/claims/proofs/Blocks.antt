@@ -11,7 +11,7 @@ use borrow.Author.Tests.{le-ltb}
 use lib.Dec.{T, ltb, ltb→lt}
 use lib.ListN.{length, getD, take, drop, length-take}
 use Rattle.rules.specs.Pixel.{Shows}
-use Rattle.rules.specs.Places.{sized, bytesOf, pixelAt}
+use Rattle.rules.specs.Places.{sized, needed, bytesOf, pixelAt}
 use Rattle.rules.specs.Answers.{Check, refusal, imageCheck, channelCheck, blockChecks, judged, verdict, Outcome}
 use Rattle.rules.specs.Channels.{withAlpha, alphaByte, eacByte, orChannel}
 use Rattle.rules.specs.Formats.{sizeOf, showsOf}
@@ -19,6 +19,7 @@ use Rattle.rules.specs.Readers.{blockVerdict, blockPainted, ReadsPicture, Reads
 use Rattle.rules.specs.declared.Answer.{Answer}
 use Rattle.rules.specs.declared.Format.{Format}
 use Rattle.laws.proofs.Paint.{painted-same}
+use Rattle.place.proofs.Plain.{painted-plain}
 use Rattle.laws.proofs.Reach.{reads-its-block, alpha-reads-eight, channel-reads-eight, some-bytes}
 use Rattle.claims.proofs.Outcomes.{Same, same-outcome, the-length-stays, the-rest-stays}
 use Rattle.claims.proofs.Alike.{ends-alike}
@@ -141,7 +142,8 @@ module _ (f : Format) (d image : List ℕ) (a b : Answer) (new new' : List ℕ) 
       ∙ ap (λ (y : ℕ). showsOf f (bytesOf (sizeOf f) d (k / 4 / 4 * 1 + k % 4 / 4)) (k % 4 % 4) y) (sym (n .2))
 
   pub a-block-is-a-picture-of-4-by-4 : ReadsBlock f d image a new → ReadsPicture f d (sized 4 4) image b new' → Same a b new new'
+  unfolding needed
   a-block-is-a-picture-of-4-by-4 =
       same-outcome _ _ _ _ image a b new new'
       (ap (λ (bytes : ℕ). verdict (blockChecks bytes (length d) (length image))) (sym (one-mul (sizeOf f))))
-      (painted-same (λ k. ltb k 16) _ _ image pixel)
+      (painted-same (λ k. ltb k 16) _ (pixelAt (showsOf f) (sizeOf f) (sized 4 4) d) image pixel ∙ sym (painted-plain 4 4 (pixelAt (showsOf f) (sizeOf f) (sized 4 4) d) image))

@@ -8,11 +8,11 @@ use mathlib.Core.List.{List, [], _∷_, _++_}
 use Prim.Native.Nat.{ℕ, _+_, _*_, _<_, _≤_}
 use native.Mathlib.Omega.{arith}
 use native.Mathlib.Decide.{decLt}
-use lib.Dec.{eqb}
+use lib.Dec.{eqb, ltb}
 use lib.ListN.{length, getD, drop}
 use Rattle.rules.specs.Notation.{byte}
-use Rattle.rules.specs.Places.{blocks, bytesOf, Alike}
-use Rattle.rules.specs.Answers.{said, accepts, verdict, firstOf, guarded}
+use Rattle.rules.specs.Places.{sized, blocks, bytesOf, Alike}
+use Rattle.rules.specs.Answers.{said, accepts, limit, tooLarge, verdict, firstOf, guarded}
 use Rattle.rules.specs.Colour.{differs, sum, beyond, byBeyond, kindBySums, kindOf, outOfRange}
 use Rattle.rules.specs.Formats.{sizeOf}
 use Rattle.rules.specs.Readers.{strictChecks, ReadsStrict}
@@ -34,6 +34,7 @@ use Rattle.laws.proofs.Counts.{same-below, first-then-counted, counted-then-fir
 use Rattle.laws.proofs.Guards.{finds, finds-none}
 use Rattle.laws.proofs.Judged.{all-pass, passed, goes-on}
 use Rattle.laws.proofs.Sorted.{sorts}
+use Rattle.checks.proofs.Checks.{neither}
 use Rattle.claims.proofs.Alike.{enough-either, behind}
 use Rattle.claims.proofs.Strict.{bad}
 
@@ -180,13 +181,18 @@ out-of-range-counts block n =
 abbrev pub AllZero : RgbCounts → Type 0
 AllZero c = (c .t ≡ 0) × (c .h ≡ 0) × (c .planar ≡ 0)
 
--- "Where its checks 1 to 3 pass, strict ETC1 answers 4 exactly when the T, H and planar counts are not all 0."
+-- "the census takes no pitch" (M-104): whatever a picture's pitch is, its census is that of its width and height
+pub the-census-takes-no-pitch : (tests : List Test) (d : List ℕ) (p : Picture) → census tests d p ≡ census tests d (sized (p .width) (p .height))
+the-census-takes-no-pitch tests d p = refl
+
+-- "Where its checks 1 to 3 pass, strict ETC1 answers 4 exactly when the T, H and planar counts are not all 0", which M-104 has
+-- "include that check 12 passes"
 module _ (d : List ℕ) (p : Picture) (old : List ℕ) (ok : 0 ∷ [] ≡ verdict (strictChecks p d old)) where
   -- there the census counts
   pub the-census-counts-there : (r : RgbCensus) → CountsRgb d p r → accepts (rgbSaid r) ≡ true
   the-census-counts-there r q =
       let k = passed (strictChecks p d old) (0 ∷ []) tt (sym (ap accepts ok)) in
-      ap accepts (q ∙ all-pass (censusChecks p (length d)) _ (record { first = k .first; rest = record { first = k .rest .first; rest = record {} } }))
+      ap accepts (q ∙ all-pass (censusChecks p (length d)) _ (record { first = neither (tooLarge limit p) (ltb limit (p .pitch)) (k .first) .0; rest = record { first = k .rest .rest .first; rest = record {} } }))
 
   module _ (a : Answer) (new : List ℕ) (reads : ReadsStrict d p old a new) (c : RgbCounts) (q : CountsRgb d p (rgb.Counted c)) where
     abbrev n : ℕ

@@ -2,6 +2,7 @@ pub mod Outcomes
 pub mod Alike
 pub mod Determined
 pub mod Pictures
+pub mod Settled
 pub mod Guarded
 pub mod Strict
 pub mod Blocks

@@ -6,11 +6,10 @@ use mathlib.Core.Bool.{Bool, true, false, cond}
 use mathlib.Core.List.{List, [], _∷_}
 use Prim.Native.Nat.{ℕ, _%_, _<_, _≤_}
 use native.Mathlib.Omega.{arith}
-use borrow.Author.Tests.{le-ltb}
 use lib.Dec.{ltb}
 use lib.ListN.{length, getD}
 use Rattle.rules.specs.Places.{element, inside, needed, blocks, blockOf, blockAt, bytesOf, column, row, pixelAt, Alike, Beside}
-use Rattle.rules.specs.Answers.{said, accepts, limit, tooLarge, verdict, guarded}
+use Rattle.rules.specs.Answers.{said, accepts, overLimit, verdict, guarded}
 use Rattle.rules.specs.Colour.{outOfRange}
 use Rattle.rules.specs.Formats.{sizeOf, showsOf}
 use Rattle.rules.specs.Guards.{inRange}
@@ -23,6 +22,7 @@ use Rattle.laws.proofs.First.{first-alike}
 use Rattle.laws.proofs.Guards.{strict-sound, finds-none}
 use Rattle.laws.proofs.Paint.{getD-painted}
 use Rattle.laws.proofs.Range.{agree}
+use Rattle.place.proofs.Grid.{beyond, in-gap, roomy}
 use Rattle.checks.proofs.Checks.{passed-by}
 use Rattle.claims.proofs.Outcomes.{Same, an-acceptance-paints}
 use Rattle.claims.proofs.Alike.{OnlyInTile, verdict-alike}
@@ -40,7 +40,7 @@ Refused = guarded-claims.Refused inRange strict-sound OutOfRange (λ n. refl)
 abbrev pub Accepted : List ℕ → Picture → List ℕ → Answer → List ℕ → Type 0
 Accepted = guarded-claims.Accepted inRange strict-sound OutOfRange (λ n. refl)
 
--- "For sizes and lengths that pass the checks"
+-- "For sizes and lengths that pass the checks", check 12 included (M-104)
 module _ (d : List ℕ) (pic : Picture) (image : List ℕ) (a : Answer) (new : List ℕ) (p : ReadsStrict d pic image a new) (ok : 0 ∷ [] ≡ verdict (strictChecks pic d image)) where
   -- "refuses exactly when some block ..": where there is one, it refuses, "and it names the first such block"; nothing changes
   pub strict-refuses-and-names-the-first : (n : ℕ) → n < blocks pic → bad d n ≡ true → Refused d pic image a new
@@ -87,8 +87,8 @@ module _ (d : List ℕ) (pic : Picture) (image : List ℕ) where
     pub every-pixel-of-a-strict-picture : (x y : ℕ) → x < pic .width → y < pic .height → getD new (element pic x y) 0 ≡ showsOf Etc2Rgb (bytesOf 8 d (blockOf pic x y)) (x % 4) (y % 4)
     unfolding sizeOf
     every-pixel-of-a-strict-picture =
-        each-accepted-pixel (showsOf Etc2Rgb) 8 pic image (strictVerdict pic d image) d Done new p refl
-        (passed-by 8 pic (length d) (length image) (guarded 4 (bad d) (blocks pic)) Done (p .says) refl .roomy)
+        let k = passed-by 8 pic (length d) (length image) (guarded 4 (bad d) (blocks pic)) Done (p .says) refl in
+        each-accepted-pixel (showsOf Etc2Rgb) 8 pic image (strictVerdict pic d image) d Done new p refl (roomy pic (length image) (k .fits) (k .roomy))
 
     -- and one that differs from it in block n alone differs at most in that block's clipped tile
     pub one-block-changes-its-own-tile-in-strict : (e new' : List ℕ) (n : ℕ) → Beside 8 pic n d e → ReadsStrict e pic image Done new' → OnlyInTile pic n new new'
@@ -101,14 +101,20 @@ module _ (d : List ℕ) (pic : Picture) (image : List ℕ) where
     pub strict-changes-nothing-else : (k : ℕ) → k < length image → needed pic ≤ k → getD new k 0 ≡ getD image k 0
     unfolding sizeOf
     strict-changes-nothing-else k h o =
-        only-its-own-pixels (showsOf Etc2Rgb) 8 pic image (strictVerdict pic d image) d a new p k h (le-ltb k (needed pic) o)
+        only-its-own-pixels (showsOf Etc2Rgb) 8 pic image (strictVerdict pic d image) d a new p k h (beyond pic k o)
 
-    -- width 0 or height 0, the other at most 16,384, is accepted and changes nothing
-    pub strict-changes-nothing-of-an-empty-picture : Empty pic → tooLarge limit pic ≡ false → Same a Done new image
+    -- and none in a gap
+    pub strict-keeps-the-gaps : (x y : ℕ) → pic .width ≤ x → x < pic .pitch → element pic x y < length image → getD new (element pic x y) 0 ≡ getD image (element pic x y) 0
     unfolding sizeOf
-    strict-changes-nothing-of-an-empty-picture e t =
+    strict-keeps-the-gaps x y i j h =
+        only-its-own-pixels (showsOf Etc2Rgb) 8 pic image (strictVerdict pic d image) d a new p (element pic x y) h (in-gap pic x y i j)
+
+    -- width 0 or height 0, the other and a pitch no less than the width at most 65,536, is accepted and changes nothing
+    pub strict-changes-nothing-of-an-empty-picture : Empty pic → overLimit pic ≡ false → pic .width ≤ pic .pitch → Same a Done new image
+    unfolding sizeOf
+    strict-changes-nothing-of-an-empty-picture e t i =
         an-empty-picture (showsOf Etc2Rgb) 8 pic image (strictVerdict pic d image) d a new p e
-        (empty-passes 8 pic d image (guarded 4 (bad d) (blocks pic)) e t ∙ finds-none 4 (bad d) (blocks pic) (omega (arith, no-blocks pic e)))
+        (empty-passes 8 pic d image (guarded 4 (bad d) (blocks pic)) e t i ∙ finds-none 4 (bad d) (blocks pic) (omega (arith, no-blocks pic e)))
 
     -- inputs that agree on the blocks of the picture have one outcome
     pub strict-reads-no-data-beyond-the-last-block : (e : List ℕ) (b : Answer) (new' : List ℕ) → Alike 8 pic d e → ReadsStrict e pic image b new' → Same a b new new'

@@ -1,9 +1,10 @@
-// The public list of src/etc.rs: eleven block readers, eight picture readers and strict ETC1; two censuses; and the readers and the
-// writer of sheets. None asks anything of its caller. Each promises the answer and every element of what it is lent afterwards, for all
-// inputs; what that is, crates/rules/specs/Readers.antt, Census.antt and Sheets.antt say for all of them. Refusals: 1 width or height
-// above 16,384; 2 too few bytes; 3 too few elements, or too little room for a sheet; 4 a block out of range, with its number (strict
-// only); 5 a channel above 3; of sheets, 7 a record cut short, 8 no head, 9 another kind, 10 not exactly the blocks. A refusal changes
-// nothing.
+// The public list of src/etc.rs: eleven block readers, eight picture readers and strict ETC1, each of these nine with a twin that takes
+// the description with its pitch; two censuses; and the readers and the writer of sheets. None asks anything of its caller. Each
+// promises the answer and every element of what it is lent afterwards, for all inputs; what that is, crates/rules/specs/Readers.antt,
+// Census.antt and Sheets.antt say for all of them. Refusals: 1 width, height or pitch above 65,536 (of a sheet: width or height above
+// 16,384); 12 a pitch below the width; 2 too few bytes; 3 too few elements, or too little room for a sheet; 4 a block out of range, with
+// its number (strict only); 5 a channel above 3; of sheets, 7 a record cut short, 8 no head, 9 another kind, 10 not exactly the blocks. A
+// refusal changes nothing.
 use rules::Answer;
 use rules::Format;
 use rules::Picture;
@@ -35,16 +36,18 @@ pub fn number(answer: Answer) -> u32
         Answer::NoHead => 8,
         Answer::OtherKind => 9,
         Answer::WrongBlocks => 10,
+        Answer::ShortPitch => 12,
     }
 }
 
-// Reads a picture of any format, by its width and height.
+// Reads a picture of any format, by its width and height: its rows have no gap.
 fn read(f: Format, data: &[u8], width: usize, height: usize, image: &mut [u32]) -> Answer
     ensures { λ r. ⌜ ReadsPicture f (now («data» .entry)) (sized width height) (now (image .entry)) r (now (image .exit)) ⌝ }
 {
     let pic = Picture {
         width: width,
         height: height,
+        pitch: width,
     };
     picture::read(f, data, pic, image)
 }
@@ -56,11 +59,25 @@ pub fn decode_etc1(data: &[u8], width: usize, height: usize, image: &mut [u32]) 
     read(Format::Etc1, data, width, height, image)
 }
 
+// The same of a picture with a pitch.
+pub fn decode_etc1_pitched(data: &[u8], pic: Picture, image: &mut [u32]) -> Answer
+    ensures { λ r. ⌜ ReadsPicture Format.Etc1 (now («data» .entry)) pic (now (image .entry)) r (now (image .exit)) ⌝ }
+{
+    picture::read(Format::Etc1, data, pic, image)
+}
+
 // Reads an ETC2 RGB picture.
 pub fn decode_etc2_rgb(data: &[u8], width: usize, height: usize, image: &mut [u32]) -> Answer
     ensures { λ r. ⌜ ReadsPicture Format.Etc2Rgb (now («data» .entry)) (sized width height) (now (image .entry)) r (now (image .exit)) ⌝ }
 {
     read(Format::Etc2Rgb, data, width, height, image)
+}
+
+// The same of a picture with a pitch.
+pub fn decode_etc2_rgb_pitched(data: &[u8], pic: Picture, image: &mut [u32]) -> Answer
+    ensures { λ r. ⌜ ReadsPicture Format.Etc2Rgb (now («data» .entry)) pic (now (image .entry)) r (now (image .exit)) ⌝ }
+{
+    picture::read(Format::Etc2Rgb, data, pic, image)
 }
 
 // Reads an ETC2 RGBA1 picture.
@@ -70,6 +87,13 @@ pub fn decode_etc2_rgba1(data: &[u8], width: usize, height: usize, image: &mut [
     read(Format::Etc2Rgba1, data, width, height, image)
 }
 
+// The same of a picture with a pitch.
+pub fn decode_etc2_rgba1_pitched(data: &[u8], pic: Picture, image: &mut [u32]) -> Answer
+    ensures { λ r. ⌜ ReadsPicture Format.Etc2Rgba1 (now («data» .entry)) pic (now (image .entry)) r (now (image .exit)) ⌝ }
+{
+    picture::read(Format::Etc2Rgba1, data, pic, image)
+}
+
 // Reads an ETC2 RGBA8 picture.
 pub fn decode_etc2_rgba8(data: &[u8], width: usize, height: usize, image: &mut [u32]) -> Answer
     ensures { λ r. ⌜ ReadsPicture Format.Etc2Rgba8 (now («data» .entry)) (sized width height) (now (image .entry)) r (now (image .exit)) ⌝ }
@@ -77,11 +101,25 @@ pub fn decode_etc2_rgba8(data: &[u8], width: usize, height: usize, image: &mut [
     read(Format::Etc2Rgba8, data, width, height, image)
 }
 
+// The same of a picture with a pitch.
+pub fn decode_etc2_rgba8_pitched(data: &[u8], pic: Picture, image: &mut [u32]) -> Answer
+    ensures { λ r. ⌜ ReadsPicture Format.Etc2Rgba8 (now («data» .entry)) pic (now (image .entry)) r (now (image .exit)) ⌝ }
+{
+    picture::read(Format::Etc2Rgba8, data, pic, image)
+}
+
 // Reads an EAC R picture.
 pub fn decode_eacr(data: &[u8], width: usize, height: usize, image: &mut [u32]) -> Answer
     ensures { λ r. ⌜ ReadsPicture Format.EacR (now («data» .entry)) (sized width height) (now (image .entry)) r (now (image .exit)) ⌝ }
 {
     read(Format::EacR, data, width, height, image)
+}
+
+// The same of a picture with a pitch.
+pub fn decode_eacr_pitched(data: &[u8], pic: Picture, image: &mut [u32]) -> Answer
+    ensures { λ r. ⌜ ReadsPicture Format.EacR (now («data» .entry)) pic (now (image .entry)) r (now (image .exit)) ⌝ }
+{
+    picture::read(Format::EacR, data, pic, image)
 }
 
 // Reads a signed EAC R picture.
@@ -92,11 +130,25 @@ pub fn decode_eacr_signed(data: &[u8], width: usize, height: usize, image: &mut 
     read(Format::EacRSigned, data, width, height, image)
 }
 
+// The same of a picture with a pitch.
+pub fn decode_eacr_signed_pitched(data: &[u8], pic: Picture, image: &mut [u32]) -> Answer
+    ensures { λ r. ⌜ ReadsPicture Format.EacRSigned (now («data» .entry)) pic (now (image .entry)) r (now (image .exit)) ⌝ }
+{
+    picture::read(Format::EacRSigned, data, pic, image)
+}
+
 // Reads an EAC RG picture.
 pub fn decode_eacrg(data: &[u8], width: usize, height: usize, image: &mut [u32]) -> Answer
     ensures { λ r. ⌜ ReadsPicture Format.EacRg (now («data» .entry)) (sized width height) (now (image .entry)) r (now (image .exit)) ⌝ }
 {
     read(Format::EacRg, data, width, height, image)
+}
+
+// The same of a picture with a pitch.
+pub fn decode_eacrg_pitched(data: &[u8], pic: Picture, image: &mut [u32]) -> Answer
+    ensures { λ r. ⌜ ReadsPicture Format.EacRg (now («data» .entry)) pic (now (image .entry)) r (now (image .exit)) ⌝ }
+{
+    picture::read(Format::EacRg, data, pic, image)
 }
 
 // Reads a signed EAC RG picture.
@@ -107,6 +159,13 @@ pub fn decode_eacrg_signed(data: &[u8], width: usize, height: usize, image: &mut
     read(Format::EacRgSigned, data, width, height, image)
 }
 
+// The same of a picture with a pitch.
+pub fn decode_eacrg_signed_pitched(data: &[u8], pic: Picture, image: &mut [u32]) -> Answer
+    ensures { λ r. ⌜ ReadsPicture Format.EacRgSigned (now («data» .entry)) pic (now (image .entry)) r (now (image .exit)) ⌝ }
+{
+    picture::read(Format::EacRgSigned, data, pic, image)
+}
+
 // Reads an ETC1 picture that holds no block out of range, and refuses any other with the number of the first such block. Each
 // pixel that it paints is the one that the ETC2 RGB rule gives.
 pub fn decode_etc1_strict(data: &[u8], width: usize, height: usize, image: &mut [u32]) -> Answer
@@ -115,7 +174,15 @@ pub fn decode_etc1_strict(data: &[u8], width: usize, height: usize, image: &mut 
     let pic = Picture {
         width: width,
         height: height,
+        pitch: width,
     };
+    decode_etc1_strict_pitched(data, pic, image)
+}
+
+// The same of a picture with a pitch.
+pub fn decode_etc1_strict_pitched(data: &[u8], pic: Picture, image: &mut [u32]) -> Answer
+    ensures { λ r. ⌜ ReadsStrict (now («data» .entry)) pic (now (image .entry)) r (now (image .exit)) ⌝ }
+{
     picture::read_strict(data, pic, image)
 }
 
@@ -203,6 +270,7 @@ pub fn census_etc2_rgb(data: &[u8], width: usize, height: usize) -> RgbCensus
     let pic = Picture {
         width: width,
         height: height,
+        pitch: width,
     };
     census::rgb(data, pic)
 }
@@ -214,6 +282,7 @@ pub fn census_etc2_rgba1(data: &[u8], width: usize, height: usize) -> Rgba1Censu
     let pic = Picture {
         width: width,
         height: height,
+        pitch: width,
     };
     census::rgba1(data, pic)
 }

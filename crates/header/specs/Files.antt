@@ -94,7 +94,7 @@ glFormat n = known glRows n
 abbrev pub bytesFor : Format → ℕ → ℕ → ℕ
 bytesFor f w h = blocks (sized w h) * sizeOf f
 
--- the largest side that the tool takes
+-- the largest side that the tool takes: a limit of its own, below that of the readers
 abbrev pub fileLimit : ℕ
 fileLimit = 16384
 

@@ -116,6 +116,7 @@ fn laid_out(f: Format, width: usize, height: usize, start: usize, len: usize) ->
     let pic = Picture {
         width: width,
         height: height,
+        pitch: width,
     };
     if width == 0 {
         return Header::NoPixels;

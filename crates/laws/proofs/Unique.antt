@@ -13,7 +13,7 @@ use denote.Enum.Declared
 use Rattle.rules.specs.Notation.{build}
 use Rattle.rules.specs.Answers.{said, accepts, Outcome}
 use Rattle.rules.specs.declared.Answer.{Answer}
-use Rattle.rules.specs.declared.Answer.the-variants.{Done, TooLarge, ShortData, ShortImage, OutOfRange, NoChannel, CutShort, NoHead, OtherKind, WrongBlocks}
+use Rattle.rules.specs.declared.Answer.the-variants.{Done, TooLarge, ShortData, ShortImage, OutOfRange, NoChannel, CutShort, NoHead, OtherKind, WrongBlocks, ShortPitch}
 use Rattle.rules.proofs.Answer.{the-type}
 
 -- every answer, with the value that some of them return
@@ -29,6 +29,7 @@ answers =
     ∷ (λ n. NoHead)
     ∷ (λ n. OtherKind)
     ∷ (λ n. WrongBlocks)
+    ∷ (λ n. ShortPitch)
     ∷ []
 
 -- the answer that says a number and a value: the first of them with that number
@@ -50,6 +51,7 @@ answered CutShort = refl
 answered NoHead = refl
 answered OtherKind = refl
 answered WrongBlocks = refl
+answered ShortPitch = refl
 
 -- the answer is fixed by what it says on paper
 pub answer : (a b : Answer) → said a ≡ said b → a ≡ b

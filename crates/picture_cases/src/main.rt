@@ -138,13 +138,14 @@ fn empty(width: usize, height: usize) {
 // S18, and sizes around the limit and beyond.
 fn largest() {
     empty(16384, 0);
-    empty(16385, 0);
-    empty(0, 16384);
-    empty(0, 16385);
+    empty(65536, 0);
+    empty(65537, 0);
+    empty(0, 65536);
+    empty(0, 65537);
     empty(0, 0);
     empty(1, 1);
-    empty(16384, 16384);
-    empty(16384, 16385);
+    empty(65536, 65536);
+    empty(65536, 65537);
     empty(0xFFFFFFFFFFFFFFFF, 0);
     empty(0, 0xFFFFFFFFFFFFFFFF);
     empty(0xFFFFFFFFFFFFFFFF, 0xFFFFFFFFFFFFFFFF);

@@ -64,15 +64,15 @@ module _ (pic : Picture) where
           omega (arith, column-in pic k (z .within)),
         )
 
-    back : (k : ℕ) → element pic (bx * 4) y ≤ k → k < element pic (bx * 4) y + n → InPiece pic bx y k
-    back k l h =
+    back : pic .width ≤ pic .pitch → (k : ℕ) → element pic (bx * 4) y ≤ k → k < element pic (bx * 4) y + n → InPiece pic bx y k
+    back f k l h =
         let i = k - element pic (bx * 4) y in
         let x : bx * 4 + i < pic .width = omega arith in
         let s : k ≡ element pic (bx * 4 + i) y = omega (arith, beside pic (bx * 4) y i) in
         record {
-          within = subst (λ (m : ℕ). T (inside pic m)) (sym s) (inside-at pic (bx * 4 + i) y x j);
-          across = ap (λ (m : ℕ). column pic m / 4) s ∙ ap (λ (m : ℕ). m / 4) (column-at pic (bx * 4 + i) y x) ∙ omega arith;
-          down = ap (row pic) s ∙ row-at pic (bx * 4 + i) y x;
+          within = subst (λ (m : ℕ). T (inside pic m)) (sym s) (inside-at pic f (bx * 4 + i) y x j);
+          across = ap (λ (m : ℕ). column pic m / 4) s ∙ ap (λ (m : ℕ). m / 4) (column-at pic (bx * 4 + i) y (omega arith)) ∙ omega arith;
+          down = ap (row pic) s ∙ row-at pic (bx * 4 + i) y (omega arith);
         }
 
     -- row i of a tile, written through the piece
@@ -84,7 +84,7 @@ module _ (pic : Picture) where
         let s : length (take m (drop (element pic (bx * 4) y) old)) ≡ n = simp (length-take, length-drop) (omega arith) in
         said _ _ _ _ old _ (lent _ _ (element pic (bx * 4) y) m old part (omega arith) p)
         (λ k z. let u = at k z in (omega arith, omega arith, omega arith))
-        (λ k z. back k (z .0) (omega (arith, z .1)))
+        (λ k z. back (r .fits) k (z .0) (omega (arith, z .1)))
         (λ k z. let u = at k z in ap (λ (m : ℕ). getD t (i * 4 + m) 0) (omega arith))
 
   -- the pixels of a tile that are painted with the first i rows of it

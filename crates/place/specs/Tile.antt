@@ -2,7 +2,7 @@
 -- Assumes nothing.
 use mathlib.Core.Path.{_≡_}
 use mathlib.Core.List.{List}
-use Prim.Native.Nat.{ℕ, _+_, _-_, _*_, _/_, _%_, _<_, min}
+use Prim.Native.Nat.{ℕ, _+_, _-_, _*_, _/_, _%_, _<_, _≤_, min}
 use lib.Dec.{T}
 use lib.ListN.{getD}
 use Rattle.rules.specs.Places.{column, row, inside}
@@ -32,6 +32,7 @@ inRow pic tile i k = getD tile (i * 4 + column pic k % 4) 0
 abbrev pub shown : ℕ → ℕ → ℕ
 shown side b = min 4 (side - b * 4)
 
--- an image of n elements has every element of the picture
+-- a row fits into the pitch, and an image of n elements has every element of the picture
 pub record Room (pic : Picture) (n : ℕ) : Type 0 where
+  pub fits : pic .width ≤ pic .pitch
   pub reach : (k : ℕ) → T (inside pic k) → k < n

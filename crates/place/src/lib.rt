@@ -35,7 +35,7 @@ fn place_row(
     requires { ⌜ (i < 4) × (y < pic .height) × (bx * 4 < pic .width) × (n ≡ shownOf (pic .width) bx) × Room pic (length (now image)) ⌝ }
     ensures { λ _. ⌜ Painted (InPiece pic bx y) (inRow pic tile i) (now (image .entry)) (now (image .exit)) ⌝ }
 {
-    let at = y * pic.width + bx * 4;
+    let at = y * pic.pitch + bx * 4;
     let end = at + n;
     fill(tile, i * 4, &mut image[at..end]);
 }

@@ -4,6 +4,7 @@ use mathlib.Core.Path.{_≡_, _∙_, sym, ap, subst}
 use mathlib.Core.Bool.{cond}
 use mathlib.Core.List.{List, [], _∷_}
 use Prim.Native.Nat.{ℕ, _*_}
+use native.Mathlib.Omega.{arith}
 use lib.ListN.{length, take}
 use Rattle.rules.specs.Places.{sized}
 use Rattle.rules.specs.Answers.{said, accepts}
@@ -13,6 +14,7 @@ use Rattle.rules.specs.declared.Format.{Format}
 use Rattle.rules.specs.declared.Answer.{Answer}
 use Rattle.rules.specs.declared.Answer.the-variants.{Done}
 use Rattle.checks.proofs.Checks.{passed}
+use Rattle.place.proofs.Plain.{needed-plain}
 use Rattle.rows.specs.Rows.{high, rowBytes, rowPixels, ReadsRow}
 use Rattle.rows.proofs.Whole.{row-painted}
 
@@ -27,7 +29,8 @@ module _ (f : Format) (bytes : List ℕ) (w h j : ℕ) (image : List ℕ) (answe
       (r .leaves
       ∙ ap (λ (z : List ℕ). cond (accepts z) (pictureOf f (sized w (high h j)) bytes image) image) (sym v)
       ∙ ap (λ (z : List ℕ). pictureOf f (sized w (high h j)) z image) e)
-      ∙ row-painted (showsOf f) (sizeOf f) (sized w h) d j image (passed (sizeOf f) (sized w (high h j)) (length bytes) (length image) (0 ∷ []) (sym (ap accepts v)) .roomy)
+      ∙ row-painted (showsOf f) (sizeOf f) w h d j image
+      (omega (arith, passed (sizeOf f) (sized w (high h j)) (length bytes) (length image) (0 ∷ []) (sym (ap accepts v)) .roomy, needed-plain w (high h j)))
 
   pub reads-row : (t : ℕ) → t ≡ high h j → ReadsPicture f bytes (sized w t) image answer new → ReadsRow f bytes w h j image answer new
   reads-row t e r =

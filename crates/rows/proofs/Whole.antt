@@ -1,5 +1,5 @@
 -- A picture read in rows of blocks is the picture, for any format: each row, read from its own bytes as a picture of its own,
--- has the elements that it has in the whole, and all of them one after another are the whole.
+-- has the elements that it has in the whole, and all of them one after another are the whole. Rows of pixels have no gap.
 -- Assumes nothing.
 use mathlib.Core.Path.{_≡_, _∙_, sym, ap}
 use mathlib.Core.Bool.{Bool, cond}
@@ -13,11 +13,12 @@ use lib.ListN.{length, getD, take, drop, length-take, length-drop, length-append
 use lib.Seq.{ext-getD, getD-take, getD-drop, getD-append-add}
 use Rattle.rules.specs.Notation.{build}
 use Rattle.rules.specs.Pixel.{Shows}
-use Rattle.rules.specs.Places.{column, row, inside, across, blockAt, bytesOf, pixelAt, painted}
+use Rattle.rules.specs.Places.{sized, column, row, inside, across, blockAt, bytesOf, pixelAt, painted}
 use Rattle.rules.specs.declared.Picture.{Picture}
 use Rattle.laws.proofs.Filled.{is-build, length-build, getD-build}
 use Rattle.laws.proofs.Paint.{length-painted, getD-painted}
 use Rattle.place.proofs.Grid.{wide, covered}
+use Rattle.place.proofs.Plain.{inside-plain}
 use Rattle.rows.specs.Rows.{high, rowOf, rowBytes, rowPixels, joined}
 
 -- ---- the bytes of a block
@@ -56,7 +57,10 @@ block n s i j d h =
 low : (y h j : ℕ) → y < high h j → (y / 4 ≡ 0) × ((j * 4 + y) / 4 ≡ j) × ((j * 4 + y) % 4 ≡ y % 4)
 low y h j i = omega arith
 
-module _ (p : Picture) (j k : ℕ) (h : k < p .width * high (p .height) j) where
+module _ (breadth tall j k : ℕ) (h : k < breadth * high tall j) where
+  abbrev p : Picture
+  p = sized breadth tall
+
   -- the picture has a column
   broad : 0 < p .width
   broad = wide (p .width) (high (p .height) j) k (omega (arith, mul-comm (p .width) (high (p .height) j)))
@@ -100,56 +104,59 @@ module _ (p : Picture) (j k : ℕ) (h : k < p .width * high (p .height) j) where
 
 -- ---- a row, and all rows
 
-module _ (shows : Shows) (s : ℕ) (p : Picture) (d : List ℕ) where
+module _ (shows : Shows) (s breadth tall : ℕ) (d : List ℕ) where
+  abbrev pic : Picture
+  pic = sized breadth tall
+
   -- an image over which row j was painted, from its own bytes, has the pixels of row j in front
   pub row-painted :
-      (j : ℕ) (image : List ℕ) → p .width * high (p .height) j ≤ length image
-      → take (p .width * high (p .height) j) (painted (inside (rowOf p j)) (pixelAt shows s (rowOf p j) (rowBytes s p d j)) image) ≡ rowPixels shows s p d j
+      (j : ℕ) (image : List ℕ) → pic .width * high (pic .height) j ≤ length image
+      → take (pic .width * high (pic .height) j) (painted (inside (rowOf pic j)) (pixelAt shows s (rowOf pic j) (rowBytes s pic d j)) image) ≡ rowPixels shows s pic d j
   row-painted j image h =
-      let n = p .width * high (p .height) j in
-      let l = painted (inside (rowOf p j)) (pixelAt shows s (rowOf p j) (rowBytes s p d j)) image in
-      is-build (λ k. pixelAt shows s p d (p .width * (j * 4) + k)) 0 n (take n l)
+      let n = pic .width * high (pic .height) j in
+      let l = painted (inside (rowOf pic j)) (pixelAt shows s (rowOf pic j) (rowBytes s pic d j)) image in
+      is-build (λ k. pixelAt shows s pic d (pic .width * (j * 4) + k)) 0 n (take n l)
       (simp (length-take, length-painted) (omega arith))
       (λ k q.
       getD-take n l k 0 q
-      ∙ getD-painted (inside (rowOf p j)) (pixelAt shows s (rowOf p j) (rowBytes s p d j)) image k (omega arith)
-      ∙ ap (λ (b : Bool). cond b (pixelAt shows s (rowOf p j) (rowBytes s p d j) k) (getD image k 0)) (lt-ltb k n q)
-      ∙ pixel p j k q shows s d)
+      ∙ getD-painted (inside (rowOf pic j)) (pixelAt shows s (rowOf pic j) (rowBytes s pic d j)) image k (omega arith)
+      ∙ ap (λ (b : Bool). cond b (pixelAt shows s (rowOf pic j) (rowBytes s pic d j) k) (getD image k 0)) (inside-plain breadth (high tall j) k ∙ lt-ltb k n q)
+      ∙ pixel breadth tall j k q shows s d)
 
   -- the pixels of the first n elements
   first : ℕ → List ℕ
-  first n = build n (pixelAt shows s p d)
+  first n = build n (pixelAt shows s pic d)
 
   -- the first a elements and the b after them
-  more : (a b : ℕ) → first a ++ build b (λ k. pixelAt shows s p d (a + k)) ≡ first (a + b)
+  more : (a b : ℕ) → first a ++ build b (λ k. pixelAt shows s pic d (a + k)) ≡ first (a + b)
   unfolding first
   more a b =
-      let g : ℕ → ℕ = λ k. pixelAt shows s p d (a + k) in
-      let e : length (first a) ≡ a = length-build (pixelAt shows s p d) 0 a in
+      let g : ℕ → ℕ = λ k. pixelAt shows s pic d (a + k) in
+      let e : length (first a) ≡ a = length-build (pixelAt shows s pic d) 0 a in
       let m : length (build b g) ≡ b = length-build g 0 b in
-      is-build (pixelAt shows s p d) 0 (a + b) (first a ++ build b g) (length-append (first a) (build b g) ∙ omega arith)
+      is-build (pixelAt shows s pic d) 0 (a + b) (first a ++ build b g) (length-append (first a) (build b g) ∙ omega arith)
       (λ k q.
       elim (decLt k a) [
-        | yes i ↦ List·getD-append (first a) (build b g) 0 k (omega arith) ∙ getD-build (pixelAt shows s p d) 0 a k i
+        | yes i ↦ List·getD-append (first a) (build b g) 0 k (omega arith) ∙ getD-build (pixelAt shows s pic d) 0 a k i
         | no i ↦
             let z : k ≡ length (first a) + (k - a) = omega (arith, i) in
             ap (λ (t : ℕ). getD (first a ++ build b g) t 0) z
             ∙ getD-append-add (first a) (build b g) (k - a) 0
             ∙ getD-build g 0 b (k - a) (omega (arith, i))
-            ∙ ap (pixelAt shows s p d) (omega (arith, i))
+            ∙ ap (pixelAt shows s pic d) (omega (arith, i))
       ])
 
   -- n rows are the first elements, as far as the picture goes
-  some : (n : ℕ) → n ≤ across (p .height) → joined (rowPixels shows s p d) n ≡ first (p .width * min (n * 4) (p .height))
+  some : (n : ℕ) → n ≤ across (pic .height) → joined (rowPixels shows s pic d) n ≡ first (pic .width * min (n * 4) (pic .height))
   unfolding first
-  some zero h = ap first (sym (mul-zero (p .width)) ∙ ap (λ (z : ℕ). p .width * z) (omega arith))
+  some zero h = ap first (sym (mul-zero (pic .width)) ∙ ap (λ (z : ℕ). pic .width * z) (omega arith))
   some (suc n) h =
-      let a : p .width * min (n * 4) (p .height) ≡ p .width * (n * 4) = ap (λ (z : ℕ). p .width * z) (omega arith) in
-      ap (λ (l : List ℕ). l ++ rowPixels shows s p d n) (some n (omega arith) ∙ ap first a)
-      ∙ more (p .width * (n * 4)) (p .width * high (p .height) n)
-      ∙ ap first (sym (mul-add (p .width) (n * 4) (high (p .height) n)) ∙ ap (λ (z : ℕ). p .width * z) (omega arith))
+      let a : pic .width * min (n * 4) (pic .height) ≡ pic .width * (n * 4) = ap (λ (z : ℕ). pic .width * z) (omega arith) in
+      ap (λ (l : List ℕ). l ++ rowPixels shows s pic d n) (some n (omega arith) ∙ ap first a)
+      ∙ more (pic .width * (n * 4)) (pic .width * high (pic .height) n)
+      ∙ ap first (sym (mul-add (pic .width) (n * 4) (high (pic .height) n)) ∙ ap (λ (z : ℕ). pic .width * z) (omega arith))
 
   -- all rows are the picture
-  pub whole : joined (rowPixels shows s p d) (across (p .height)) ≡ build (p .width * p .height) (pixelAt shows s p d)
+  pub whole : joined (rowPixels shows s pic d) (across (pic .height)) ≡ build (pic .width * pic .height) (pixelAt shows s pic d)
   unfolding first
-  whole = some (across (p .height)) (omega arith) ∙ ap (λ (z : ℕ). first (p .width * z)) (omega arith)
+  whole = some (across (pic .height)) (omega arith) ∙ ap (λ (z : ℕ). first (pic .width * z)) (omega arith)

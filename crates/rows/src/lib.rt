@@ -6,7 +6,6 @@ use rules::Format;
 use rules::Picture;
 ghost use mathlib.Core.Path.{_≡_};
 ghost use Prim.Native.Nat.{_*_, _<_, _≤_};
-ghost use Rattle.rules.specs.Answers.{limit};
 ghost use Rattle.rules.specs.Places.{across as acrossOf};
 ghost use Rattle.rows.specs.Rows.{high as highOf, ReadsRow, cornerOf};
 
@@ -16,9 +15,9 @@ pub struct Corner {
     pub row: usize,
 }
 
-// How many blocks a side needs.
+// How many blocks a side needs, within the tool's own limit.
 pub fn across(side: usize) -> usize
-    requires { ⌜ side ≤ limit ⌝ }
+    requires { ⌜ side ≤ 16384 ⌝ }
     ensures { λ r. ⌜ (r ≡ acrossOf side) × (r ≤ 4096) ⌝ }
 {
     checks::across(side)
@@ -60,6 +59,7 @@ pub fn read_row(
     let row = Picture {
         width: width,
         height: tall,
+        pitch: width,
     };
     picture::read(f, bytes, row, image)
 }

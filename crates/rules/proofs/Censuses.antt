@@ -102,8 +102,8 @@ specimens =
     ∷ counted rgba1Tests mixed 9 5 (0 ∷ 1 ∷ 2 ∷ 1 ∷ 1 ∷ 1 ∷ 0 ∷ 0 ∷ 0 ∷ [])
     ∷ counted rgbTests mixed 0 9 (0 ∷ 0 ∷ 0 ∷ 0 ∷ 0 ∷ 0 ∷ [])
     ∷ counted rgbTests (drop 1 mixed) 16 12 (2 ∷ [])
-    ∷ counted rgba1Tests [] 16385 0 (1 ∷ [])
-    ∷ counted rgba1Tests [] 16385 1 (1 ∷ [])
+    ∷ counted rgba1Tests [] 65537 0 (1 ∷ [])
+    ∷ counted rgba1Tests [] 65537 1 (1 ∷ [])
     ∷ [])))))))))))))))))))
 
 hold : T (answers && every specimens)

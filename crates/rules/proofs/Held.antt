@@ -1,5 +1,5 @@
 -- The test of all specimens, which antt computes over the very definitions that the readers promise; and that these are what
--- they promise. Document 01's rows are in Specimens.antt, those of other decoders in Recorded.antt.
+-- they promise. Document 01's rows are in Specimens.antt, those of M-104 in Pitches.antt, those of other decoders in Recorded.antt.
 -- Assumes nothing.
 use mathlib.Core.Bool.{Bool, true, false, cond, not, _&&_}
 use mathlib.Core.List.{List, [], _∷_, _++_}
@@ -9,7 +9,7 @@ use lib.Dec.{T}
 use lib.IntN.{pos}
 use Rattle.rules.specs.Notation.{minus, modulo}
 use Rattle.rules.specs.Pixel.{alphaOf, redOf, greenOf, blueOf}
-use Rattle.rules.specs.Places.{sized, element, bytesOf, bytesFrom, inTile, tile, pixelAt, painted}
+use Rattle.rules.specs.Places.{sized, pitched, element, needed, inside, bytesOf, bytesFrom, inTile, tile, pixelAt, painted}
 use Rattle.rules.specs.Answers.{said, left, firstOf}
 use Rattle.rules.specs.Colour.{differential, wrapped, kindBySums, outOfRange}
 use Rattle.rules.specs.Modes.{tBases, tDistance, hBases, notLess, hDistance, planarBases, planarChannel, indexed}
@@ -19,16 +19,19 @@ use Rattle.rules.specs.Formats.{sizeOf, showsOf}
 use Rattle.rules.specs.Readers.{pictureOf, pictureVerdict, ReadsPicture, strictVerdict, ReadsStrict}
 use Rattle.rules.specs.Readers.{blockVerdict, blockPainted, ReadsBlock, alphaPainted, ReadsAlpha, channelVerdict, channelPainted, ReadsChannel}
 use Rattle.rules.specs.declared.Answer.{Answer}
-use Rattle.rules.specs.declared.Answer.the-variants.{Done, TooLarge, ShortData, ShortImage, OutOfRange, NoChannel}
+use Rattle.rules.specs.declared.Answer.the-variants.{Done, TooLarge, ShortData, ShortImage, OutOfRange, NoChannel, ShortPitch}
 use Rattle.rules.specs.declared.Format.the-variants.{Etc2Rgb}
-use Rattle.rules.proofs.Rows.{Reader, picture, strict, block, alphaHalf, channel, Row, caseOf, bytes, same}
+use Rattle.rules.proofs.Rows.{Reader, picture, strict, padded, paddedStrict, block, alphaHalf, channel, Row, caseOf, bytes, same}
 use Rattle.rules.proofs.Specimens.{rows, columns, bench, table}
+use Rattle.rules.proofs.Pitches.{pitches}
 use Rattle.rules.proofs.Recorded.{recorded}
 
 -- what a reader says of the bytes and the image that it is lent, and what it would paint
 verdictOf : Reader → ℕ → ℕ → List ℕ → List ℕ → List ℕ
 verdictOf (picture f) w h d image = pictureVerdict f (sized w h) d image
 verdictOf strict w h d image = strictVerdict (sized w h) d image
+verdictOf (padded f p) w h d image = pictureVerdict f (pitched w h p) d image
+verdictOf (paddedStrict p) w h d image = strictVerdict (pitched w h p) d image
 verdictOf (block f) w h d image = blockVerdict (sizeOf f) d image
 verdictOf alphaHalf w h d image = blockVerdict 8 d image
 verdictOf (channel s c) w h d image = channelVerdict c d image
@@ -36,6 +39,8 @@ verdictOf (channel s c) w h d image = channelVerdict c d image
 paints : Reader → ℕ → ℕ → List ℕ → List ℕ → List ℕ
 paints (picture f) w h d image = pictureOf f (sized w h) d image
 paints strict w h d image = pictureOf Etc2Rgb (sized w h) d image
+paints (padded f p) w h d image = pictureOf f (pitched w h p) d image
+paints (paddedStrict p) w h d image = pictureOf Etc2Rgb (pitched w h p) d image
 paints (block f) w h d image = blockPainted (λ k. showsOf f d (k % 4) (k / 4)) image
 paints alphaHalf w h d image = alphaPainted d image
 paints (channel s c) w h d image = channelPainted s d c image
@@ -47,6 +52,8 @@ leaves reader w h d image = left (verdictOf reader w h d image) (paints reader w
 Promise : Reader → ℕ → ℕ → List ℕ → List ℕ → Answer → List ℕ → Type 0
 Promise (picture f) w h d image answer new = ReadsPicture f d (sized w h) image answer new
 Promise strict w h d image answer new = ReadsStrict d (sized w h) image answer new
+Promise (padded f p) w h d image answer new = ReadsPicture f d (pitched w h p) image answer new
+Promise (paddedStrict p) w h d image answer new = ReadsStrict d (pitched w h p) image answer new
 Promise (block f) w h d image answer new = ReadsBlock f d image answer new
 Promise alphaHalf w h d image answer new = ReadsAlpha d image answer new
 Promise (channel s c) w h d image answer new = ReadsChannel s d c image answer new
@@ -58,6 +65,8 @@ no-less :
 unfolding Promise verdictOf paints leaves
 no-less (picture f) w h d image answer new o = (o .says, o .leaves)
 no-less strict w h d image answer new o = (o .says, o .leaves)
+no-less (padded f p) w h d image answer new o = (o .says, o .leaves)
+no-less (paddedStrict p) w h d image answer new o = (o .says, o .leaves)
 no-less (block f) w h d image answer new o = (o .says, o .leaves)
 no-less alphaHalf w h d image answer new o = (o .says, o .leaves)
 no-less (channel s c) w h d image answer new o = (o .says, o .leaves)
@@ -70,6 +79,8 @@ no-more :
 unfolding Promise verdictOf paints leaves
 no-more (picture f) w h d image answer new a b = record { says = a; leaves = b }
 no-more strict w h d image answer new a b = record { says = a; leaves = b }
+no-more (padded f p) w h d image answer new a b = record { says = a; leaves = b }
+no-more (paddedStrict p) w h d image answer new a b = record { says = a; leaves = b }
 no-more (block f) w h d image answer new a b = record { says = a; leaves = b }
 no-more alphaHalf w h d image answer new a b = record { says = a; leaves = b }
 no-more (channel s c) w h d image answer new a b = record { says = a; leaves = b }
@@ -93,18 +104,23 @@ numbers =
     && same (said ShortImage) (3 ∷ [])
     && same (said (OutOfRange 7)) (4 ∷ 7 ∷ [])
     && same (said NoChannel) (5 ∷ [])
+    && same (said ShortPitch) (12 ∷ [])
 
 -- the places 0 .. n - 1 at which a test holds
 marked : (ℕ → Bool) → ℕ → List ℕ
 marked test zero = []
 marked test (suc n) = marked test n ++ cond (test n) (n ∷ []) []
 
--- "pixel (x, y) is element y * width + x"; "Block 3 shows only element 24" of 5 by 5 (S17), and block 1 the fifth of each of
--- four rows; the sixteen pixels of S2 and S4; two pixels of S16; a block's own bytes and no others, also of a list that begins with
--- block 3; the first of places, or their number
+-- "pixel (x, y) is element y * width + x", and M-104: "y * pitch + x", with the elements that are the picture's own and those that it
+-- needs; "Block 3 shows only element 24" of 5 by 5 (S17), and block 1 the fifth of each of four rows; the sixteen pixels of S2 and S4;
+-- two pixels of S16; a block's own bytes and no others, also of a list that begins with block 3; the first of places, or their number
 places : Bool
 places =
     same (element (sized 5 3) 2 1 ∷ element (sized 7 9) 4 3 ∷ []) (7 ∷ 25 ∷ [])
+    && same (element (pitched 5 3 8) 2 1 ∷ element (pitched 7 9 9) 4 3 ∷ []) (10 ∷ 31 ∷ [])
+    && same (marked (inside (pitched 3 2 5)) 20) (0 ∷ 1 ∷ 2 ∷ 5 ∷ 6 ∷ 7 ∷ [])
+    && same (needed (pitched 3 2 5) ∷ needed (pitched 5 1 9) ∷ needed (pitched 0 4 9) ∷ needed (pitched 4 0 9) ∷ []) (8 ∷ 5 ∷ 0 ∷ 0 ∷ [])
+    && same (marked (inTile (pitched 5 5 7) 3) 40) (32 ∷ [])
     && same (marked (inTile (sized 5 5) 3) 30) (24 ∷ [])
     && same (marked (inTile (sized 5 5) 1) 30) (4 ∷ 9 ∷ 14 ∷ 19 ∷ [])
     && same (tile etc1Pixel (bytes (0x0400000200000000 ∷ []))) (columns 0xFF020202 0xFFE90202)
@@ -138,6 +154,6 @@ orders =
     && notLess (5 ∷ 3 ∷ 9 ∷ []) (5 ∷ 2 ∷ 1 ∷ [])
     && notLess (5 ∷ 3 ∷ 9 ∷ []) (4 ∷ 2 ∷ 1 ∷ [])
 
-hold : T (numbers && words && orders && places && every (bench ++ recorded ++ table))
-unfolding numbers words orders places every bench table recorded verdictOf paints leaves holds marked painted firstOf differential wrapped kindBySums outOfRange tBases tDistance hBases hDistance planarBases planarChannel indexed rgbPixel rgba1Pixel etc1Pixel alphaStep alphaByte rgba8Pixel eacValue eacByte redPixel redGreenPixel sizeOf showsOf
+hold : T (numbers && words && orders && places && every (bench ++ recorded ++ table ++ pitches))
+unfolding numbers words orders places every bench table pitches recorded verdictOf paints leaves holds marked needed painted firstOf differential wrapped kindBySums outOfRange tBases tDistance hBases hDistance planarBases planarChannel indexed rgbPixel rgba1Pixel etc1Pixel alphaStep alphaByte rgba8Pixel eacValue eacByte redPixel redGreenPixel sizeOf showsOf
 hold = tt

@@ -8,7 +8,7 @@ use Prim.Native.Nat.{ℕ, _/_, _%_}
 use lib.Dec.{T}
 use lib.ListN.{length, replicate}
 use Rattle.numbers.specs.Numbers.{little, inBytes}
-use Rattle.rules.specs.Places.{sized, painted}
+use Rattle.rules.specs.Places.{sized, needed, painted}
 use Rattle.rules.specs.Answers.{said, accepts, left}
 use Rattle.rules.specs.Colour.{differential, wrapped, kindBySums}
 use Rattle.rules.specs.Modes.{tBases, tDistance, hBases, hDistance, planarBases, planarChannel, indexed, rgbPixel, rgba1Pixel, etc1Pixel}
@@ -186,5 +186,5 @@ rows =
     ∷ []
 
 hold : T (every rows)
-unfolding room answer row every rec headed head some note good one rows little inBytes walked kept formatOf headVerdict readVerdict sheetOf writeVerdict painted differential wrapped kindBySums tBases tDistance hBases hDistance planarBases planarChannel indexed rgbPixel rgba1Pixel etc1Pixel alphaStep alphaByte rgba8Pixel eacValue eacByte redPixel redGreenPixel sizeOf showsOf
+unfolding room answer row every rec headed head some note good one rows little inBytes walked kept formatOf headVerdict readVerdict sheetOf writeVerdict needed painted differential wrapped kindBySums tBases tDistance hBases hDistance planarBases planarChannel indexed rgbPixel rgba1Pixel etc1Pixel alphaStep alphaByte rgba8Pixel eacValue eacByte redPixel redGreenPixel sizeOf showsOf
 hold = tt

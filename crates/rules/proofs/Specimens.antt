@@ -70,20 +70,20 @@ bench =
     ∷ answers (picture Etc1) 5 5 32 24 (3 ∷ [])
     ∷ answers (picture Etc1) 5 5 31 24 (2 ∷ [])
     ∷ shows (picture Etc1) 5 5 (0 ∷ 0 ∷ 0 ∷ 0x8000000200000000 ∷ []) (replicate 24 0xFF020202 ++ (0xFF860202 ∷ [])) 0
-    -- S18
+    -- S18, of which M-104 says: "S18's refused width becomes 65,537"
     ∷ answers (picture Etc1) 16384 0 0 0 (0 ∷ [])
-    ∷ answers (picture Etc1) 16385 0 0 0 (1 ∷ [])
+    ∷ answers (picture Etc1) 65537 0 0 0 (1 ∷ [])
     ∷ []
 
--- 1 "width or height above 16,384", 2 "fewer bytes than blocks * block size", 3 "fewer image elements than width * height",
+-- 1 "width or height above 16,384", which M-104 makes 65,536, 2 "fewer bytes than blocks * block size", 3 "fewer image elements than width * height",
 -- "in that order"; "Width 0 or height 0, where the checks pass, is accepted and changes nothing": one byte short, just enough
 abbrev pub refusals : Reader → ℕ → ℕ → List Row
 refusals reader short enough =
-    answers reader 16384 0 0 1 (0 ∷ [])
-    ∷ answers reader 0 16384 0 1 (0 ∷ [])
-    ∷ answers reader 16385 0 0 1 (1 ∷ [])
-    ∷ answers reader 0 16385 0 1 (1 ∷ [])
-    ∷ answers reader 16385 1 0 0 (1 ∷ [])
+    answers reader 65536 0 0 1 (0 ∷ [])
+    ∷ answers reader 0 65536 0 1 (0 ∷ [])
+    ∷ answers reader 65537 0 0 1 (1 ∷ [])
+    ∷ answers reader 0 65537 0 1 (1 ∷ [])
+    ∷ answers reader 65537 1 0 0 (1 ∷ [])
     ∷ answers reader 5 9 short 45 (2 ∷ [])
     ∷ answers reader 5 9 enough 44 (3 ∷ [])
     ∷ answers reader 5 9 short 44 (2 ∷ [])

@@ -9,7 +9,7 @@ use lib.ListN.{getD}
 use Rattle.rules.specs.Places.{needed, blocks}
 use Rattle.rules.specs.declared.Picture.{Picture}
 use Rattle.rules.specs.declared.Answer.{Answer}
-use Rattle.rules.specs.declared.Answer.the-variants.{Done, TooLarge, ShortData, ShortImage, OutOfRange, NoChannel, CutShort, NoHead, OtherKind, WrongBlocks}
+use Rattle.rules.specs.declared.Answer.the-variants.{Done, TooLarge, ShortData, ShortImage, OutOfRange, NoChannel, CutShort, NoHead, OtherKind, WrongBlocks, ShortPitch}
 
 -- the table of refusals: the number of each, and what it "also returns"
 abbrev pub said : Answer → List ℕ
@@ -23,6 +23,7 @@ said CutShort = 7 ∷ []
 said NoHead = 8 ∷ []
 said OtherKind = 9 ∷ []
 said WrongBlocks = 10 ∷ []
+said ShortPitch = 12 ∷ []
 
 -- number 0 is "done", and every other is a refusal
 abbrev pub accepts : List ℕ → Bool
@@ -41,21 +42,32 @@ abbrev pub judged : List Check → List ℕ → List ℕ
 judged [] then = then
 judged (c ∷ cs) then = cond (c .fails) (c .number ∷ []) (judged cs then)
 
--- "width or height above 16,384": the readers' limit, and the check over any limit
-abbrev pub limit : ℕ
-limit = 16384
-
+-- "width or height above 16,384": the check over any limit
 abbrev pub tooLarge : ℕ → Picture → Bool
 tooLarge most p = ltb most (p .width) || ltb most (p .height)
 
 abbrev pub sidesCheck : ℕ → Picture → Check
 sidesCheck most p = refusal 1 (tooLarge most p)
 
+-- "The limit in refusal 1 rises to 65,536 for width, height and pitch." (M-104)
+abbrev pub limit : ℕ
+limit = 65536
+
+abbrev pub overLimit : Picture → Bool
+overLimit p = tooLarge limit p || ltb limit (p .pitch)
+
+abbrev pub limitCheck : Picture → Check
+limitCheck p = refusal 1 (overLimit p)
+
+-- "A pitch below the width is refused with 12" (M-104)
+abbrev pub pitchCheck : Picture → Check
+pitchCheck p = refusal 12 (ltb (p .pitch) (p .width))
+
 -- "fewer bytes than blocks * block size": than are needed
 abbrev pub dataCheck : ℕ → ℕ → Check
 dataCheck needed bytes = refusal 2 (ltb bytes needed)
 
--- "fewer image elements than width * height": likewise
+-- "fewer image elements than width * height", or than M-104 asks for: likewise
 abbrev pub imageCheck : ℕ → ℕ → Check
 imageCheck needed elements = refusal 3 (ltb elements needed)
 
@@ -63,11 +75,11 @@ imageCheck needed elements = refusal 3 (ltb elements needed)
 abbrev pub channelCheck : ℕ → Check
 channelCheck channel = refusal 5 (ltb 3 channel)
 
--- "Pictures check 1, 2, 3, 4 in that order": 1, 2 and 3, of a picture in blocks of s bytes, given so many bytes and an image of
--- so many elements
+-- "Pictures check 1, 2, 3, 4 in that order", and 12 is "tested after 1" (M-104): 1, 12, 2 and 3, of a picture in blocks of s bytes,
+-- given so many bytes and an image of so many elements
 abbrev pub pictureChecks : ℕ → Picture → ℕ → ℕ → List Check
 pictureChecks s p bytes elements =
-    sidesCheck limit p ∷ dataCheck (blocks p * s) bytes ∷ imageCheck (needed p) elements ∷ []
+    limitCheck p ∷ pitchCheck p ∷ dataCheck (blocks p * s) bytes ∷ imageCheck (needed p) elements ∷ []
 
 -- the verdict of a reader that has nothing more to check
 abbrev pub verdict : List Check → List ℕ
@@ -89,7 +101,7 @@ blockChecks s bytes elements = dataCheck s bytes ∷ imageCheck 16 elements ∷ 
 abbrev pub channelChecks : ℕ → ℕ → ℕ → List Check
 channelChecks channel bytes elements = channelCheck channel ∷ blockChecks 8 bytes elements
 
--- "On 1 to 5 no element changes": what is left of an image that `after` would have painted
+-- "On 1 to 5 no element changes", and so on every later refusal: what is left of an image that `after` would have painted
 abbrev pub left : List ℕ → List ℕ → List ℕ → List ℕ
 left verdict after old = cond (accepts verdict) after old
 

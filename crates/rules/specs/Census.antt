@@ -114,7 +114,7 @@ abbrev pub counts : (ℕ → List ℕ) → ℕ → List Test → List ℕ
 counts block n [] = []
 counts block n (test ∷ tests) = counted block n test ∷ counts block n tests
 
--- "Refusals 1 and 2 as in 01, in that order"
+-- "Refusals 1 and 2 as in 01, in that order"; refusal 1 with M-104's limit, and "the census takes no pitch": it is not looked at
 abbrev pub censusChecks : Picture → ℕ → List Check
 censusChecks p bytes = sidesCheck limit p ∷ dataCheck (blocks p * 8) bytes ∷ []
 

@@ -1,6 +1,6 @@
 -- Where pixels and blocks stand, and what it is to paint some elements of an image and no others.
 -- Assumes nothing.
-use mathlib.Core.Bool.{Bool, cond, _&&_}
+use mathlib.Core.Bool.{Bool, cond, _&&_, _||_}
 use mathlib.Core.List.{List}
 use mathlib.Core.Path.{_≡_}
 use Prim.Native.Nat.{ℕ, _+_, _-_, _*_, _/_, _%_, _<_}
@@ -10,27 +10,32 @@ use Rattle.rules.specs.Notation.{build}
 use Rattle.rules.specs.Pixel.{Shows}
 use Rattle.rules.specs.declared.Picture.{Picture}
 
-abbrev pub sized : ℕ → ℕ → Picture
-sized w h = record { width = w; height = h }
+-- "The picture's description, shared by all readers, gains a pitch" (M-104): how many elements a row takes
+abbrev pub pitched : ℕ → ℕ → ℕ → Picture
+pitched w h p = record { width = w; height = h; pitch = p }
 
--- "The image is row by row: pixel (x, y) is element y * width + x."
+-- and without a gap, "pitch equal to width"
+abbrev pub sized : ℕ → ℕ → Picture
+sized w h = pitched w h w
+
+-- "The image is row by row", and M-104: "pixel (x, y) is element y * pitch + x."
 abbrev pub element : Picture → ℕ → ℕ → ℕ
-element p x y = y * p .width + x
+element p x y = y * p .pitch + x
 
 -- so element k is in this column and this row
 abbrev pub column : Picture → ℕ → ℕ
-column p k = k % p .width
+column p k = k % p .pitch
 
 abbrev pub row : Picture → ℕ → ℕ
-row p k = k / p .width
+row p k = k / p .pitch
 
--- the image elements that a picture needs, "width * height"
-abbrev pub needed : Picture → ℕ
-needed p = p .width * p .height
+-- "The image then needs (height - 1) * pitch + width elements, or none where a side is 0." (M-104)
+unfoldable pub needed : Picture → ℕ
+needed p = cond (eqb (p .width) 0 || eqb (p .height) 0) 0 ((p .height - 1) * p .pitch + p .width)
 
--- "elements from width * height on keep their value": the others are the picture's own
+-- "Elements in the gaps keep their value" (M-104), and so do those behind the last row: the others are the picture's own
 abbrev pub inside : Picture → ℕ → Bool
-inside p k = ltb k (needed p)
+inside p k = ltb (column p k) (p .width) && ltb (row p k) (p .height)
 
 -- "There are ceil(width/4) * ceil(height/4) blocks."
 abbrev pub across : ℕ → ℕ

@@ -14,7 +14,8 @@ use Rattle.rules.specs.declared.Answer.{Answer}
 use Rattle.rules.specs.declared.Format.{Format}
 use Rattle.rules.specs.declared.Picture.{Picture}
 
--- the image with a picture of format f painted over it: "An accepted picture alters only its own width times height pixels"
+-- the image with a picture of format f painted over it: "An accepted picture alters only its own width times height pixels", which are
+-- M-104's elements
 abbrev pub pictureOf : Format → Picture → List ℕ → List ℕ → List ℕ
 pictureOf f p d image = pictureBy (showsOf f) (bytesOf (sizeOf f) d) p image
 
@@ -31,7 +32,7 @@ abbrev pub ReadsGuarded : Guard → List Check → List ℕ → Picture → List
 ReadsGuarded g checks d p image answer new =
     Outcome (guardVerdict g checks p d) (pictureOf (g .shown) p d image) answer image new
 
--- strict ETC1, "1, 2, 3, 4 in that order"
+-- strict ETC1, "1, 2, 3, 4 in that order", with 12 after 1 (M-104)
 abbrev pub strictChecks : Picture → List ℕ → List ℕ → List Check
 strictChecks p d image = pictureChecks 8 p (length d) (length image)
 

@@ -22,7 +22,7 @@ use Rattle.rules.specs.declared.Sheet.the-variants.{Holds, Refused}
 use Rattle.rules.specs.declared.Written.{Written}
 use Rattle.rules.specs.Records.{Record, encoded, Records, more, ended, short, recordsOf, first, later, kept}
 
--- "Size limit 1": a sheet has a limit of its own, so that its four-byte length can say the blocks
+-- "Size limit 1", and M-104: "A sheet .. keeps the limit of 16,384 for its length field's sake"
 abbrev pub sheetLimit : ℕ
 sheetLimit = 16384
 
@@ -37,7 +37,8 @@ formatOf n = getD formats n Etc1
 abbrev pub blockBytes : ℕ → Picture → ℕ
 blockBytes f p = blocks p * sizeOf (formatOf f)
 
--- "The first record is kind 1, payload 9 bytes: a format number 0 to 7 .., width and height, four bytes each."
+-- "The first record is kind 1, payload 9 bytes: a format number 0 to 7 .., width and height, four bytes each." And M-104: "A sheet
+-- has pitch equal to width"
 abbrev pub formatIn : Record → ℕ
 formatIn r = byte (r .payload) 0
 

@@ -38,12 +38,15 @@ pub enum Answer {
     OtherKind,
     // no block record, a second one, or a wrong block length
     WrongBlocks,
+    // of a picture: a pitch below the width
+    ShortPitch,
 }
 
-// A picture's description, shared by all picture readers.
+// A picture's description, shared by all picture readers. The pitch is how many elements of the image a row takes, its gap included.
 pub struct Picture {
     pub width: usize,
     pub height: usize,
+    pub pitch: usize,
 }
 
 // How many blocks of a picture are of each kind, under ETC2 RGB.

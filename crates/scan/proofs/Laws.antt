@@ -13,12 +13,13 @@ use borrow.Author.Tests.{lt-ltb, le-ltb}
 use lib.ListN.{length, take, getD, length-append}
 use lib.Seq.{length-take-le}
 use Rattle.rules.specs.Places.{sized, across, blocks, bytesOf}
-use Rattle.rules.specs.Answers.{said, accepts, limit, firstOf, guarded}
+use Rattle.rules.specs.Answers.{said, accepts, firstOf, guarded}
 use Rattle.rules.specs.Colour.{outOfRange}
 use Rattle.rules.specs.declared.Picture.{Picture}
 use Rattle.rules.specs.declared.Answer.{Answer}
 use Rattle.rules.specs.declared.Answer.the-variants.{Done, ShortData, OutOfRange}
 use Rattle.place.proofs.Grid.{wide}
+use Rattle.header.specs.Files.{fileLimit}
 use Rattle.rows.specs.Rows.{scanned, firstIn, scannedRow}
 use Rattle.rows.proofs.Strict.{after-row, settled}
 use Rattle.scan.specs.Scan.{numberOf, ScansRow, Scans, Checked}
@@ -122,7 +123,7 @@ named test n i e =
     ]
 
 -- a block that is named is one of the picture's
-pub placed : (w h i : ℕ) → w ≤ limit → h ≤ limit → Scans (sized w h) (OutOfRange i) → (0 < across w) × (i < 16777216)
+pub placed : (w h i : ℕ) → w ≤ fileLimit → h ≤ fileLimit → Scans (sized w h) (OutOfRange i) → (0 < across w) × (i < 16777216)
 placed w h i a b s =
     let p : i < across w * across h =
     ⊎-elim (λ q. absurd (not-short 4 (i ∷ []) (sym (ap said q)) (λ z. omega (arith, z))))

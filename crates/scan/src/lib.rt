@@ -7,7 +7,8 @@ ghost use mathlib.Core.Path.{_≡_};
 ghost use Prim.Native.Nat.{_+_, _*_, _<_, _≤_};
 ghost use lib.ListN.{length};
 ghost use Rattle.rules.specs.Places.{sized};
-ghost use Rattle.rules.specs.Answers.{said, limit};
+ghost use Rattle.rules.specs.Answers.{said};
+ghost use Rattle.header.specs.Files.{fileLimit};
 ghost use Rattle.rows.specs.Rows.{scannedRow};
 ghost use Rattle.scan.specs.Scan.{isColour, numberOf, ScansRow, Scans, Checked};
 
@@ -39,7 +40,7 @@ fn scan_row(fd: i32, n: usize, j: usize, bytes: &mut [u8]) -> Answer
 
 // Scans a picture, until a row is refused or the file ends.
 fn scan_rows(fd: i32, width: usize, height: usize) -> Answer
-    requires { ⌜ (width ≤ limit) × (height ≤ limit) ⌝ }
+    requires { ⌜ (width ≤ fileLimit) × (height ≤ fileLimit) ⌝ }
     ensures { λ r. ⌜ Scans (sized width height) r ⌝ }
 {
     let n = rows::across(width);
@@ -66,7 +67,7 @@ fn number(answer: Answer) -> u64
 
 // Says what a strict reader says of a picture: the words follow from the answer alone.
 fn say(answer: Answer, width: usize, height: usize)
-    requires { ⌜ (width ≤ limit) × (height ≤ limit) × Scans (sized width height) answer ⌝ }
+    requires { ⌜ (width ≤ fileLimit) × (height ≤ fileLimit) × Scans (sized width height) answer ⌝ }
 {
     match answer {
         Answer::Done => words::accepted(),

@@ -45,6 +45,7 @@ module _ (d : List ℕ) (h : Head) (b : List ℕ) (s : Shown d h b) where
         rw (
           le-ltb limit (h .width) (omega (arith, s .begins .sound .narrow)),
           le-ltb limit (h .height) (omega (arith, s .begins .sound .low)),
+          le-ltb (h .width) (h .width) (omega arith),
           le-ltb (length b) (blocks (sizeOfHead h) * sizeOf (formatOf (h .format))) (omega (arith, s .exact)),
         )
 

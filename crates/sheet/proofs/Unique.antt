@@ -2,37 +2,26 @@
 -- Assumes nothing.
 use mathlib.Core.Path.{_≡_, _∙_, sym, ap}
 use mathlib.Core.List.{List}
-use Prim.Native.Nat.{ℕ, _≤_}
+use Prim.Native.Nat.{ℕ}
 use native.Mathlib.Omega.{arith}
 use lib.ListN.{length, getD}
-use Rattle.rules.specs.Answers.{said}
+use Rattle.rules.specs.Answers.{said, accepts}
 use Rattle.rules.specs.declared.Answer.{Answer}
-use Rattle.rules.specs.declared.Answer.the-variants.{Done, TooLarge, ShortData, ShortImage, OutOfRange, NoChannel, CutShort, NoHead, OtherKind, WrongBlocks}
+use Rattle.rules.specs.declared.Answer.the-variants.{Done}
 use Rattle.rules.specs.declared.Head.{Head}
 use Rattle.rules.specs.declared.Picture.{Picture}
 use Rattle.rules.specs.declared.Sheet.{Sheet}
 use Rattle.rules.specs.declared.Sheet.the-variants.{Holds, Refused}
 use Rattle.rules.specs.declared.Written.{Written}
-use Rattle.laws.proofs.Unique.{answer, no-second-outcome}
+use Rattle.laws.proofs.Unique.{answer, only-done, no-second-outcome}
 use Rattle.rules.specs.Sheets.{told, TellsHead, WritesSheet}
 
--- a head says four numbers, and an answer at most two
-few : (a : Answer) → length (said a) ≤ 2
-few Done = omega arith
-few TooLarge = omega arith
-few ShortData = omega arith
-few ShortImage = omega arith
-few (OutOfRange n) = omega arith
-few NoChannel = omega arith
-few CutShort = omega arith
-few NoHead = omega arith
-few OtherKind = omega arith
-few WrongBlocks = omega arith
-
+-- a head says 0 and three numbers more, and the only answer that says 0 says nothing else
 pub differ : (h : Head) (a : Answer) → told (Holds h) ≡ told (Refused a) → ⊥
 differ h a e =
     let n : length (told (Holds h)) ≡ length (said a) = ap length e in
-    omega (arith, n, few a)
+    let d : a ≡ Done = only-done a (sym (ap accepts e)) in
+    omega (arith, n, ap (λ (x : Answer). length (said x)) d)
 
 one : (s t : Sheet) → told s ≡ told t → s ≡ t
 one (Holds h) (Holds k) e =

@@ -53,6 +53,7 @@ fn first_record(d: &[u8]) -> Found
     let pic = Picture {
         width: width,
         height: height,
+        pitch: width,
     };
     if checks::too_large(16384, pic) {
         return Found::Refused(Answer::TooLarge);
@@ -149,6 +150,7 @@ pub fn read_sheet(bytes: &[u8], image: &mut [u32]) -> Answer
             let pic = Picture {
                 width: head.width,
                 height: head.height,
+                pitch: head.width,
             };
             picture::read(
                 sheet::format_of(head.format),

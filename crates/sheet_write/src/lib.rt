@@ -84,6 +84,7 @@ pub fn write_sheet(
     let pic = Picture {
         width: width,
         height: height,
+        pitch: width,
     };
     let answer = verify(format, pic, n, out.len());
     let Answer::Done = answer else {

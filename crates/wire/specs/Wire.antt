@@ -35,10 +35,10 @@ packed words n bytes = laid (build (n * 4) (byteAt words)) bytes
 abbrev pub atMost : ℕ → ℕ → ℕ
 atMost most n = cond (ltb most n) most n
 
--- the numbers of the table of readers: pictures, blocks and censuses
+-- the numbers of the table of readers: pictures, blocks, censuses, and pictures with a pitch
 abbrev pub isReader : ℕ → Bool
-isReader n = (ltb n 9 || (ltb 15 n && ltb n 27)) || (ltb 31 n && ltb n 34)
+isReader n = ((ltb n 9 || (ltb 15 n && ltb n 27)) || (ltb 31 n && ltb n 34)) || (ltb 39 n && ltb n 49)
 
 -- "a reader that is not in the table, or a length above the largest is no case"
 abbrev pub isCase : List ℕ → Bool
-isCase head = (isReader (wordAt head 0) && ltb (wordAt head 16) 0x10001) && ltb (wordAt head 20) 0x4001
+isCase head = (isReader (wordAt head 0) && ltb (wordAt head 16) 0x40001) && ltb (wordAt head 20) 0x10001

@@ -63,16 +63,16 @@ pub fn field(head: &[u8; 24], k: usize) -> u32
 
 // How many bytes of data the head of a case asks for.
 pub fn data_length(head: &[u8; 24]) -> usize
-    ensures { λ r. ⌜ (r ≡ atMost 0x10000 (wordAt (now (head .entry)) 16)) × (r ≤ 0x10000) ⌝ }
+    ensures { λ r. ⌜ (r ≡ atMost 0x40000 (wordAt (now (head .entry)) 16)) × (r ≤ 0x40000) ⌝ }
 {
-    length_of(head, 4, 0x10000)
+    length_of(head, 4, 0x40000)
 }
 
 // How many elements it asks for.
 pub fn image_length(head: &[u8; 24]) -> usize
-    ensures { λ r. ⌜ (r ≡ atMost 0x4000 (wordAt (now (head .entry)) 20)) × (r ≤ 0x4000) ⌝ }
+    ensures { λ r. ⌜ (r ≡ atMost 0x10000 (wordAt (now (head .entry)) 20)) × (r ≤ 0x10000) ⌝ }
 {
-    length_of(head, 5, 0x4000)
+    length_of(head, 5, 0x10000)
 }
 
 // A length that the head asks for, or the most that there is room for.
@@ -99,7 +99,8 @@ fn is_reader(number: u32) -> bool
     let picture = number < 9;
     let block = (15 < number) & (number < 27);
     let census = (31 < number) & (number < 34);
-    picture | block | census
+    let pitched = (39 < number) & (number < 49);
+    picture | block | census | pitched
 }
 
 // Whether the reader is one, and there is room for the lengths.
@@ -107,8 +108,8 @@ pub fn is_case(head: &[u8; 24]) -> bool
     ensures { λ r. ⌜ r ≡ isCase (now (head .entry)) ⌝ }
 {
     let reader = is_reader(field(head, 0));
-    let data = field(head, 4) < 0x10001;
-    let image = field(head, 5) < 0x4001;
+    let data = field(head, 4) < 0x40001;
+    let image = field(head, 5) < 0x10001;
     reader & data & image
 }
 

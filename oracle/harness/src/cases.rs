@@ -2,9 +2,10 @@
 //! its own seed when its turn comes.
 
 use crate::blocks::{bytes, Fill, MODES};
+use crate::pitched;
 use crate::protocol::{Case, MOST_DATA, MOST_IMAGE};
 use crate::random::Random;
-use crate::readers::{block_size, has_channel, has_modes, is_block, is_eac, room, RGBA1, STRICT};
+use crate::readers::{block_size, has_channel, has_modes, is_block, is_eac, plain, room, PITCHED, RGBA1, STRICT};
 use crate::rules::blocks_across;
 
 #[derive(Clone, Copy)]
@@ -28,14 +29,14 @@ impl Shape {
             channel: self.channel,
             width: self.width,
             height: self.height,
-            data: bytes(self.reader, size, self.data, self.fill, &mut random),
+            data: bytes(plain(self.reader), size, self.data, self.fill, &mut random),
             image: (0..self.image).map(|_| random.next() as u32).collect(),
         }
     }
 }
 
 /// Larger and odd sizes; the longest sides make exactly the largest case.
-const LARGE: [(u32, u32); 17] = [
+const LARGE: [(u32, u32); 21] = [
     (10, 11),
     (13, 7),
     (17, 33),
@@ -53,21 +54,27 @@ const LARGE: [(u32, u32); 17] = [
     (1, 16_381),
     (16_384, 1),
     (1, 16_384),
+    (65_535, 1),
+    (1, 65_533),
+    (65_536, 1),
+    (1, 65_536),
 ];
 
 /// Sizes around the limit, and those whose products would wrap.
-const LIMITS: [(u32, u32); 16] = [
+const LIMITS: [(u32, u32); 18] = [
     (16_384, 0),
-    (0, 16_384),
+    (65_536, 0),
+    (0, 65_536),
     (0, 0),
-    (16_385, 0),
-    (0, 16_385),
-    (16_385, 1),
-    (1, 16_385),
+    (65_537, 0),
+    (0, 65_537),
+    (65_537, 1),
+    (1, 65_537),
     (16_384, 16_384),
-    (16_384, 16_385),
-    (16_385, 16_384),
     (65_536, 65_536),
+    (65_536, 65_537),
+    (65_537, 65_536),
+    (1 << 18, 1 << 18),
     (0, u32::MAX),
     (u32::MAX, 0),
     (u32::MAX, u32::MAX),
@@ -130,6 +137,100 @@ pub fn accepted_plan(reader: u32, seed: u64, blocks: usize) -> Vec<Shape> {
     plan.shapes
 }
 
+/// Widths, heights and pitches around the limit and below the width, and those whose products would wrap.
+const PITCH_LIMITS: [(u32, u32, u32); 22] = [
+    (65_536, 0, 65_536),
+    (0, 65_536, 65_536),
+    (0, 5, 65_536),
+    (5, 0, 65_536),
+    (0, 5, 65_537),
+    (5, 0, 65_537),
+    (5, 5, 65_537),
+    (65_537, 0, 65_537),
+    (65_536, 0, 65_537),
+    (5, 65_537, 4),
+    (65_537, 0, 4),
+    (65_536, 0, 65_535),
+    (5, 0, 4),
+    (1, 0, 0),
+    (0, 0, 0),
+    (0, 7, 0),
+    (5, 65_536, 65_536),
+    (65_536, 65_536, 65_536),
+    (u32::MAX, u32::MAX, u32::MAX),
+    (5, 5, u32::MAX),
+    (u32::MAX, 5, 4),
+    (1 << 31, 2, 1 << 31),
+];
+
+/// Larger pictures with a gap, and one row, whose pitch takes no room.
+const PITCH_LARGE: [(u32, u32, u32); 9] = [
+    (10, 11, 10),
+    (17, 33, 40),
+    (63, 65, 64),
+    (101, 3, 128),
+    (5, 1, 65_536),
+    (1, 13_000, 5),
+    (3, 2, 60_000),
+    (65_536, 1, 65_536),
+    (1, 65_536, 1),
+];
+
+/// All shapes for a reader that takes a pitch: every small size with every gap from none to five elements.
+pub fn pitched_plan(reader: u32, seed: u64, blocks: usize) -> Vec<Shape> {
+    let mut plan = Plan::new(reader, seed ^ PITCHED as u64);
+    let fill = if reader == STRICT { Fill::InRange(None) } else { Fill::Random };
+    for (size, gap) in small_sizes().flat_map(|size| (0..=5).map(move |gap| (size, gap))) {
+        let (width, height) = size;
+        plan.rows_with_gaps(width, height, width + gap, fill);
+        if gap < width {
+            plan.gapped(width, height, width - 1 - gap, 0, 9, fill);
+        }
+    }
+    for (width, height, pitch) in PITCH_LARGE {
+        plan.rows_with_gaps(width, height, pitch, fill);
+    }
+    for (width, height, pitch) in PITCH_LIMITS {
+        for lengths in [(0, 0), (64, 0), (0, 40), (4096, 1024)] {
+            plan.add((width, height), lengths, pitch, Fill::Random);
+        }
+    }
+    for turn in 0..blocks / 4 / BULK_BLOCKS {
+        plan.gapped(BULK.0, BULK.1, BULK.0 + turn as u32 % 17, 0, 40, Fill::Kinds(turn));
+    }
+    plan.with_a_pitch()
+}
+
+/// The accepted ones of exact length that show something, for a decoder that has no refusals.
+pub fn pitched_accepted_plan(reader: u32, seed: u64) -> Vec<Shape> {
+    let mut plan = Plan::new(reader, seed ^ PITCHED as u64);
+    for (width, height) in small_sizes().filter(|(width, height)| width * height > 0) {
+        for gap in 0..=5 {
+            for fill in plan.fills() {
+                plan.gapped(width, height, width + gap, 0, 3, fill);
+            }
+        }
+    }
+    plan.with_a_pitch()
+}
+
+/// The few that are stored.
+pub fn stored_pitched_plan(reader: u32, seed: u64) -> Vec<Shape> {
+    let mut plan = Plan::new(reader, seed ^ PITCHED as u64);
+    for (width, height) in STORED {
+        for gap in [0, 1, 5] {
+            plan.gapped(width, height, width + gap, 3, 1, Fill::Random);
+        }
+    }
+    for (data, image) in [(-1, 0), (0, -1), (-1, -1)] {
+        plan.gapped(5, 5, 7, data, image, Fill::Random);
+    }
+    for (width, height, pitch) in PITCH_LIMITS {
+        plan.add((width, height), (8, 2), pitch, Fill::Random);
+    }
+    plan.with_a_pitch()
+}
+
 /// The sizes of stored pictures: one pixel, a whole block, clipped right, below and both, several blocks.
 const STORED: [(u32, u32); 6] = [(1, 1), (4, 4), (5, 1), (3, 6), (5, 5), (10, 7)];
 
@@ -148,7 +249,7 @@ pub fn stored_plan(reader: u32, seed: u64) -> Vec<Shape> {
     for (data, image) in [(-1, 0), (0, -1), (-1, -1)] {
         plan.picture(5, 5, data, image, Fill::Random);
     }
-    for size in [(16_384, 0), (0, 16_384), (16_385, 0), (0, 16_385), (u32::MAX, u32::MAX)] {
+    for size in [(65_536, 0), (0, 65_536), (65_537, 0), (0, 65_537), (u32::MAX, u32::MAX)] {
         plan.add(size, (8, 2), 0, Fill::Random);
     }
     plan.stored_modes();
@@ -207,6 +308,32 @@ impl Plan {
         let (bytes, elements) = needed(self.reader, width, height);
         let lengths = (bytes.saturating_add_signed(data), elements.saturating_add_signed(image));
         self.add((width, height), lengths, 0, fill);
+    }
+
+    // The same with a pitch.
+    fn gapped(&mut self, width: u32, height: u32, pitch: u32, data: isize, image: isize, fill: Fill) {
+        let bytes = needed(self.reader, width, height).0;
+        let elements = pitched::needed(width, height, pitch);
+        let lengths = (bytes.saturating_add_signed(data), elements.saturating_add_signed(image));
+        self.add((width, height), lengths, pitch, fill);
+    }
+
+    // Just enough, more, and short by one.
+    fn rows_with_gaps(&mut self, width: u32, height: u32, pitch: u32, in_range: Fill) {
+        for fill in self.fills() {
+            self.gapped(width, height, pitch, 0, 0, fill);
+            let (data, image) = (self.random.below(40) as isize, 1 + self.random.below(40) as isize);
+            self.gapped(width, height, pitch, data, image, fill);
+        }
+        for (data, image) in [(-1, 0), (0, -1), (-1, -1)] {
+            self.gapped(width, height, pitch, data, image, in_range);
+        }
+    }
+
+    // Every shape goes to the twin that takes a pitch.
+    fn with_a_pitch(mut self) -> Vec<Shape> {
+        self.shapes.iter_mut().for_each(|shape| shape.reader += PITCHED);
+        self.shapes
     }
 
     fn small_pictures(&mut self) {

@@ -89,7 +89,7 @@ pub fn specimens() -> Vec<Pair> {
         accepted(CENSUS_RGBA1, (16, 12), &mixed, &[1, 3, 1, 1, 3, 1, 1, 1]),
         accepted(CENSUS_RGBA1, (9, 5), &mixed, &[1, 2, 1, 1, 1, 0, 0, 0]),
         refused(CENSUS_RGB, (16, 12), &mixed[..95], 2, 5),
-        refused(CENSUS_RGBA1, (16_385, 0), &[], 1, 8),
+        refused(CENSUS_RGBA1, (65_537, 0), &[], 1, 8),
         refused(CENSUS_RGB, (16, 12), &mixed, 3, 4),
         refused(CENSUS_RGBA1, (16, 12), &mixed, 3, 7),
     ]);

@@ -74,7 +74,7 @@ pub fn of_seconds(mesa: &str, android: &str, program: &str) -> Result<bool> {
     Ok(same & count("DIFFERENCES.md, Android and ours", &OF_ANDROID, theirs, program)?)
 }
 
-/// What the crate does where only document 01 refuses. It accepts a side above 16,384, and an
+/// What the crate does where only document 01 refuses. It accepts a side above 65,536, and an
 /// alpha half of two bytes with multiplier 0 over any image. Else it stops the whole program on
 /// bytes, elements or a channel that it indexes past.
 pub fn crate_has_no_such_refusal() -> bool {
@@ -86,7 +86,7 @@ pub fn crate_has_no_such_refusal() -> bool {
     });
     let channels = [BLOCK_EAC, BLOCK_EAC_SIGNED].into_iter().all(|reader| stops(&refused(reader, 4, 8, 16)));
     set_hook(hook);
-    let wide = Case { width: 16_385, ..refused(ETC1, 0, 0, 0) };
+    let wide = Case { width: 65_537, ..refused(ETC1, 0, 0, 0) };
     let alpha = Case { data: vec![0x80, 0], ..refused(BLOCK_A8, 0, 2, 1) };
     let accepts = crate_answer(&wide).number == 0 && crate_answer(&alpha).image == [0x8000_0000];
     let so = short && channels && accepts;

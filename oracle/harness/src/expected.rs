@@ -3,12 +3,13 @@
 //! come from document 01's table. The crate has no census: those are counted here.
 
 use crate::census;
+use crate::pitched;
 use crate::protocol::{Answer, Case};
 use crate::readers::*;
 use crate::rules::verdict;
 
 /// The differences of docs/DIFFERENCES.md, by their names there. The first is the
-/// refusals 1, 4 and 5, and the block readers' 2 and 3.
+/// refusals 1, 4, 5 and 12, and the block readers' 2 and 3.
 pub const REFUSALS_ADDED: &str = "refusals-added";
 pub const RGBA1_TRANSPARENT: &str = "rgba1-transparent";
 pub const EAC_INDEX_ORDER: &str = "eac-index-order";
@@ -27,6 +28,9 @@ pub struct Expected {
 pub fn expected(case: &Case, listed: &[String]) -> Expected {
     if is_census(case.reader) {
         return Expected { answer: census::counted(case), touched: 0 };
+    }
+    if is_pitched(case.reader) {
+        return pitched::expected(case, listed);
     }
     let (number, block) = verdict(case);
     if matches!(number, 2 | 3) && !is_block(case.reader) {

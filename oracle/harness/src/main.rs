@@ -8,6 +8,7 @@ mod census;
 mod examples;
 mod expected;
 mod pictures;
+mod pitched;
 mod protocol;
 mod random;
 mod readers;
@@ -87,7 +88,12 @@ fn compare(options: &Options) -> Result<bool> {
     same &= examples::crate_has_no_such_refusal();
     same &= census::by_hand(&options.program)?;
     for reader in readers::PICTURES.chain(readers::BLOCKS).chain(readers::CENSUSES) {
-        same &= compare_reader(reader, options)?;
+        let shapes = cases::plan(reader, options.seed, options.blocks);
+        same &= compare_reader(readers::name(reader).to_string(), shapes, options)?;
+    }
+    for reader in readers::PICTURES {
+        let shapes = cases::pitched_plan(reader, options.seed, options.blocks);
+        same &= compare_reader(format!("{}, with a pitch", readers::name(reader)), shapes, options)?;
     }
     Ok(same)
 }
@@ -116,12 +122,12 @@ fn second(options: &Options) -> Result<bool> {
     same &= second::android(options)?;
     same &= second::mesa(options)?;
     same &= second::every_base(options)?;
+    same &= second::with_a_pitch(options)?;
     Ok(same)
 }
 
-fn compare_reader(reader: u32, options: &Options) -> Result<bool> {
-    let shapes = cases::plan(reader, options.seed, options.blocks);
-    let mut report = Report::new(readers::name(reader).to_string(), "pixels by a listed difference", shapes.len());
+fn compare_reader(what: String, shapes: Vec<cases::Shape>, options: &Options) -> Result<bool> {
+    let mut report = Report::new(what, "pixels by a listed difference", shapes.len());
     let mut peer = Peer::start(&options.program, shapes.into_iter().map(|shape| shape.case()))?;
     while let Some((case, got)) = peer.next()? {
         let due = expected::expected(&case, &options.listed);

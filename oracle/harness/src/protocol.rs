@@ -8,8 +8,8 @@ use std::thread::JoinHandle;
 use std::time::Duration;
 
 /// The longest data and image that a program under test has room for.
-pub const MOST_DATA: usize = 65_536;
-pub const MOST_IMAGE: usize = 16_384;
+pub const MOST_DATA: usize = 262_144;
+pub const MOST_IMAGE: usize = 65_536;
 
 #[derive(Clone)]
 pub struct Case {

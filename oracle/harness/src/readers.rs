@@ -30,12 +30,16 @@ pub const BLOCK_EACRG_SIGNED: u32 = 26;
 pub const CENSUS_RGB: u32 = 32;
 pub const CENSUS_RGBA1: u32 = 33;
 
+/// A picture reader that takes a pitch has its twin's number and so many more.
+pub const PITCHED: u32 = 40;
+
 pub const PICTURES: std::ops::RangeInclusive<u32> = ETC1..=STRICT;
 pub const BLOCKS: std::ops::RangeInclusive<u32> = BLOCK_ETC1..=BLOCK_EACRG_SIGNED;
 pub const CENSUSES: std::ops::RangeInclusive<u32> = CENSUS_RGB..=CENSUS_RGBA1;
+pub const PITCHED_PICTURES: std::ops::RangeInclusive<u32> = PITCHED + ETC1..=PITCHED + STRICT;
 
 pub fn name(reader: u32) -> &'static str {
-    match reader {
+    match plain(reader) {
         ETC1 => "etc1",
         RGB => "etc2_rgb",
         RGBA1 => "etc2_rgba1",
@@ -67,6 +71,19 @@ pub fn is_block(reader: u32) -> bool {
     BLOCKS.contains(&reader)
 }
 
+pub fn is_pitched(reader: u32) -> bool {
+    PITCHED_PICTURES.contains(&reader)
+}
+
+/// The twin of a reader that takes a pitch, and any other as it is.
+pub fn plain(reader: u32) -> u32 {
+    if is_pitched(reader) {
+        reader - PITCHED
+    } else {
+        reader
+    }
+}
+
 pub fn is_census(reader: u32) -> bool {
     CENSUSES.contains(&reader)
 }
@@ -77,7 +94,7 @@ pub fn has_channel(reader: u32) -> bool {
 }
 
 pub fn block_size(reader: u32) -> usize {
-    match reader {
+    match plain(reader) {
         RGBA8 | EACRG | EACRG_SIGNED | WIDE_EACRG | WIDE_EACRG_SIGNED | BLOCK_RGBA8 | BLOCK_EACRG
         | BLOCK_EACRG_SIGNED => 16,
         _ => 8,
@@ -129,7 +146,7 @@ pub fn has_modes(reader: u32) -> bool {
 }
 
 pub fn is_signed(reader: u32) -> bool {
-    matches!(reader, EACR_SIGNED | EACRG_SIGNED | BLOCK_EAC_SIGNED | BLOCK_EACR_SIGNED | BLOCK_EACRG_SIGNED)
+    matches!(plain(reader), EACR_SIGNED | EACRG_SIGNED | BLOCK_EAC_SIGNED | BLOCK_EACR_SIGNED | BLOCK_EACRG_SIGNED)
 }
 
 pub fn is_eac(reader: u32) -> bool {

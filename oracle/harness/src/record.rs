@@ -2,7 +2,7 @@
 //! decoders that nobody here wrote, and censuses counted from the bytes. The program under test
 //! is not asked.
 
-use crate::cases::{stored_accepted_plan, stored_plan};
+use crate::cases::{stored_accepted_plan, stored_pitched_plan, stored_plan};
 use crate::census;
 use crate::expected::expected;
 use crate::pictures;
@@ -67,6 +67,11 @@ pub fn record(options: &crate::Options) -> Result<bool> {
         let cases = stored_plan(reader, options.seed).into_iter().map(|shape| shape.case());
         let pairs: Vec<Pair> = cases.map(|case| (case.clone(), census::counted(&case))).collect();
         list.group(&format!("counted: {}", name(reader)), &pairs);
+    }
+    for reader in PICTURES {
+        let cases = stored_pitched_plan(reader, options.seed).into_iter().map(|shape| shape.case());
+        let pairs: Vec<Pair> = cases.map(|case| (case.clone(), expected(&case, &options.listed).answer)).collect();
+        list.group(&format!("with a pitch: {}", name(reader)), &pairs);
     }
     seconds(options, &mut list)?;
     list.wrong("wrong on purpose: a bit of an image", &wrong_images(&shown));

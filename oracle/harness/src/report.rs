@@ -1,8 +1,9 @@
 //! Progress on standard error, one line a reader on standard output, and the first
 //! few differences in full.
 
+use crate::pitched::pitch;
 use crate::protocol::{Answer, Case};
-use crate::readers::{block_size, elements, is_block, is_census, name};
+use crate::readers::{block_size, elements, is_block, is_census, is_pitched, name};
 use crate::rules::{blocks, blocks_across};
 use std::time::{Duration, Instant};
 
@@ -89,7 +90,11 @@ fn place(case: &Case, k: usize) -> String {
     if is_census(case.reader) {
         return String::new();
     }
-    let width = if is_block(case.reader) { 4 } else { case.width as usize };
+    let width = match case.reader {
+        reader if is_block(reader) => 4,
+        reader if is_pitched(reader) => pitch(case),
+        _ => case.width as usize,
+    };
     let pixel = k / elements(case.reader);
     let (x, y) = (pixel % width.max(1), pixel / width.max(1));
     let block = if is_block(case.reader) { 0 } else { y / 4 * blocks_across(case.width) + x / 4 };

@@ -4,7 +4,7 @@
 use crate::protocol::Case;
 use crate::readers::{block_size, has_channel, is_block, room, STRICT};
 
-const LIMIT: u32 = 16_384;
+pub const LIMIT: u32 = 65_536;
 
 pub fn blocks_across(width: u32) -> usize {
     (width as usize).div_ceil(4)
@@ -50,10 +50,15 @@ fn picture_verdict(case: &Case) -> (u32, u32) {
         return (3, 0);
     }
     if case.reader == STRICT {
-        let new = case.data.chunks_exact(8).take(blocks(case)).position(is_new);
-        return new.map_or((0, 0), |block| (4, block as u32));
+        return first_new(case);
     }
     (0, 0)
+}
+
+/// Check 4: the first block that an ETC1 reader must not read.
+pub fn first_new(case: &Case) -> (u32, u32) {
+    let new = case.data.chunks_exact(8).take(blocks(case)).position(is_new);
+    new.map_or((0, 0), |block| (4, block as u32))
 }
 
 /// A five-bit base plus its signed step that lies outside 0 to 31.

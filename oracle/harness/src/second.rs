@@ -1,6 +1,7 @@
 //! The program under test against decoders that share nothing with it or the crate.
 
-use crate::cases::{accepted_plan, Shape};
+use crate::cases::{accepted_plan, pitched_accepted_plan, Shape};
+use crate::pitched::{gathered, pixels, put_back};
 use crate::protocol::{ask, Answer, Case, Peer};
 use crate::readers::*;
 use crate::report::Report;
@@ -24,6 +25,33 @@ pub fn mesa(options: &crate::Options) -> Result<bool> {
 /// Android's libETC1, sums out of range included.
 pub fn android(options: &crate::Options) -> Result<bool> {
     against(ETC1, options, &options.android, "Android", ETC1)
+}
+
+/// Pictures with a pitch, in all eight formats by Mesa, and in ETC1 by Android too. The other decoder is given
+/// the rows without their gaps.
+pub fn with_a_pitch(options: &crate::Options) -> Result<bool> {
+    let mut same = gapped(ETC1, options, &options.android, "Android")?;
+    for reader in ETC1..=EACRG_SIGNED {
+        same &= gapped(reader, options, &options.mesa, "Mesa")?;
+    }
+    Ok(same)
+}
+
+fn gapped(reader: u32, options: &crate::Options, other: &str, label: &str) -> Result<bool> {
+    let shapes = pitched_accepted_plan(reader, options.seed);
+    let cases: Vec<Case> = shapes.iter().map(Shape::case).collect();
+    let aside = if reader == ETC1 { "pixels left to Android" } else { "" };
+    let mut report = Report::new(format!("{label} {}, with a pitch", name(reader)), aside, cases.len());
+    let seen = ask(other, cases.iter().map(gathered).collect())?;
+    for ((dense, seen), (case, got)) in seen.into_iter().zip(ask(&options.program, cases)?) {
+        let left = if label == "Android" { Vec::new() } else { wrapped_halves(&dense) };
+        let mut shown = if label == "Android" { seen } else { from_mesa(&dense, seen, reader) };
+        let painted = pixels(&case, &got.image);
+        left.iter().for_each(|&k| shown.image[k] = painted[k]);
+        let due = Answer { image: put_back(&case, &shown.image), ..shown };
+        report.count(&case, &due, &got, left.len());
+    }
+    Ok(report.close())
 }
 
 /// Document 01's specimens that show something, by Android for ETC1 and by Mesa for the other formats.

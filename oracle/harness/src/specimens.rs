@@ -1,4 +1,4 @@
-//! Document 01's specimens, with the values that stand there: S1 to S18.
+//! Document 01's specimens, with the values that stand there: S1 to S18, the last as M-104 amends it.
 
 use crate::protocol::{Answer, Case};
 use crate::readers::*;
@@ -128,6 +128,6 @@ fn places() -> Vec<Specimen> {
         refused(ETC1, (5, 5), &four, 3, 24),
         refused(ETC1, (5, 5), &four[..31], 2, 24),
         refused(ETC1, (16_384, 0), &[], 0, 0),
-        refused(ETC1, (16_385, 0), &[], 1, 0),
+        refused(ETC1, (65_537, 0), &[], 1, 0),
     ]
 }

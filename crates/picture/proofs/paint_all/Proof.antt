@@ -19,7 +19,7 @@ paint-requires c κs =
     let s = b .before .before .before in
     let n = b .blocks-of in (
       (s .pre .narrow, s .pre .low, omega arith, omega (arith, n .ensures .0)),
-      (roomy (s .args .pic) _ (s .pre .roomy), rw (n .ensures .0, sub-zero) (s .pre .enough)),
+      (roomy (s .args .pic) _ (s .pre .fits) (s .pre .roomy), rw (n .ensures .0, sub-zero) (s .pre .enough)),
     )
 
 same-length : tie.Need-same-length

@@ -7,7 +7,7 @@ use types.Run.{OneOf, miss}
 use denote.Enum.Declared
 use Rattle.rules.specs.Answers.{said}
 use Rattle.rules.specs.declared.Answer.{Answer}
-use Rattle.rules.specs.declared.Answer.the-variants.{Done, TooLarge, ShortData, ShortImage, OutOfRange, NoChannel, CutShort, NoHead, OtherKind, WrongBlocks}
+use Rattle.rules.specs.declared.Answer.the-variants.{Done, TooLarge, ShortData, ShortImage, OutOfRange, NoChannel, CutShort, NoHead, OtherKind, WrongBlocks, ShortPitch}
 use Rattle.rules.proofs.Answer.{the-type}
 use Rattle.laws.proofs.Unique.{others}
 use borrow.Author.Needs.{needs}
@@ -26,6 +26,7 @@ unnamed CutShort t = refl
 unnamed NoHead t = refl
 unnamed OtherKind t = refl
 unnamed WrongBlocks t = refl
+unnamed ShortPitch t = refl
 
 -- the block as a word
 abbrev kept : ℕ → ℕ

@@ -1,9 +1,9 @@
--- `capi::yalivucu_decode_etc1_strict` meets its contract: an answer that names a block has it written, and any other names none.
+-- `capi::strict` meets its contract: an answer that names a block has it written, and any other names none.
 -- Assumes nothing.
 use mathlib.Core.Path.{refl, sym, ap}
 use types.Run.{miss}
 use denote.Ref.{now}
-use Rattle.rules.specs.Places.{sized, blocks}
+use Rattle.rules.specs.Places.{blocks}
 use Rattle.rules.specs.Guards.{inRange, badAt}
 use Rattle.rules.specs.Readers.{strictChecks}
 use Rattle.rules.specs.declared.Answer.{Answer}
@@ -12,11 +12,11 @@ use Rattle.laws.proofs.Unique.{others}
 use Rattle.capi.specs.Told.{answerNumber, blockOr}
 use Rattle.capi.proofs.Block.{unnamed}
 use borrow.Author.Needs.{needs}
-use Rattle.capi.proofs.yalivucu_decode_etc1_strict.Statement.{statement}
-use Rattle.capi.proofs.yalivucu_decode_etc1_strict.Tie as tie
+use Rattle.capi.proofs.strict.Statement.{statement}
+use Rattle.capi.proofs.strict.Tie as tie
 
-decode-etc1-strict-requires : tie.Need-decode-etc1-strict-requires
-decode-etc1-strict-requires c κs = search needs
+decode-etc1-strict-pitched-requires : tie.Need-decode-etc1-strict-pitched-requires
+decode-etc1-strict-pitched-requires c κs = search needs
 
 enum-known-answer : tie.Need-enum-known-answer
 enum-known-answer c = search needs
@@ -30,10 +30,10 @@ same-length c = search needs
 returns : tie.Need-returns
 returns c =
     let k = c .before .before .before .before in
-    let r = k .decode-etc1-strict in
+    let r = k .decode-etc1-strict-pitched in
     let a = k .before .before .before .before .args in
     let d = now (a .«data») in
-    let pic = sized (a .width) (a .height) in
+    let pic = a .pic in
     record {
       answer = r .result;
       reads = (
@@ -51,16 +51,16 @@ same-length-2 c = search needs
 returns-2 : tie.Need-returns-2
 returns-2 c =
     let k = c .before .before .before .before .before in
-    let r = k .decode-etc1-strict in
+    let r = k .decode-etc1-strict-pitched in
     let e = c .before .answer .given .1 in
     let stood = now (k .before .before .before .before .args .block) in
     record { answer = r .result; reads = (r .ensures, sym (ap (λ (a : Answer). blockOr a stood) e)); says = sym (ap answerNumber e) }
 
-pub yalivucu-decode-etc1-strict-spec : {M : Type 1} → statement M
-yalivucu-decode-etc1-strict-spec =
+pub strict-spec : {M : Type 1} → statement M
+strict-spec =
     tie.close
     (tie.spec
-    decode-etc1-strict-requires
+    decode-etc1-strict-pitched-requires
     enum-known-answer
     number-requires
     same-length

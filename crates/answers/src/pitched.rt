@@ -1,0 +1,31 @@
+// The picture readers that take a pitch, by the numbers of oracle/PROTOCOL.md: 40 more than those of their twins.
+use rules::Answer;
+use rules::Picture;
+
+pub fn picture(number: u32, data: &[u8], pic: Picture, image: &mut [u32]) -> Answer {
+    if number <= 43 {
+        return colours(number, data, pic, image);
+    }
+    if number <= 47 {
+        return channels(number, data, pic, image);
+    }
+    etc::decode_etc1_strict_pitched(data, pic, image)
+}
+
+fn colours(number: u32, data: &[u8], pic: Picture, image: &mut [u32]) -> Answer {
+    match number {
+        40 => etc::decode_etc1_pitched(data, pic, image),
+        41 => etc::decode_etc2_rgb_pitched(data, pic, image),
+        42 => etc::decode_etc2_rgba1_pitched(data, pic, image),
+        _ => etc::decode_etc2_rgba8_pitched(data, pic, image),
+    }
+}
+
+fn channels(number: u32, data: &[u8], pic: Picture, image: &mut [u32]) -> Answer {
+    match number {
+        44 => etc::decode_eacr_pitched(data, pic, image),
+        45 => etc::decode_eacr_signed_pitched(data, pic, image),
+        46 => etc::decode_eacrg_pitched(data, pic, image),
+        _ => etc::decode_eacrg_signed_pitched(data, pic, image),
+    }
+}
