@@ -103,7 +103,7 @@ def failures(checkout):
     note(status == 64 and "the sums differ" in sentence and "target/tool/log" in sentence, "a failed build: its cause and its log: " + sentence)
     status, _, sentence = checkout.run(TMPDIR="/nonexistent")
     note(status == 64 and "no temporary folder" in sentence, "no temporary folder: " + sentence)
-    status, _, sentence = checkout.run(PATH="/usr/bin:/bin")
+    status, _, sentence = checkout.run(PATH=os.defpath)
     note(status == 64 and "rt is not on the path" in sentence, "no kit: " + sentence)
     note(checkout.run()[0] == 0, "after a failed build another")
 
@@ -164,7 +164,7 @@ def installed(checkout, room):
     moved = os.path.join(room, "moved")
     os.rename(prefix, moved)
     os.rename(checkout.top, checkout.top + ".gone")
-    tool, env = os.path.join(moved, "bin", "unpack"), dict(os.environ, PATH="/usr/bin:/bin")
+    tool, env = os.path.join(moved, "bin", "unpack"), dict(os.environ, PATH=os.defpath)
     out = os.path.join(room, "out.png")
     run = subprocess.run([tool, example("glow.ktx"), out], capture_output=True, env=env)
     note(run.returncode == 0 and content(out) == content(example("glow.png")), "installed: without the checkout and the kit")
