@@ -2,9 +2,9 @@
 // the description with its pitch; two censuses; and the readers and the writer of sheets. None asks anything of its caller. Each
 // promises the answer and every element of what it is lent afterwards, for all inputs; what that is, crates/rules/specs/Readers.antt,
 // Census.antt and Sheets.antt say for all of them. Refusals: 1 width, height or pitch above 65,536 (of a sheet: width or height above
-// 16,384); 12 a pitch below the width; 2 too few bytes; 3 too few elements, or too little room for a sheet; 4 a block out of range, with
-// its number (strict only); 5 a channel above 3; of sheets, 7 a record cut short, 8 no head, 9 another kind, 10 not exactly the blocks. A
-// refusal changes nothing.
+// 16,384); 12 a pitch below the width; 2 too few bytes; 6 too many (strict only); 3 too few elements, or too little room for a sheet; 4 a
+// block out of range, with its number (strict only); 5 a channel above 3; of sheets, 7 a record cut short, 8 no head, 9 another kind, 10
+// not exactly the blocks. A refusal changes nothing.
 use rules::Answer;
 use rules::Format;
 use rules::Picture;
@@ -32,6 +32,7 @@ pub fn number(answer: Answer) -> u32
         Answer::ShortImage => 3,
         Answer::OutOfRange(_) => 4,
         Answer::NoChannel => 5,
+        Answer::LongData => 6,
         Answer::CutShort => 7,
         Answer::NoHead => 8,
         Answer::OtherKind => 9,
@@ -166,8 +167,8 @@ pub fn decode_eacrg_signed_pitched(data: &[u8], pic: Picture, image: &mut [u32])
     picture::read(Format::EacRgSigned, data, pic, image)
 }
 
-// Reads an ETC1 picture that holds no block out of range, and refuses any other with the number of the first such block. Each
-// pixel that it paints is the one that the ETC2 RGB rule gives.
+// Reads an ETC1 picture that holds no block out of range and has no bytes behind its blocks; it refuses any other, where a block is out
+// of range with the number of the first such block. Each pixel that it paints is the one that the ETC2 RGB rule gives.
 pub fn decode_etc1_strict(data: &[u8], width: usize, height: usize, image: &mut [u32]) -> Answer
     ensures { λ r. ⌜ ReadsStrict (now («data» .entry)) (sized width height) (now (image .entry)) r (now (image .exit)) ⌝ }
 {
