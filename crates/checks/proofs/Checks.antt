@@ -52,14 +52,14 @@ within-limit pic e =
 module _ (s : ℕ) (pic : Picture) (bytes elements : ℕ) (then : List ℕ) where
   -- where none of the four fails
   all : overLimit pic ≡ false → ltb (pic .pitch) (pic .width) ≡ false → ltb bytes (blocks pic * s) ≡ false → ltb elements (needed pic) ≡ false → Passed s pic bytes elements
-  all sides pitch data image =
+  all sides pitch short image =
       let t = within-limit pic sides in
       record {
         narrow = t .0;
         low = t .1;
         close = t .2;
         fits = ltb-false (pic .pitch) (pic .width) pitch;
-        enough = ltb-false bytes (blocks pic * s) data;
+        enough = ltb-false bytes (blocks pic * s) short;
         roomy = ltb-false elements (needed pic) image;
       }
 
