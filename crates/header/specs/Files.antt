@@ -2,7 +2,7 @@
 -- Assumes nothing.
 use mathlib.Core.Bool.{Bool, true, false, cond, not, _&&_}
 use mathlib.Core.List.{List, [], _∷_}
-use Prim.Native.Nat.{ℕ, _+_, _*_, _/_}
+use Prim.Native.Nat.{ℕ, _+_, _-_, _*_, _/_}
 use lib.Dec.{eqb, ltb}
 use lib.ListN.{length}
 use Rattle.rules.specs.Places.{sized, blocks}
@@ -13,9 +13,10 @@ use Rattle.rules.specs.declared.Format.the-variants.{Etc1, Etc2Rgb, Etc2Rgba1, 
 use Rattle.numbers.specs.Numbers.{little, big}
 use Rattle.header.specs.declared.Known.{Known}
 use Rattle.header.specs.declared.Known.the-variants.{As, Not}
+use Rattle.header.specs.declared.Texture.{Texture}
 use Rattle.header.specs.declared.Header.{Header}
 use Rattle.header.specs.declared.Header.the-variants.{Holds, TooLarge, ShortData, Cut, NoTexture}
-use Rattle.header.specs.declared.Header.the-variants.{NoVersion, NoFormat, SizesDisagree, NotFlat, NoPixels}
+use Rattle.header.specs.declared.Header.the-variants.{NoVersion, NoFormat, SizesDisagree, LongLevel, NotFlat, NoPixels}
 
 -- the number of each answer: document 01's where it has one, and from 20 on for files
 abbrev pub numberOf : Header → ℕ
@@ -27,6 +28,7 @@ numberOf NoTexture = 21
 numberOf NoVersion = 22
 numberOf NoFormat = 23
 numberOf SizesDisagree = 24
+numberOf (LongLevel t) = 24
 numberOf NotFlat = 25
 numberOf NoPixels = 26
 
@@ -98,14 +100,14 @@ bytesFor f w h = blocks (sized w h) * sizeOf f
 abbrev pub fileLimit : ℕ
 fileLimit = 16384
 
--- a picture of format f, w by h pixels, whose blocks start at byte start of a file of so many bytes
+-- a picture of format f, w by h pixels, whose blocks start at byte start of a file of so many bytes; its level goes to the file's end
 unfoldable pub laidOut : Format → ℕ → ℕ → ℕ → ℕ → Header
 laidOut f w h start len =
     cond (eqb w 0) NoPixels
     (cond (eqb h 0) NoPixels
     (cond (tooLarge fileLimit (sized w h)) TooLarge
     (cond (ltb len (start + bytesFor f w h)) ShortData
-    (Holds (record { format = f; width = w; height = h; start = start; bytes = bytesFor f w h })))))
+    (Holds (record { format = f; width = w; height = h; start = start; bytes = bytesFor f w h; level = len - start })))))
 
 -- a side, made up to whole blocks
 abbrev pub padded : ℕ → ℕ
@@ -143,12 +145,18 @@ leastFirst d = eqb (big 4 12 d) 0x01020304
 unfoldable pub levelAt : List ℕ → ℕ
 levelAt d = cond (ltb (length d) 64) 0 (64 + word32 (greatestFirst d) d 60)
 
+-- the same picture in a level of n bytes
+abbrev pub inLevel : Texture → ℕ → Texture
+inLevel t n =
+    record { format = t .format; width = t .width; height = t .height; start = t .start; bytes = t .bytes; level = n }
+
 -- a picture that is laid out well, held to the size of level 0 as the file tells it in four bytes
 unfoldable pub sizeTold : Bool → List ℕ → Header → Header
 sizeTold order level (Holds t) =
     cond (ltb (length level) 4) Cut
-    (cond (not (eqb (word32 order level 0) (t .bytes))) SizesDisagree
-    (Holds t))
+    (cond (ltb (word32 order level 0) (t .bytes)) SizesDisagree
+    (cond (ltb (t .bytes) (word32 order level 0)) (LongLevel (inLevel t (word32 order level 0)))
+    (Holds (inLevel t (word32 order level 0)))))
 sizeTold order level TooLarge = TooLarge
 sizeTold order level ShortData = ShortData
 sizeTold order level Cut = Cut
@@ -156,6 +164,7 @@ sizeTold order level NoTexture = NoTexture
 sizeTold order level NoVersion = NoVersion
 sizeTold order level NoFormat = NoFormat
 sizeTold order level SizesDisagree = SizesDisagree
+sizeTold order level (LongLevel t) = LongLevel t
 sizeTold order level NotFlat = NotFlat
 sizeTold order level NoPixels = NoPixels
 

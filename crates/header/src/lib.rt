@@ -13,13 +13,15 @@ pub enum Known {
     Not,
 }
 
-// What a file holds: a picture of this format and size, whose blocks start at this byte and are so many bytes.
+// What a file holds: a picture of this format and size, whose blocks start at this byte and are so many bytes, in a level of so many
+// bytes from there on.
 pub struct Texture {
     pub format: Format,
     pub width: usize,
     pub height: usize,
     pub start: usize,
     pub bytes: usize,
+    pub level: usize,
 }
 
 // What a header tells. The number of each refusal is `numberOf`, in specs/Files.antt.
@@ -39,6 +41,8 @@ pub enum Header {
     NoFormat,
     // sizes that contradict each other
     SizesDisagree,
+    // the same, where the level is told to have more bytes than the blocks need
+    LongLevel(Texture),
     // a volume, an array or the faces of a cube
     NotFlat,
     // a side of 0, which a PNG cannot have
@@ -140,6 +144,7 @@ fn laid_out(f: Format, width: usize, height: usize, start: usize, len: usize) ->
         height: height,
         start: start,
         bytes: bytes,
+        level: len - start,
     })
 }
 
@@ -198,10 +203,22 @@ fn size_told(order: bool, level: &[u8], header: Header) -> Header
     if level.len() < 4 {
         return Header::Cut;
     }
-    if word(order, level, 0) != t.bytes {
+    let told = word(order, level, 0);
+    if told < t.bytes {
         return Header::SizesDisagree;
     }
-    header
+    let held = Texture {
+        format: t.format,
+        width: t.width,
+        height: t.height,
+        start: t.start,
+        bytes: t.bytes,
+        level: told,
+    };
+    if t.bytes < told {
+        return Header::LongLevel(held);
+    }
+    Header::Holds(held)
 }
 
 // Whether a KTX header speaks of one picture.
