@@ -127,7 +127,9 @@ pub fn progress(row: usize, rows: usize) {
 pub fn help() {
     tell(b"unpack FILE OUT.png                        a PKM or KTX 1 file to a PNG\n");
     tell(b"unpack --raw FORMAT WIDTH HEIGHT FILE OUT.png   the same of bare blocks\n");
-    tell(b"unpack --check FILE     whether a strict ETC1 reader accepts the picture: it looks at\n");
+    tell(
+        b"unpack --check FILE     whether a strict ETC1 reader accepts the picture: it looks at\n",
+    );
     tell(b"                        every block of level 0, and at how many bytes that level has\n");
     tell(b"                        (a PKM file up to its end, a KTX file as many as it tells)\n");
     tell(b"unpack --info FILE      format, size and blocks\n");
