@@ -6,6 +6,7 @@ use mathlib.Core.Bool.{Bool, true, false, cond}
 use mathlib.Core.List.{List, [], _∷_}
 use Prim.Native.Nat.{ℕ, _*_, _<_, _≤_}
 use native.Mathlib.Omega.{arith}
+use native.Mathlib.Nat.{zero-mul}
 use native.Mathlib.Decide.{decLt}
 use borrow.Author.Tests.{lt-ltb, le-ltb, ltb-true}
 use lib.Dec.{ltb}
@@ -58,6 +59,10 @@ guard-not-six test n e =
       | no h ↦ omega (arith, e, ap (λ (l : List ℕ). getD l 0 0) (finds-none 4 test n (omega (arith, h))))
     ]
 
+-- sixteen bytes a block are more than eight, unless there is no block
+more-than-eight : (n long : ℕ) → n * 16 ≤ long → 0 < n → n * 8 < long
+more-than-eight n long h some = omega (arith, h, some)
+
 module _ (d : List ℕ) (pic : Picture) (image : List ℕ) (a : Answer) (new : List ℕ) (p : ReadsStrict d pic image a new) where
   -- what is asked after the checks
   abbrev then : List ℕ
@@ -95,25 +100,24 @@ module _ (d : List ℕ) (pic : Picture) (image : List ℕ) (a : Answer) (new : L
   -- "A mislabelled RGBA8 file passed strict ETC1: only its first half was looked at." A file of 16-byte blocks for this size of picture is
   -- twice as long as the ETC1 file, and strict never accepts it, unless it has no blocks
   module _ (f : Format) (sixteen : sizeOf f ≡ 16) where
-    twice : length d ≡ blocks pic * sizeOf f → length d ≡ blocks pic * 16
-    twice e = e ∙ ap (λ (s : ℕ). blocks pic * s) sixteen
+    longer : blocks pic * sizeOf f ≤ length d → 0 < blocks pic → blocks pic * 8 < length d
+    longer enough some = more-than-eight (blocks pic) (length d) (rw sixteen at enough) some
 
     pub a-file-of-16-byte-blocks-is-never-accepted : length d ≡ blocks pic * sizeOf f → 0 < blocks pic → a ≡ Done → ⊥
     a-file-of-16-byte-blocks-is-never-accepted long some e =
-        omega (arith, twice long, some, strict-accepts-only-the-exact-length e)
+        omega (arith, longer (omega (arith, long)) some, strict-accepts-only-the-exact-length e)
 
     -- it is refused with 6, where the size is none to refuse
     pub a-file-of-16-byte-blocks-gets-6 : length d ≡ blocks pic * sizeOf f → 0 < blocks pic → overLimit pic ≡ false → pic .width ≤ pic .pitch → Same a LongData new image
-    a-file-of-16-byte-blocks-gets-6 long some t i = strict-refuses-leftovers t i (omega (arith, twice long, some))
+    a-file-of-16-byte-blocks-gets-6 long some t i = strict-refuses-leftovers t i (longer (omega (arith, long)) some)
 
     -- a file without blocks is the one exception: it has no bytes under either name
     pub unless-it-has-no-blocks : Empty pic → length d ≡ blocks pic * sizeOf f → overLimit pic ≡ false → pic .width ≤ pic .pitch → Same a Done new image
     unless-it-has-no-blocks e long t i =
-        strict-changes-nothing-of-an-empty-picture d pic image a new p e t i (omega (arith, twice long, no-blocks pic e))
+        strict-changes-nothing-of-an-empty-picture d pic image a new p e t i (long ∙ rw (no-blocks pic e) (zero-mul (sizeOf f)))
 
     -- so no bytes of a picture with blocks are accepted both by a reader of 16-byte blocks and by strict ETC1, whatever the images
     pub no-file-passes-both : (old new' : List ℕ) → ReadsPicture f d pic old Done new' → 0 < blocks pic → a ≡ Done → ⊥
     no-file-passes-both old new' q some e =
         let k : Passed (sizeOf f) pic (length d) (length old) = passed-by (sizeOf f) pic (length d) (length old) (0 ∷ []) Done (q .says) refl in
-        let enough : blocks pic * 16 ≤ length d = rw sixteen at (k .enough) in
-        omega (arith, enough, some, strict-accepts-only-the-exact-length e)
+        omega (arith, longer (k .enough) some, strict-accepts-only-the-exact-length e)

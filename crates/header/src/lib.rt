@@ -138,13 +138,14 @@ fn laid_out(f: Format, width: usize, height: usize, start: usize, len: usize) ->
     if len < start + bytes {
         return Header::ShortData;
     }
+    let level = len - start;
     Header::Holds(Texture {
         format: f,
         width: width,
         height: height,
         start: start,
         bytes: bytes,
-        level: len - start,
+        level: level,
     })
 }
 
@@ -207,8 +208,9 @@ fn size_told(order: bool, level: &[u8], header: Header) -> Header
     if told < t.bytes {
         return Header::SizesDisagree;
     }
+    let f = t.format;
     let held = Texture {
-        format: t.format,
+        format: f,
         width: t.width,
         height: t.height,
         start: t.start,
