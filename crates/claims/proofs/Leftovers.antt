@@ -46,11 +46,11 @@ sixth sides pitch short long rest e f g h = rw (e, f, g, h)
 -- and where it is not among them
 not-six : (sides pitch short room : Bool) (then : List ℕ) → (getD then 0 0 ≡ 6 → ⊥)
     → getD (cond sides (1 ∷ []) (cond pitch (12 ∷ []) (cond short (2 ∷ []) (cond room (3 ∷ []) then)))) 0 0 ≡ 6 → ⊥
-not-six true pitch short room then no e = omega (arith, e)
-not-six false true short room then no e = omega (arith, e)
-not-six false false true room then no e = omega (arith, e)
-not-six false false false true then no e = omega (arith, e)
-not-six false false false false then no e = no e
+not-six true pitch short room then other e = omega (arith, e)
+not-six false true short room then other e = omega (arith, e)
+not-six false false true room then other e = omega (arith, e)
+not-six false false false true then other e = omega (arith, e)
+not-six false false false false then other e = other e
 
 guard-not-six : (test : ℕ → Bool) (n : ℕ) → getD (guarded 4 test n) 0 0 ≡ 6 → ⊥
 guard-not-six test n e =

@@ -50,7 +50,7 @@ word-requires c κs = search needs
 returns-3 : tie.Need-returns-3
 unfolding sizeTold
 returns-3 c =
-    let w = c .before in
+    let w = c .before .before in
     simp (
       w .before .before .before .header .given .1,
       le-ltb _ _ (w .before .if1 .left),
@@ -61,8 +61,8 @@ returns-3 c =
 returns-4 : tie.Need-returns-4
 unfolding sizeTold
 returns-4 c =
-    let e = c .before in
-    let w = e .before in
+    let e = c .before .before in
+    let w = e .before .before in
     simp (
       w .before .before .before .header .given .1,
       le-ltb _ _ (w .before .if1 .left),
@@ -74,8 +74,8 @@ returns-4 c =
 returns-5 : tie.Need-returns-5
 unfolding sizeTold
 returns-5 c =
-    let e = c .before in
-    let w = e .before in
+    let e = c .before .before in
+    let w = e .before .before in
     simp (
       w .before .before .before .header .given .1,
       le-ltb _ _ (w .before .if1 .left),
