@@ -10,11 +10,11 @@ use rules::Sheet;
 ghost use mathlib.Core.Path.{_≡_};
 ghost use mathlib.Core.Bool.{true, false};
 ghost use Rattle.rules.specs.Places.{sized, pitched};
-ghost use Rattle.rules.specs.Readers.{ReadsPicture, ReadsStrict, ReadsBlock, ReadsAlpha, ReadsChannel};
+ghost use Rattle.rules.specs.Readers.{ReadsPicture, ReadsStrict, ReadsOpaque, ReadsBlock, ReadsAlpha, ReadsChannel};
 ghost use Rattle.rules.specs.Census.{rgbTests, rgba1Tests};
 ghost use Rattle.rules.specs.Sheets.{ReadsSheet};
 ghost use Rattle.capi.specs.Census.{CountsInto};
-ghost use Rattle.capi.specs.Told.{Told, blockOr, HeadTold, WriterTold};
+ghost use Rattle.capi.specs.Told.{Told, answerNumber, blockOr, HeadTold, WriterTold};
 
 // Reads an ETC1 picture.
 #[no_mangle]
@@ -304,19 +304,12 @@ pub extern "C" fn yalivucu_decode_eacrg_signed_pitched(
     etc::number(etc::decode_eacrg_signed_pitched(data, pic, image))
 }
 
-// The strict reader of a picture with any pitch: the block that an answer names is written, and any other answer writes none.
-fn strict(data: &[u8], pic: Picture, image: &mut [u32], block: &mut usize) -> u32
-    ensures { λ r. ⌜ Told
-        (λ a. ReadsStrict (now («data» .entry)) pic (now (image .entry)) a (now (image .exit))
-        × (now (block .exit) ≡ blockOr a (now (block .entry))))
-        r ⌝ }
+// The number of an answer. The block that it names is written, and an answer that names none writes none.
+fn handed(answer: Answer, block: &mut usize) -> u32
+    ensures { λ r. ⌜ (r ≡ answerNumber answer) × (now (block .exit) ≡ blockOr answer (now (block .entry))) ⌝ }
 {
-    let answer = etc::decode_etc1_strict_pitched(data, pic, image);
-    let Answer::OutOfRange(n) = answer else {
-        return etc::number(answer);
-    };
-    *block = n;
-    4
+    *block = guard::block_or(answer, *block);
+    etc::number(answer)
 }
 
 // Reads an ETC1 picture that holds no block out of range. Where it refuses for one, `block` is its number; otherwise `block` stays as it
@@ -339,7 +332,7 @@ pub extern "C" fn yalivucu_decode_etc1_strict(
         height: height,
         pitch: width,
     };
-    strict(data, pic, image, block)
+    handed(etc::decode_etc1_strict_pitched(data, pic, image), block)
 }
 
 // The same of a picture with a pitch.
@@ -362,7 +355,53 @@ pub extern "C" fn yalivucu_decode_etc1_strict_pitched(
         height: height,
         pitch: pitch,
     };
-    strict(data, pic, image, block)
+    handed(etc::decode_etc1_strict_pitched(data, pic, image), block)
+}
+
+// Reads an ETC2 RGBA1 picture for a viewer that knows ETC2 RGB alone. Where it refuses for a block whose opaque bit is clear, `block` is its
+// number; otherwise `block` stays as it was.
+#[no_mangle]
+pub extern "C" fn yalivucu_decode_etc2_rgba1_opaque(
+    data: &[u8],
+    width: usize,
+    height: usize,
+    image: &mut [u32],
+    block: &mut usize,
+) -> u32
+    ensures { λ r. ⌜ Told
+        (λ a. ReadsOpaque (now («data» .entry)) (sized width height) (now (image .entry)) a (now (image .exit))
+        × (now (block .exit) ≡ blockOr a (now (block .entry))))
+        r ⌝ }
+{
+    let pic = Picture {
+        width: width,
+        height: height,
+        pitch: width,
+    };
+    handed(etc::decode_etc2_rgba1_opaque_pitched(data, pic, image), block)
+}
+
+// The same of a picture with a pitch.
+#[no_mangle]
+pub extern "C" fn yalivucu_decode_etc2_rgba1_opaque_pitched(
+    data: &[u8],
+    width: usize,
+    height: usize,
+    pitch: usize,
+    image: &mut [u32],
+    block: &mut usize,
+) -> u32
+    ensures { λ r. ⌜ Told
+        (λ a. ReadsOpaque (now («data» .entry)) (pitched width height pitch) (now (image .entry)) a (now (image .exit))
+        × (now (block .exit) ≡ blockOr a (now (block .entry))))
+        r ⌝ }
+{
+    let pic = Picture {
+        width: width,
+        height: height,
+        pitch: pitch,
+    };
+    handed(etc::decode_etc2_rgba1_opaque_pitched(data, pic, image), block)
 }
 
 // Reads an ETC1 block of 8 bytes into the elements 0 to 15.
