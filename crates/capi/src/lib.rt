@@ -308,7 +308,9 @@ pub extern "C" fn yalivucu_decode_eacrg_signed_pitched(
 fn handed(answer: Answer, block: &mut usize) -> u32
     ensures { λ r. ⌜ (r ≡ answerNumber answer) × (now (block .exit) ≡ blockOr answer (now (block .entry))) ⌝ }
 {
-    *block = guard::block_or(answer, *block);
+    if guard::names(answer) {
+        *block = guard::block_or(answer, 0);
+    }
     etc::number(answer)
 }
 
@@ -378,7 +380,10 @@ pub extern "C" fn yalivucu_decode_etc2_rgba1_opaque(
         height: height,
         pitch: width,
     };
-    handed(etc::decode_etc2_rgba1_opaque_pitched(data, pic, image), block)
+    handed(
+        etc::decode_etc2_rgba1_opaque_pitched(data, pic, image),
+        block,
+    )
 }
 
 // The same of a picture with a pitch.
@@ -401,7 +406,10 @@ pub extern "C" fn yalivucu_decode_etc2_rgba1_opaque_pitched(
         height: height,
         pitch: pitch,
     };
-    handed(etc::decode_etc2_rgba1_opaque_pitched(data, pic, image), block)
+    handed(
+        etc::decode_etc2_rgba1_opaque_pitched(data, pic, image),
+        block,
+    )
 }
 
 // Reads an ETC1 block of 8 bytes into the elements 0 to 15.

@@ -309,6 +309,7 @@ rgb-wrong d h = by d (clear (differs d) h) (kindBySums d) refl
     faint d t k =
         wrong-at rgbPixel rgba1Pixel d (255 ∷ 255 ∷ 0 ∷ 0 ∷ []) 0 0 refl (lit< tt) (lit< tt)
         (λ q. solid _ _ _ (sym (rgb-twos d t) ∙ q ∙ transparent d t k))
+
     by : (d : List ℕ) → differs d ≡ false → (k : Kind) → kindBySums d ≡ k → Wrong rgbPixel rgba1Pixel d
     by d t Individual e = faint d t (ap isPlanar e)
     by d t Differential e = faint d t (ap isPlanar e)

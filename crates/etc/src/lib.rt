@@ -190,7 +190,12 @@ pub fn decode_etc1_strict_pitched(data: &[u8], pic: Picture, image: &mut [u32]) 
 
 // Reads an ETC2 RGBA1 picture for a viewer that knows ETC2 RGB alone: it refuses one that has a block whose opaque bit is clear, with the
 // number of the first. Each pixel that it paints is the one that the RGBA1 rule and the RGB rule give.
-pub fn decode_etc2_rgba1_opaque(data: &[u8], width: usize, height: usize, image: &mut [u32]) -> Answer
+pub fn decode_etc2_rgba1_opaque(
+    data: &[u8],
+    width: usize,
+    height: usize,
+    image: &mut [u32],
+) -> Answer
     ensures { λ r. ⌜ ReadsOpaque (now («data» .entry)) (sized width height) (now (image .entry)) r (now (image .exit)) ⌝ }
 {
     let pic = Picture {

@@ -9,7 +9,7 @@ ghost use lib.ListN.{length, getD};
 ghost use Rattle.rules.specs.Places.{bytesOf};
 ghost use Rattle.rules.specs.Answers.{said, firstOf, guarded};
 ghost use Rattle.laws.specs.Kinds.{strange};
-ghost use Rattle.guard.specs.Viewers.{guardOf};
+ghost use Rattle.guard.specs.Viewers.{guardOf, hasValue};
 
 // The older viewers: one that knows ETC1 alone, and one that knows ETC2 RGB, but nothing transparent.
 pub enum Viewer {
@@ -34,6 +34,27 @@ pub fn named(viewer: Viewer, block: usize) -> Answer
     match viewer {
         Viewer::Etc1 => Answer::OutOfRange(block),
         Viewer::Opaque => Answer::NotOpaque(block),
+    }
+}
+
+// Whether an answer names a block.
+pub fn names(answer: Answer) -> bool
+    ensures { λ r. ⌜ r ≡ hasValue (said answer) ⌝ }
+{
+    match answer {
+        Answer::Done => false,
+        Answer::TooLarge => false,
+        Answer::ShortData => false,
+        Answer::ShortImage => false,
+        Answer::OutOfRange(_) => true,
+        Answer::NoChannel => false,
+        Answer::LongData => false,
+        Answer::CutShort => false,
+        Answer::NoHead => false,
+        Answer::OtherKind => false,
+        Answer::WrongBlocks => false,
+        Answer::NotOpaque(_) => true,
+        Answer::ShortPitch => false,
     }
 }
 
@@ -62,13 +83,10 @@ pub fn block_or(answer: Answer, stood: usize) -> usize
 fn is_strange(kind: Kind) -> bool
     ensures { λ r. ⌜ r ≡ strange kind ⌝ }
 {
-    match kind {
-        Kind::Individual => false,
-        Kind::Differential => false,
-        Kind::T => true,
-        Kind::H => true,
-        Kind::Planar => true,
-    }
+    let (Kind::Individual | Kind::Differential) = kind else {
+        return true;
+    };
+    false
 }
 
 // Whether a viewer must not show a block: by its kind, or by its opaque bit.

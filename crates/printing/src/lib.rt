@@ -18,12 +18,18 @@ fn say_element(element: u32) {
     io::print_hex(STDOUT_FILENO, element as u64, 8);
 }
 
-// Prints an answer's number, and the block that refusal 4 names.
+fn say_block(block: usize) {
+    say(b" block ");
+    say_number(block);
+}
+
+// Prints an answer's number, and the block that refusal 4 or 11 names.
 pub fn say_answer(answer: Answer) {
     say_number(etc::number(answer) as usize);
-    if let Answer::OutOfRange(block) = answer {
-        say(b" block ");
-        say_number(block);
+    match answer {
+        Answer::OutOfRange(block) => say_block(block),
+        Answer::NotOpaque(block) => say_block(block),
+        _ => {}
     }
 }
 

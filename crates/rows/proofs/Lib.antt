@@ -1,4 +1,4 @@
 pub mod Bytes
 pub mod Whole
-pub mod Strict
+pub mod Scanned
 pub mod Row

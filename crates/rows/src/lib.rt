@@ -1,6 +1,6 @@
 // A picture in rows of blocks: each row is read from its own bytes, as a picture of its own, and shows what it shows in the
-// whole. So a picture needs the memory of one row. That all rows are the whole, and that the first row which a strict reader
-// refuses names the first block, is in proofs/.
+// whole. So a picture needs the memory of one row. That all rows are the whole, and that the first row which an older
+// viewer's reader refuses names the first block, is in proofs/.
 use rules::Answer;
 use rules::Format;
 use rules::Picture;

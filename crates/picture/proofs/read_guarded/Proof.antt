@@ -14,7 +14,7 @@ use Rattle.guard.specs.Viewers.{guardOf}
 use Rattle.guard.proofs.Scan.{eight, sound}
 use Rattle.picture.specs.Checked.{checksFor}
 use Rattle.picture.proofs.Guard.{reads}
-use Rattle.picture.proofs.Viewed.{passed-by, in-order}
+use Rattle.picture.proofs.Viewed.{passed-by, in-order, as-own}
 use borrow.Author.Needs.{needs}
 use Rattle.picture.proofs.read_guarded.Statement.{statement}
 use Rattle.picture.proofs.read_guarded.Tie as tie
@@ -26,13 +26,30 @@ own-requires : tie.Need-own-requires
 own-requires c κs = search needs
 
 paint-if-done-requires : tie.Need-paint-if-done-requires
-paint-if-done-requires c κs = ?
+paint-if-done-requires c κs h =
+    let o = c .before in
+    let r = o .before in
+    let a = r .before .before .before .args in
+    let d = now (a .«data») in
+    let g = guardOf (a .viewer) in
+    subst (λ (s : ℕ). Passed s (a .pic) (length d) (length (now (a .image)))) (sym (ap sizeOf (o .own .ensures) ∙ eight (a .viewer)))
+    (passed-by (a .viewer) (a .pic) (length d) (length (now (a .image))) (guarded (g .number) (badAt g d) (blocks (a .pic))) (r .guarded-answer .result) (r .guarded-answer .ensures) h)
 
 same-length : tie.Need-same-length
 same-length c = search needs
 
 returns : tie.Need-returns
-returns c = ?
+returns c =
+    let p = c .before .before in
+    let o = p .before .before in
+    let r = o .before in
+    let a = r .before .before .before .args in
+    let d = now (a .«data») in
+    let l = now (a .image) in
+    let v = said (r .guarded-answer .result) in
+    reads (guardOf (a .viewer)) (sound (a .viewer)) (a .pic) d l (checksFor (a .viewer) (a .pic) (length d) (length l))
+    (in-order (a .viewer) (a .pic) (length d) (length l)) v _ (p .paint-if-done .result) (r .guarded-answer .ensures)
+    (as-own (o .own .result) (guardOf (a .viewer) .own) (a .pic) d l v _ (p .paint-if-done .result) (o .own .ensures) (p .paint-if-done .ensures))
 
 pub read-guarded-spec : {M : Type 1} → statement M
 read-guarded-spec = tie.close (tie.spec guarded-answer-requires own-requires paint-if-done-requires same-length returns)
