@@ -192,8 +192,14 @@ fn opaque_names_the_first_block() {
     let mut image = [STOOD; 25];
     let refused = read_opaque(&data, Picture::new(5, 5), &mut image);
     assert_eq!(refused, Err(Refusal::NotOpaque { block: 2 }));
-    assert_eq!(read_opaque(&data, Picture::new(5, 5), &mut image[..24]), Err(Refusal::ShortImage));
-    assert_eq!(read_opaque(&data[..31], Picture::new(5, 5), &mut image), Err(Refusal::ShortData));
+    assert_eq!(
+        read_opaque(&data, Picture::new(5, 5), &mut image[..24]),
+        Err(Refusal::ShortImage)
+    );
+    assert_eq!(
+        read_opaque(&data[..31], Picture::new(5, 5), &mut image),
+        Err(Refusal::ShortData)
+    );
     assert_eq!(
         read_opaque(&data[..31], Picture::new(5, 5).with_pitch(4), &mut image),
         Err(Refusal::ShortPitch)
@@ -220,7 +226,10 @@ fn strict_leaves_nothing_over() {
         let refused = read_strict(&data[..8 + more], Picture::new(4, 4), &mut image[..15]);
         assert_eq!(refused, Err(Refusal::LongData));
     }
-    assert_eq!(read_strict(&data[..1], Picture::new(0, 4), &mut image), Err(Refusal::LongData));
+    assert_eq!(
+        read_strict(&data[..1], Picture::new(0, 4), &mut image),
+        Err(Refusal::LongData)
+    );
     assert_eq!(image, [STOOD; 16]);
     assert_eq!(read(Format::Etc1, &data, Picture::new(4, 4), &mut image), Ok(()));
     assert_eq!(read_strict(&data[..8], Picture::new(4, 4), &mut image), Ok(()));

@@ -35,8 +35,7 @@ pub const CENSUS_RGBA1: u32 = 33;
 /// A picture reader that takes a pitch has its twin's number and so many more.
 pub const PITCHED: u32 = 40;
 
-pub const PICTURES: [u32; 10] =
-    [ETC1, RGB, RGBA1, RGBA8, EACR, EACR_SIGNED, EACRG, EACRG_SIGNED, STRICT, OPAQUE];
+pub const PICTURES: [u32; 10] = [ETC1, RGB, RGBA1, RGBA8, EACR, EACR_SIGNED, EACRG, EACRG_SIGNED, STRICT, OPAQUE];
 pub const BLOCKS: std::ops::RangeInclusive<u32> = BLOCK_ETC1..=BLOCK_EACRG_SIGNED;
 pub const CENSUSES: std::ops::RangeInclusive<u32> = CENSUS_RGB..=CENSUS_RGBA1;
 
