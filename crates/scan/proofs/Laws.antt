@@ -159,14 +159,14 @@ not-asked t k r e a b c s why =
     }
 
 -- one with bytes left over is refused with 6
-pub left-over : (t : Texture) (r : ℕ) → r ≡ 6 → leftOver (viewerOf (t .format)) t ≡ true → Judges t r
-left-over t r e l =
+pub left-over : (t : Texture) (v : Viewer) (r : ℕ) → r ≡ 6 → v ≡ viewerOf (t .format) → leftOver v t ≡ true → Judges t r
+left-over t v r e f l =
     record {
       accepts = λ q. absurd (omega (arith, e, q));
       names = λ q. absurd (omega (arith, e, q));
       names-clear = λ q. absurd (omega (arith, e, q));
-      only-then = λ q. l;
-      then-always = λ f w h m. e;
+      only-then = λ q. sym (ap (λ (u : Viewer). leftOver u t) f) ∙ l;
+      then-always = λ a w h m. e;
     }
 
 -- what a scan says is never 6

@@ -1,11 +1,9 @@
 -- `scan::picture` meets its contract: only what was scanned is accepted or refused for a block, and what has bytes left over is refused
 -- with 6.
 -- Assumes nothing.
-use mathlib.Core.Path.{_∙_, sym, ap}
+use mathlib.Core.Path.{_∙_, sym}
 use mathlib.Core.Bool.{true≢false}
 use native.Mathlib.Omega.{arith}
-use Rattle.guard.specs.declared.Viewer.{Viewer}
-use Rattle.scan.specs.Scan.{leftOver}
 use Rattle.scan.proofs.Laws.{not-asked, left-over, spoken}
 use borrow.Author.Needs.{needs}
 use Rattle.scan.proofs.picture.Statement.{statement}
@@ -50,8 +48,7 @@ refused-requires-4 c κs = search needs
 returns-4 : tie.Need-returns-4
 returns-4 c =
     let l = c .before .before in
-    left-over _ _ (c .refused4 .ensures)
-    (ap (λ (v : Viewer). leftOver v (l .before .before .before .before .before .before .before .args .t)) (sym (l .before .viewer-of .ensures)) ∙ sym (l .left-over .ensures) ∙ c .before .if4 .taken)
+    left-over _ _ _ (c .refused4 .ensures) (l .before .viewer-of .ensures) (sym (l .left-over .ensures) ∙ c .before .if4 .taken)
 
 scan-rows-requires : tie.Need-scan-rows-requires
 scan-rows-requires c κs = search needs
