@@ -15,7 +15,6 @@ use lib.Seq.{length-take-le}
 use Rattle.rules.specs.Places.{sized, across, blocks, bytesOf}
 use Rattle.rules.specs.Answers.{said, accepts, firstOf, guarded}
 use Rattle.rules.specs.Colour.{outOfRange}
-use Rattle.rules.specs.declared.Picture.{Picture}
 use Rattle.rules.specs.declared.Answer.{Answer}
 use Rattle.rules.specs.declared.Answer.the-variants.{Done, ShortData, OutOfRange}
 use Rattle.place.proofs.Grid.{wide}
