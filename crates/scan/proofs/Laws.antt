@@ -17,6 +17,7 @@ use Rattle.rules.specs.Answers.{said, accepts, firstOf, guarded}
 use Rattle.rules.specs.Colour.{outOfRange}
 use Rattle.rules.specs.declared.Answer.{Answer}
 use Rattle.rules.specs.declared.Answer.the-variants.{Done, ShortData, OutOfRange}
+use Rattle.laws.proofs.Guards.{finds, finds-none}
 use Rattle.place.proofs.Grid.{wide}
 use Rattle.header.specs.Files.{fileLimit}
 use Rattle.rows.specs.Rows.{scanned, firstIn, scannedRow}
@@ -162,10 +163,10 @@ not-six : (test : ℕ → Bool) (n : ℕ) (answer : Answer) → said answer ≡ 
 not-six test n answer e q =
     elim (decLt (firstOf test n) n) [
       | yes h ↦
-          let z : numberOf answer ≡ 4 = ap (λ (l : List ℕ). getD l 0 0) (e ∙ rw (lt-ltb (firstOf test n) n h)) in
+          let z : numberOf answer ≡ 4 = ap (λ (l : List ℕ). getD l 0 0) (e ∙ finds 4 test n h) in
           omega (arith, q)
       | no h ↦
-          let z : numberOf answer ≡ 0 = ap (λ (l : List ℕ). getD l 0 0) (e ∙ rw (le-ltb (firstOf test n) n (omega (arith, h)))) in
+          let z : numberOf answer ≡ 0 = ap (λ (l : List ℕ). getD l 0 0) (e ∙ finds-none 4 test n (omega (arith, h))) in
           omega (arith, q)
     ]
 
