@@ -5,11 +5,11 @@ use rules::Kind;
 ghost use mathlib.Core.Path.{_≡_};
 ghost use mathlib.Core.List.{[], _∷_};
 ghost use Prim.Native.Nat.{ℕ, _*_, _≤_};
-ghost use lib.ListN.{length, getD};
+ghost use lib.ListN.{length};
 ghost use Rattle.rules.specs.Places.{bytesOf};
 ghost use Rattle.rules.specs.Answers.{said, firstOf, guarded};
 ghost use Rattle.laws.specs.Kinds.{strange};
-ghost use Rattle.guard.specs.Viewers.{guardOf, hasValue};
+ghost use Rattle.guard.specs.Viewers.{guardOf};
 
 // The older viewers: one that knows ETC1 alone, and one that knows ETC2 RGB, but nothing transparent.
 pub enum Viewer {
@@ -34,48 +34,6 @@ pub fn named(viewer: Viewer, block: usize) -> Answer
     match viewer {
         Viewer::Etc1 => Answer::OutOfRange(block),
         Viewer::Opaque => Answer::NotOpaque(block),
-    }
-}
-
-// Whether an answer names a block.
-pub fn names(answer: Answer) -> bool
-    ensures { λ r. ⌜ r ≡ hasValue (said answer) ⌝ }
-{
-    match answer {
-        Answer::Done => false,
-        Answer::TooLarge => false,
-        Answer::ShortData => false,
-        Answer::ShortImage => false,
-        Answer::OutOfRange(_) => true,
-        Answer::NoChannel => false,
-        Answer::LongData => false,
-        Answer::CutShort => false,
-        Answer::NoHead => false,
-        Answer::OtherKind => false,
-        Answer::WrongBlocks => false,
-        Answer::NotOpaque(_) => true,
-        Answer::ShortPitch => false,
-    }
-}
-
-// The block that an answer names, or what stood there where it names none.
-pub fn block_or(answer: Answer, stood: usize) -> usize
-    ensures { λ r. ⌜ r ≡ getD (said answer) 1 stood ⌝ }
-{
-    match answer {
-        Answer::Done => stood,
-        Answer::TooLarge => stood,
-        Answer::ShortData => stood,
-        Answer::ShortImage => stood,
-        Answer::OutOfRange(block) => block,
-        Answer::NoChannel => stood,
-        Answer::LongData => stood,
-        Answer::CutShort => stood,
-        Answer::NoHead => stood,
-        Answer::OtherKind => stood,
-        Answer::WrongBlocks => stood,
-        Answer::NotOpaque(block) => block,
-        Answer::ShortPitch => stood,
     }
 }
 

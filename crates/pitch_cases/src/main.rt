@@ -1,6 +1,6 @@
-// Runs the picture readers that take a pitch: around the limits, at 65,536 by 1 and 1 by 65,536, and at every size from 0 to 9 each way with
-// gaps of 0 to 5 elements, and prints what came out. An element is wrong where it is not the pixel that the reader paints without a
-// gap, or, in a gap or behind the last pixel, no more the 11111111 (hex) of before.
+// Runs the picture readers that take a pitch: around the limits, at 65,536 by 1 and 1 by 65,536, and at every size from 0 to 9 each
+// way with gaps of 0 to 5 elements, and prints what came out. An element is wrong where it is not the pixel that the reader paints
+// without a gap, or, in a gap or behind the last pixel, no more the 11111111 (hex) of before.
 use rules::Answer;
 use rules::Picture;
 ghost use mathlib.Core.Path.{_≡_};
@@ -242,6 +242,7 @@ fn fresh_case(reader: usize, width: usize, height: usize, gap: usize)
     requires { ⌜ (reader < 9) × (width < 10) × (height < 10) × (gap < 6) ⌝ }
 {
     let pic = pitched(width, height, width + gap);
+    let elements = elements_of(pic);
     let mut data = [0u8; 144];
     let mut painted = [0x11111111u32; 84];
     let mut image = [0x11111111u32; 128];
@@ -258,7 +259,7 @@ fn fresh_case(reader: usize, width: usize, height: usize, gap: usize)
     );
     short_pitch(reader, pic, &data, &mut image);
     short_data(reader, pic, &data, needed, &mut image);
-    short_image(reader, pic, &data, n, &mut image, elements_of(pic));
+    short_image(reader, pic, &data, n, &mut image, elements);
     printing::say(b" ");
     printing::say_answer(part(reader, &data, n, pic, &mut image, 128));
     printing::say(b"/");

@@ -18,18 +18,12 @@ fn say_element(element: u32) {
     io::print_hex(STDOUT_FILENO, element as u64, 8);
 }
 
-fn say_block(block: usize) {
-    say(b" block ");
-    say_number(block);
-}
-
 // Prints an answer's number, and the block that refusal 4 or 11 names.
 pub fn say_answer(answer: Answer) {
-    say_number(etc::number(answer) as usize);
-    match answer {
-        Answer::OutOfRange(block) => say_block(block),
-        Answer::NotOpaque(block) => say_block(block),
-        _ => {}
+    say_number(spoken::number(answer) as usize);
+    if spoken::names(answer) {
+        say(b" block ");
+        say_number(spoken::block_or(answer, 0));
     }
 }
 

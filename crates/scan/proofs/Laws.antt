@@ -15,7 +15,6 @@ use lib.Seq.{length-take-le}
 use Rattle.rules.specs.Places.{sized, across, blocks, bytesOf}
 use Rattle.rules.specs.Answers.{said, accepts, firstOf, guarded}
 use Rattle.rules.specs.Guards.{Guard}
-use Rattle.rules.specs.declared.Picture.{Picture}
 use Rattle.rules.specs.declared.Answer.{Answer}
 use Rattle.rules.specs.declared.Answer.the-variants.{Done, ShortData}
 use Rattle.laws.proofs.Guards.{finds, finds-none}
@@ -24,10 +23,10 @@ use Rattle.guard.specs.Viewers.{guardOf}
 use Rattle.guard.specs.declared.Viewer.{Viewer}
 use Rattle.guard.specs.declared.Viewer.the-variants as viewer
 use Rattle.guard.proofs.Scan.{sound}
-use Rattle.header.specs.Files.{fileLimit}
-use Rattle.rows.specs.Rows.{scanned, firstIn, scannedRow}
-use Rattle.rows.proofs.Scanned.{after-row, settled}
-use Rattle.header.specs.declared.Texture.{Texture}
+use Rattle.textures.specs.Textures.{fileLimit}
+use Rattle.strips.specs.Rows.{scanned, firstIn, scannedRow}
+use Rattle.strips.proofs.Scanned.{after-row, settled}
+use Rattle.textures.specs.declared.Texture.{Texture}
 use Rattle.scan.specs.Scan.{isAsked, viewerOf, leftOver, numberOf, ScansRow, Scans, Looked, Judges}
 
 -- ---- a row
@@ -122,13 +121,13 @@ ends v w h n rows e f s =
 -- a block that an answer names is one of the picture's
 pub placed : (v : Viewer) (w h k i : ℕ) (answer : Answer) → w ≤ fileLimit → h ≤ fileLimit → said answer ≡ k ∷ i ∷ [] → 2 < k
     → Scans v (sized w h) answer
-    → (0 < across w) × (i < 16777216)
+    → (0 < across w) × (i < 0x1000000)
 placed v w h k i answer a b e t s =
     let p : i < across w * across h =
     ⊎-elim (λ q. absurd (not-short k (i ∷ []) (sym (ap said q) ∙ e) (λ z. omega (arith, z))))
     (λ q. found (guardOf v .number) (λ m. guardOf v .bad (bytesOf 8 (q .bytes) m)) (across w * across h) k i (sym (q .says) ∙ e) t)
     s in
-    let m : across w * across h ≤ 16777216 =
+    let m : across w * across h ≤ 0x1000000 =
     let x : across w ≤ 4096 = omega arith in
     let y : across h ≤ 4096 = omega arith in
     mul-le-mul x y in

@@ -14,12 +14,12 @@ use Rattle.rules.specs.declared.Answer.{Answer}
 use Rattle.rules.specs.declared.Answer.the-variants.{ShortData}
 use Rattle.rules.specs.declared.Format.{Format}
 use Rattle.rules.specs.declared.Format.the-variants.{Etc1, Etc2Rgb, Etc2Rgba1, Etc2Rgba8, EacR, EacRSigned, EacRg, EacRgSigned}
-use Rattle.header.specs.Files.{fileLimit}
-use Rattle.header.specs.declared.Texture.{Texture}
+use Rattle.textures.specs.Textures.{fileLimit}
+use Rattle.textures.specs.declared.Texture.{Texture}
 use Rattle.guard.specs.Viewers.{guardOf}
 use Rattle.guard.specs.declared.Viewer.{Viewer}
 use Rattle.guard.specs.declared.Viewer.the-variants as viewer
-use Rattle.rows.specs.Rows.{scanned, scannedRow}
+use Rattle.strips.specs.Rows.{scanned, scannedRow}
 
 -- the formats of which an older viewer is asked, and which: one that knows ETC1 alone of ETC1 and RGB, an opaque-only one of RGBA1
 abbrev pub isAsked : Format → Bool

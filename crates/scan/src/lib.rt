@@ -2,16 +2,16 @@
 // minds, and then its blocks, row by row. What is said follows from the bytes of each row by functions whose contracts are equations;
 // reading them and writing the words is all that no contract speaks of.
 use guard::Viewer;
-use header::Texture;
 use rules::Answer;
 use rules::Format;
+use textures::Texture;
 ghost use mathlib.Core.Path.{_≡_};
 ghost use Prim.Native.Nat.{_+_, _*_, _<_, _≤_};
 ghost use lib.ListN.{length};
 ghost use Rattle.rules.specs.Places.{sized};
 ghost use Rattle.rules.specs.Answers.{said};
-ghost use Rattle.header.specs.Files.{fileLimit};
-ghost use Rattle.rows.specs.Rows.{scannedRow};
+ghost use Rattle.textures.specs.Textures.{fileLimit};
+ghost use Rattle.strips.specs.Rows.{scannedRow};
 ghost use Rattle.guard.specs.Viewers.{guardOf};
 ghost use Rattle.scan.specs.Scan.{isAsked, viewerOf, leftOver, numberOf, ScansRow, Scans, Judges};
 
@@ -30,7 +30,7 @@ fn after_row(viewer: Viewer, row: &[u8], n: usize, j: usize) -> Answer
 
 // Reads row j of n blocks, which is next in the file, and scans it.
 fn scan_row(viewer: Viewer, fd: i32, n: usize, j: usize, bytes: &mut [u8]) -> Answer
-    requires { ⌜ (n ≤ 4096) × (j < 4096) × (65536 ≤ length (now bytes)) ⌝ }
+    requires { ⌜ (n ≤ 4096) × (j < 4096) × (0x10000 ≤ length (now bytes)) ⌝ }
     ensures { λ r. ⌜ ScansRow viewer n j (now (bytes .exit)) r ⌝ }
 {
     let size = n * 8;
@@ -46,8 +46,8 @@ fn scan_rows(viewer: Viewer, fd: i32, width: usize, height: usize) -> Answer
     requires { ⌜ (width ≤ fileLimit) × (height ≤ fileLimit) ⌝ }
     ensures { λ r. ⌜ Scans viewer (sized width height) r ⌝ }
 {
-    let n = rows::across(width);
-    let rows = rows::across(height);
+    let n = strips::across(width);
+    let rows = strips::across(height);
     let mut room = io::large_buffer();
     let bytes: &mut [u8] = &mut room;
     let mut j: usize = 0;
@@ -65,7 +65,7 @@ fn scan_rows(viewer: Viewer, fd: i32, width: usize, height: usize) -> Answer
 fn number(answer: Answer) -> u64
     ensures { λ r. ⌜ r ≡ numberOf answer ⌝ }
 {
-    etc::number(answer) as u64
+    spoken::number(answer) as u64
 }
 
 // Says what a viewer's reader says of a picture: the words follow from the answer alone.
@@ -74,8 +74,8 @@ fn say(viewer: Viewer, answer: Answer, width: usize, height: usize)
 {
     match answer {
         Answer::Done => words::accepted(viewer),
-        Answer::OutOfRange(block) => words::refused_block(viewer, block, rows::across(width)),
-        Answer::NotOpaque(block) => words::refused_block(viewer, block, rows::across(width)),
+        Answer::OutOfRange(block) => words::refused_block(viewer, block, strips::across(width)),
+        Answer::NotOpaque(block) => words::refused_block(viewer, block, strips::across(width)),
         _ => words::refusal(number(answer)),
     }
 }
@@ -137,17 +137,17 @@ pub fn picture(fd: i32, t: Texture) -> u64
 {
     let f = t.format;
     if !is_asked(f) {
-        return refused(27);
+        return refused(words::NO_VIEWER);
     }
     if 16384 < t.width {
-        return refused(1);
+        return refused(words::TOO_LARGE);
     }
     if 16384 < t.height {
-        return refused(1);
+        return refused(words::TOO_LARGE);
     }
     let viewer = viewer_of(f);
     if left_over(viewer, t) {
-        return refused(6);
+        return refused(words::LONG_DATA);
     }
     let answer = scan_rows(viewer, fd, t.width, t.height);
     say(viewer, answer, t.width, t.height);

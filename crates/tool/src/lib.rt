@@ -4,9 +4,9 @@ mod args;
 mod source;
 
 use call::Asked;
-use header::Header;
-use header::Texture;
 use source::Source;
+use textures::Header;
+use textures::Texture;
 
 // Says what a header tells against a picture, and the number of that.
 fn refused(header: Header) -> u64 {
@@ -28,8 +28,8 @@ fn info(source: Source) -> u64 {
 // Whether an older viewer may show a picture of a file.
 fn scanned(fd: i32, t: Texture) -> u64 {
     if !source::seek(fd, t.start) {
-        words::refusal(30);
-        return 30;
+        words::refusal(words::NO_FILE);
+        return words::NO_FILE;
     }
     scan::picture(fd, t)
 }
@@ -53,12 +53,12 @@ fn unpacked(source: Source, place: usize) -> u64 {
     let mut path = io::buffer();
     let n = os::arg(place, &mut path);
     if os::errno() != 0 {
-        words::refusal(32);
-        return 32;
+        words::refusal(words::NO_CALL);
+        return words::NO_CALL;
     }
     if !source::seek(source.fd, t.start) {
-        words::refusal(30);
-        return 30;
+        words::refusal(words::NO_FILE);
+        return words::NO_FILE;
     }
     writer::picture(source.fd, t, &path[..n])
 }
@@ -93,8 +93,8 @@ fn number_for(what: Asked) -> u64 {
             0
         }
         Asked::Nothing => {
-            words::refusal(32);
-            32
+            words::refusal(words::NO_CALL);
+            words::NO_CALL
         }
         _ => answered(what),
     }

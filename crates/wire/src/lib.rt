@@ -2,7 +2,7 @@
 // and the first eight bytes of an answer.
 use rules::Answer;
 ghost use mathlib.Core.Path.{_≡_};
-ghost use mathlib.Core.List.{[], _∷_};
+ghost use mathlib.Core.List.{_∷_};
 ghost use Prim.Native.Nat.{_*_, _/_, _%_, _<_, _≤_};
 ghost use lib.ListN.{length, getD};
 ghost use Rattle.rules.specs.Answers.{said};
@@ -117,7 +117,7 @@ pub fn is_case(head: &[u8; 24]) -> bool
 pub fn block(answer: Answer) -> u32
     ensures { λ r. ⌜ r ≡ getD (said answer) 1 0 % 0x100000000 ⌝ }
 {
-    (guard::block_or(answer, 0) % 0x100000000) as u32
+    (spoken::block_or(answer, 0) % 0x100000000) as u32
 }
 
 // The first eight bytes of an answer: two words, of which the first is below 256.

@@ -32,6 +32,9 @@ loop-less c = search needs
 loop-again : tie.Need-loop-again Inv-loop μ-loop
 loop-again c = search needs
 
+long-requires-2 : tie.Need-long-requires-2 Inv-loop μ-loop
+long-requires-2 c κs = search needs
+
 slice-aggregate-say : tie.Need-slice-aggregate-say Inv-loop μ-loop
 slice-aggregate-say c = search needs
 
@@ -54,6 +57,7 @@ long-of-spec =
     add-reader
     loop-less
     loop-again
+    long-requires-2
     slice-aggregate-say
     say-requires
     returns)

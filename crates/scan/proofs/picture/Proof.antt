@@ -4,6 +4,7 @@
 use mathlib.Core.Path.{_∙_, sym}
 use mathlib.Core.Bool.{true≢false}
 use native.Mathlib.Omega.{arith}
+use borrow.Author.Tests.{not-true}
 use Rattle.scan.proofs.Laws.{not-asked, left-over, spoken}
 use borrow.Author.Needs.{needs}
 use Rattle.scan.proofs.picture.Statement.{statement}
@@ -18,7 +19,7 @@ refused-requires c κs = search needs
 returns : tie.Need-returns
 returns c =
     not-asked _ 27 _ (c .refused .ensures) (λ z. omega (arith, z)) (λ z. omega (arith, z)) (λ z. omega (arith, z)) (λ z. omega (arith, z))
-    (λ f w h. true≢false (sym f ∙ sym (c .before .before .is-asked .ensures) ∙ c .before .if1 .taken))
+    (λ f w h. true≢false (sym f ∙ sym (c .before .before .is-asked .ensures) ∙ not-true (c .before .before .is-asked .result) (c .before .if1 .taken)))
 
 refused-requires-2 : tie.Need-refused-requires-2
 refused-requires-2 c κs = search needs
