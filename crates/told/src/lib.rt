@@ -34,6 +34,7 @@ fn handed(answer: Answer, block: &mut usize) -> u32
 {
     if spoken::names(answer) {
         *block = spoken::block_or(answer, 0);
+        return spoken::number(answer);
     }
     spoken::number(answer)
 }

@@ -5,6 +5,8 @@ use mathlib.Core.Bool.{true, false, true≢false}
 use mathlib.Core.List.{List, [], _∷_}
 use Prim.Native.Nat.{ℕ}
 use lib.ListN.{getD}
+use denote.Ref.{now}
+use Rattle.rules.specs.Answers.{said}
 use Rattle.spoken.specs.Value.{hasValue}
 use borrow.Author.Needs.{needs}
 use Rattle.told.proofs.handed.Statement.{statement}
@@ -34,10 +36,17 @@ number-requires-2 : tie.Need-number-requires-2
 number-requires-2 c κs = search needs
 
 returns : tie.Need-returns
-returns c = ?
+returns c =
+    let b = c .before in
+    let n = b .before .before in
+    let a = n .before .args in
+    (c .number .ensures, b .block-or .ensures ∙ value (said (a .answer)) (now (a .block)) (sym (n .names .ensures) ∙ b .before .if1 .taken))
 
 returns-2 : tie.Need-returns-2
-returns-2 c = ?
+returns-2 c =
+    let n = c .before .before in
+    let a = n .before .args in
+    (c .number2 .ensures, no-value (said (a .answer)) (now (a .block)) (sym (n .names .ensures) ∙ c .before .if1 .left))
 
 pub handed-spec : {M : Type 1} → statement M
-handed-spec = tie.close (tie.spec names-requires block-or-requires number-requires returns returns-2)
+handed-spec = tie.close (tie.spec names-requires block-or-requires number-requires returns number-requires-2 returns-2)
