@@ -40,6 +40,27 @@ pub struct Rgba1Counts {
     pub clear: KindCounts,
 }
 
+/// A census of the library: bytes, width and height, and a room for its counts.
+type Census = unsafe extern "C" fn(*const u8, usize, usize, usize, *mut usize, usize) -> u32;
+
+/// The counts of a census that has `N` of them.
+fn counted<const N: usize>(census: Census, data: &[u8], picture: Picture) -> Result<[usize; N], Refusal> {
+    let mut counts = [0; N];
+    // SAFETY: the pointers and lengths are those of a slice and an array that live through the call.
+    let number = unsafe {
+        census(
+            data.as_ptr(),
+            data.len(),
+            picture.width,
+            picture.height,
+            counts.as_mut_ptr(),
+            counts.len(),
+        )
+    };
+    Refusal::answered(number, 0)?;
+    Ok(counts)
+}
+
 /// Counts the blocks of each kind of an ETC2 RGB picture. Bytes beyond the last block are not
 /// counted, and a pitch is not looked at.
 ///
@@ -53,20 +74,7 @@ pub struct Rgba1Counts {
 /// # Ok::<(), Refusal>(())
 /// ```
 pub fn census_etc2_rgb(data: &[u8], picture: Picture) -> Result<RgbCounts, Refusal> {
-    let mut counts = [0; 5];
-    // SAFETY: the pointers and lengths are those of a slice and an array that live through the call.
-    let number = unsafe {
-        sys::yalivucu_census_etc2_rgb(
-            data.as_ptr(),
-            data.len(),
-            picture.width,
-            picture.height,
-            counts.as_mut_ptr(),
-            counts.len(),
-        )
-    };
-    Refusal::answered(number, 0)?;
-    let [individual, differential, t, h, planar] = counts;
+    let [individual, differential, t, h, planar] = counted(sys::yalivucu_census_etc2_rgb, data, picture)?;
     Ok(RgbCounts {
         individual,
         differential,
@@ -89,19 +97,7 @@ pub fn census_etc2_rgb(data: &[u8], picture: Picture) -> Result<RgbCounts, Refus
 /// # Ok::<(), Refusal>(())
 /// ```
 pub fn census_etc2_rgba1(data: &[u8], picture: Picture) -> Result<Rgba1Counts, Refusal> {
-    let mut counts = [0; 8];
-    // SAFETY: the pointers and lengths are those of a slice and an array that live through the call.
-    let number = unsafe {
-        sys::yalivucu_census_etc2_rgba1(
-            data.as_ptr(),
-            data.len(),
-            picture.width,
-            picture.height,
-            counts.as_mut_ptr(),
-            counts.len(),
-        )
-    };
-    Refusal::answered(number, 0)?;
+    let counts: [usize; 8] = counted(sys::yalivucu_census_etc2_rgba1, data, picture)?;
     let kinds = |at: usize| KindCounts {
         differential: counts[at],
         t: counts[at + 1],

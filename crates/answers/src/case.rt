@@ -22,7 +22,7 @@ pub fn answered(
     head: &[u8; 24],
     data: &[u8; 262144],
     shown: &mut [u8; 262144],
-    image: &mut [u32; 65536],
+    image: &mut [u32; 0x10000],
 ) -> [u8; 8] {
     let n = wire::data_length(head);
     let m = wire::image_length(head);

@@ -43,7 +43,7 @@ fn laid(counts: &[usize], image: &mut [u32]) -> Answer {
     }
     let mut i = 0;
     while i < counts.len() {
-        image[i] = (counts[i] % 4294967296) as u32;
+        image[i] = (counts[i] % 0x100000000) as u32;
         i += 1;
     }
     Answer::Done

@@ -11,7 +11,7 @@ fn main() {
     let mut head = [0u8; 24];
     let mut data = [0u8; 262144];
     let mut shown = [0u8; 262144];
-    let mut image = [0u32; 65536];
+    let mut image = [0u32; 0x10000];
     if os::arg_count() > 1 {
         let mut due = [0u8; 262144];
         replay::replay(&mut head, &mut data, &mut shown, &mut image, &mut due);
@@ -25,7 +25,7 @@ fn answer_all(
     head: &mut [u8; 24],
     data: &mut [u8; 262144],
     shown: &mut [u8; 262144],
-    image: &mut [u32; 65536],
+    image: &mut [u32; 0x10000],
 ) {
     let mut turns = u64::MAX;
     while turns > 0 && answer_one(head, data, shown, image) {
@@ -38,7 +38,7 @@ fn answer_one(
     head: &mut [u8; 24],
     data: &mut [u8; 262144],
     shown: &mut [u8; 262144],
-    image: &mut [u32; 65536],
+    image: &mut [u32; 0x10000],
 ) -> bool {
     if !case::taken(head, data, shown) {
         return false;

@@ -10,7 +10,7 @@ pub fn replay(
     head: &mut [u8; 24],
     data: &mut [u8; 262144],
     shown: &mut [u8; 262144],
-    image: &mut [u32; 65536],
+    image: &mut [u32; 0x10000],
     due: &mut [u8; 262144],
 ) {
     bytes::taken(due, 1024);
@@ -25,7 +25,7 @@ fn group(
     head: &mut [u8; 24],
     data: &mut [u8; 262144],
     shown: &mut [u8; 262144],
-    image: &mut [u32; 65536],
+    image: &mut [u32; 0x10000],
     due: &mut [u8; 262144],
 ) -> bool {
     let mut name = [0u8; 48];
@@ -48,7 +48,7 @@ fn differing(
     head: &mut [u8; 24],
     data: &mut [u8; 262144],
     shown: &mut [u8; 262144],
-    image: &mut [u32; 65536],
+    image: &mut [u32; 0x10000],
     due: &mut [u8; 262144],
 ) -> u32 {
     let mut differ: u32 = 0;
@@ -68,7 +68,7 @@ fn is_held(
     head: &mut [u8; 24],
     data: &mut [u8; 262144],
     shown: &mut [u8; 262144],
-    image: &mut [u32; 65536],
+    image: &mut [u32; 0x10000],
     due: &mut [u8; 262144],
 ) -> bool {
     if !case::taken(head, data, shown) {

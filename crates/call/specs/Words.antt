@@ -7,8 +7,8 @@ use lib.Dec.{eqb, ltb}
 use lib.ListN.{length}
 use Rattle.rules.specs.declared.Format.{Format}
 use Rattle.rules.specs.declared.Format.the-variants.{Etc1, Etc2Rgb, Etc2Rgba1, Etc2Rgba8, EacR, EacRSigned, EacRg, EacRgSigned}
-use Rattle.header.specs.declared.Known.{Known}
-use Rattle.header.specs.declared.Known.the-variants.{As, Not}
+use Rattle.textures.specs.declared.Known.{Known}
+use Rattle.textures.specs.declared.Known.the-variants.{As, Not}
 use Rattle.call.specs.declared.Number.{Number}
 use Rattle.call.specs.declared.Number.the-variants.{Is, None}
 use Rattle.call.specs.declared.Asked.{Asked}

@@ -1,6 +1,6 @@
 // The words of a call: what they ask, the names of formats, and numbers. specs/Words.antt says what each means.
-use header::Known;
 use rules::Format;
+use textures::Known;
 ghost use mathlib.Core.Path.{_≡_};
 ghost use Prim.Native.Nat.{_<_};
 ghost use Rattle.call.specs.Words.{same, orNamed, formatOf, meantOf, moreOf, numberOf};

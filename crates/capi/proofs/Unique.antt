@@ -15,7 +15,8 @@ use Rattle.rules.specs.declared.Sheet.{Sheet}
 use Rattle.rules.specs.declared.Written.{Written}
 use Rattle.laws.proofs.Unique.{no-second-outcome}
 use Rattle.sheet.proofs.Unique.{one-head, one-written}
-use Rattle.capi.specs.Told.{Told, answerNumber, blockOr, headOr, HeadTold, WriterTold}
+use Rattle.told.specs.Told.{Told, answerNumber, blockOr}
+use Rattle.capi.specs.Told.{headOr, HeadTold, WriterTold}
 
 module _ (verdict after old : List ℕ) where
   module _ (a b : Answer) (new new' : List ℕ) (p : Outcome verdict after a old new) (q : Outcome verdict after b old new') where

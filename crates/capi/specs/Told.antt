@@ -1,4 +1,4 @@
--- What a caller from C is told: a reader's own promise, with the answer as document 01's number of it.
+-- What a caller from C is told of sheets; of pictures and blocks crates/told/specs says it.
 -- Assumes nothing.
 use mathlib.Core.Path.{_≡_}
 use mathlib.Core.Bool.{cond}
@@ -7,26 +7,12 @@ use Prim.Native.Nat.{ℕ}
 use lib.ListN.{getD}
 use Rattle.rules.specs.Answers.{said, accepts}
 use Rattle.rules.specs.Sheets.{told, TellsHead, WritesSheet}
-use Rattle.rules.specs.declared.Answer.{Answer}
 use Rattle.rules.specs.declared.Head.{Head}
 use Rattle.rules.specs.declared.Picture.{Picture}
 use Rattle.rules.specs.declared.Sheet.{Sheet}
 use Rattle.rules.specs.declared.Sheet.the-variants.{Holds, Refused}
 use Rattle.rules.specs.declared.Written.{Written}
-
--- the number of an answer, the first of what it says on paper
-abbrev pub answerNumber : Answer → ℕ
-answerNumber a = getD (said a) 0 0
-
--- the block that an answer names, the second of what it says, or what stood there where it names none
-abbrev pub blockOr : Answer → ℕ → ℕ
-blockOr a stood = getD (said a) 1 stood
-
--- what a reader that promises `Reads answer` tells a caller who is handed the number alone
-pub record Told (Reads : Answer → Type 0) (number : ℕ) : Type 0 where
-  pub answer : Answer
-  pub reads : Reads answer
-  pub says : number ≡ answerNumber answer
+use Rattle.told.specs.Told.{answerNumber}
 
 -- a field of the head that a sheet holds, or what stood there where it is refused
 abbrev pub headOr : (Head → ℕ) → Sheet → ℕ → ℕ

@@ -14,7 +14,8 @@ ghost use Rattle.rules.specs.Readers.{ReadsPicture, ReadsStrict, ReadsBlock, Re
 ghost use Rattle.rules.specs.Census.{rgbTests, rgba1Tests};
 ghost use Rattle.rules.specs.Sheets.{ReadsSheet};
 ghost use Rattle.capi.specs.Census.{CountsInto};
-ghost use Rattle.capi.specs.Told.{Told, blockOr, HeadTold, WriterTold};
+ghost use Rattle.told.specs.Told.{Told, blockOr};
+ghost use Rattle.capi.specs.Told.{HeadTold, WriterTold};
 
 // Reads an ETC1 picture.
 #[no_mangle]
@@ -28,7 +29,7 @@ pub extern "C" fn yalivucu_decode_etc1(
         (λ a. ReadsPicture Format.Etc1 (now («data» .entry)) (sized width height) (now (image .entry)) a (now (image .exit)))
         r ⌝ }
 {
-    etc::number(etc::decode_etc1(data, width, height, image))
+    told::read(Format::Etc1, data, width, height, width, image)
 }
 
 // The same of a picture with a pitch.
@@ -44,12 +45,7 @@ pub extern "C" fn yalivucu_decode_etc1_pitched(
         (λ a. ReadsPicture Format.Etc1 (now («data» .entry)) (pitched width height pitch) (now (image .entry)) a (now (image .exit)))
         r ⌝ }
 {
-    let pic = Picture {
-        width: width,
-        height: height,
-        pitch: pitch,
-    };
-    etc::number(etc::decode_etc1_pitched(data, pic, image))
+    told::read(Format::Etc1, data, width, height, pitch, image)
 }
 
 // Reads an ETC2 RGB picture.
@@ -64,7 +60,7 @@ pub extern "C" fn yalivucu_decode_etc2_rgb(
         (λ a. ReadsPicture Format.Etc2Rgb (now («data» .entry)) (sized width height) (now (image .entry)) a (now (image .exit)))
         r ⌝ }
 {
-    etc::number(etc::decode_etc2_rgb(data, width, height, image))
+    told::read(Format::Etc2Rgb, data, width, height, width, image)
 }
 
 // The same of a picture with a pitch.
@@ -80,12 +76,7 @@ pub extern "C" fn yalivucu_decode_etc2_rgb_pitched(
         (λ a. ReadsPicture Format.Etc2Rgb (now («data» .entry)) (pitched width height pitch) (now (image .entry)) a (now (image .exit)))
         r ⌝ }
 {
-    let pic = Picture {
-        width: width,
-        height: height,
-        pitch: pitch,
-    };
-    etc::number(etc::decode_etc2_rgb_pitched(data, pic, image))
+    told::read(Format::Etc2Rgb, data, width, height, pitch, image)
 }
 
 // Reads an ETC2 RGBA1 picture.
@@ -100,7 +91,7 @@ pub extern "C" fn yalivucu_decode_etc2_rgba1(
         (λ a. ReadsPicture Format.Etc2Rgba1 (now («data» .entry)) (sized width height) (now (image .entry)) a (now (image .exit)))
         r ⌝ }
 {
-    etc::number(etc::decode_etc2_rgba1(data, width, height, image))
+    told::read(Format::Etc2Rgba1, data, width, height, width, image)
 }
 
 // The same of a picture with a pitch.
@@ -116,12 +107,7 @@ pub extern "C" fn yalivucu_decode_etc2_rgba1_pitched(
         (λ a. ReadsPicture Format.Etc2Rgba1 (now («data» .entry)) (pitched width height pitch) (now (image .entry)) a (now (image .exit)))
         r ⌝ }
 {
-    let pic = Picture {
-        width: width,
-        height: height,
-        pitch: pitch,
-    };
-    etc::number(etc::decode_etc2_rgba1_pitched(data, pic, image))
+    told::read(Format::Etc2Rgba1, data, width, height, pitch, image)
 }
 
 // Reads an ETC2 RGBA8 picture.
@@ -136,7 +122,7 @@ pub extern "C" fn yalivucu_decode_etc2_rgba8(
         (λ a. ReadsPicture Format.Etc2Rgba8 (now («data» .entry)) (sized width height) (now (image .entry)) a (now (image .exit)))
         r ⌝ }
 {
-    etc::number(etc::decode_etc2_rgba8(data, width, height, image))
+    told::read(Format::Etc2Rgba8, data, width, height, width, image)
 }
 
 // The same of a picture with a pitch.
@@ -152,12 +138,7 @@ pub extern "C" fn yalivucu_decode_etc2_rgba8_pitched(
         (λ a. ReadsPicture Format.Etc2Rgba8 (now («data» .entry)) (pitched width height pitch) (now (image .entry)) a (now (image .exit)))
         r ⌝ }
 {
-    let pic = Picture {
-        width: width,
-        height: height,
-        pitch: pitch,
-    };
-    etc::number(etc::decode_etc2_rgba8_pitched(data, pic, image))
+    told::read(Format::Etc2Rgba8, data, width, height, pitch, image)
 }
 
 // Reads an EAC R picture.
@@ -172,7 +153,7 @@ pub extern "C" fn yalivucu_decode_eacr(
         (λ a. ReadsPicture Format.EacR (now («data» .entry)) (sized width height) (now (image .entry)) a (now (image .exit)))
         r ⌝ }
 {
-    etc::number(etc::decode_eacr(data, width, height, image))
+    told::read(Format::EacR, data, width, height, width, image)
 }
 
 // The same of a picture with a pitch.
@@ -188,12 +169,7 @@ pub extern "C" fn yalivucu_decode_eacr_pitched(
         (λ a. ReadsPicture Format.EacR (now («data» .entry)) (pitched width height pitch) (now (image .entry)) a (now (image .exit)))
         r ⌝ }
 {
-    let pic = Picture {
-        width: width,
-        height: height,
-        pitch: pitch,
-    };
-    etc::number(etc::decode_eacr_pitched(data, pic, image))
+    told::read(Format::EacR, data, width, height, pitch, image)
 }
 
 // Reads a signed EAC R picture.
@@ -208,7 +184,7 @@ pub extern "C" fn yalivucu_decode_eacr_signed(
         (λ a. ReadsPicture Format.EacRSigned (now («data» .entry)) (sized width height) (now (image .entry)) a (now (image .exit)))
         r ⌝ }
 {
-    etc::number(etc::decode_eacr_signed(data, width, height, image))
+    told::read(Format::EacRSigned, data, width, height, width, image)
 }
 
 // The same of a picture with a pitch.
@@ -224,12 +200,7 @@ pub extern "C" fn yalivucu_decode_eacr_signed_pitched(
         (λ a. ReadsPicture Format.EacRSigned (now («data» .entry)) (pitched width height pitch) (now (image .entry)) a (now (image .exit)))
         r ⌝ }
 {
-    let pic = Picture {
-        width: width,
-        height: height,
-        pitch: pitch,
-    };
-    etc::number(etc::decode_eacr_signed_pitched(data, pic, image))
+    told::read(Format::EacRSigned, data, width, height, pitch, image)
 }
 
 // Reads an EAC RG picture.
@@ -244,7 +215,7 @@ pub extern "C" fn yalivucu_decode_eacrg(
         (λ a. ReadsPicture Format.EacRg (now («data» .entry)) (sized width height) (now (image .entry)) a (now (image .exit)))
         r ⌝ }
 {
-    etc::number(etc::decode_eacrg(data, width, height, image))
+    told::read(Format::EacRg, data, width, height, width, image)
 }
 
 // The same of a picture with a pitch.
@@ -260,12 +231,7 @@ pub extern "C" fn yalivucu_decode_eacrg_pitched(
         (λ a. ReadsPicture Format.EacRg (now («data» .entry)) (pitched width height pitch) (now (image .entry)) a (now (image .exit)))
         r ⌝ }
 {
-    let pic = Picture {
-        width: width,
-        height: height,
-        pitch: pitch,
-    };
-    etc::number(etc::decode_eacrg_pitched(data, pic, image))
+    told::read(Format::EacRg, data, width, height, pitch, image)
 }
 
 // Reads a signed EAC RG picture.
@@ -280,7 +246,7 @@ pub extern "C" fn yalivucu_decode_eacrg_signed(
         (λ a. ReadsPicture Format.EacRgSigned (now («data» .entry)) (sized width height) (now (image .entry)) a (now (image .exit)))
         r ⌝ }
 {
-    etc::number(etc::decode_eacrg_signed(data, width, height, image))
+    told::read(Format::EacRgSigned, data, width, height, width, image)
 }
 
 // The same of a picture with a pitch.
@@ -296,27 +262,7 @@ pub extern "C" fn yalivucu_decode_eacrg_signed_pitched(
         (λ a. ReadsPicture Format.EacRgSigned (now («data» .entry)) (pitched width height pitch) (now (image .entry)) a (now (image .exit)))
         r ⌝ }
 {
-    let pic = Picture {
-        width: width,
-        height: height,
-        pitch: pitch,
-    };
-    etc::number(etc::decode_eacrg_signed_pitched(data, pic, image))
-}
-
-// The strict reader of a picture with any pitch: the block that an answer names is written, and any other answer writes none.
-fn strict(data: &[u8], pic: Picture, image: &mut [u32], block: &mut usize) -> u32
-    ensures { λ r. ⌜ Told
-        (λ a. ReadsStrict (now («data» .entry)) pic (now (image .entry)) a (now (image .exit))
-        × (now (block .exit) ≡ blockOr a (now (block .entry))))
-        r ⌝ }
-{
-    let answer = etc::decode_etc1_strict_pitched(data, pic, image);
-    let Answer::OutOfRange(n) = answer else {
-        return etc::number(answer);
-    };
-    *block = n;
-    4
+    told::read(Format::EacRgSigned, data, width, height, pitch, image)
 }
 
 // Reads an ETC1 picture that holds no block out of range. Where it refuses for one, `block` is its number; otherwise `block` stays as it
@@ -339,7 +285,7 @@ pub extern "C" fn yalivucu_decode_etc1_strict(
         height: height,
         pitch: width,
     };
-    strict(data, pic, image, block)
+    told::strict(data, pic, image, block)
 }
 
 // The same of a picture with a pitch.
@@ -362,7 +308,7 @@ pub extern "C" fn yalivucu_decode_etc1_strict_pitched(
         height: height,
         pitch: pitch,
     };
-    strict(data, pic, image, block)
+    told::strict(data, pic, image, block)
 }
 
 // Reads an ETC1 block of 8 bytes into the elements 0 to 15.

@@ -14,7 +14,7 @@ use Rattle.laws.proofs.Every.{every, below}
 use Rattle.laws.proofs.Filled.{getD-build}
 use Rattle.laws.proofs.Signed.{small, small-at}
 use Rattle.products.specs.Products.{productsOf}
-use Rattle.channel.specs.Picks.{pickAt}
+use Rattle.picks.specs.Picks.{pickAt}
 use Rattle.channel.proofs.Steps.{stepAt}
 
 -- the eight products of a block, and the one of place k

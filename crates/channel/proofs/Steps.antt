@@ -1,8 +1,8 @@
--- The steps of a channel: small, so that every type holds them, and read off the index word from its low end.
+-- The steps of a channel: small, so that every type holds them.
 -- Assumes nothing.
 use mathlib.Core.Path.{_≡_, _∙_, refl, ap}
 use mathlib.Core.List.{List, []}
-use Prim.Native.Nat.{ℕ, _+_, _-_, _*_, _/_, _%_, _^_, _<_}
+use Prim.Native.Nat.{ℕ, _+_, _*_, _/_, _%_, _<_}
 use native.Mathlib.Omega.{arith}
 use lib.Dec.{eqb, eqb→eq, lit<}
 use lib.IntN.{ℤ, pos, _+ℤ_, _*ℤ_}
@@ -10,12 +10,11 @@ use lib.ListN.{length, getD}
 use lib.Signed.{mag}
 use mir.Syntax.{w16}
 use Rattle.rules.specs.Notation.{byte, bits, build, clamp}
-use Rattle.rules.specs.Channels.{alphaSteps, indexWord, alphaIndex, alphaStep}
+use Rattle.rules.specs.Channels.{alphaSteps, alphaIndex, alphaStep}
 use Rattle.laws.proofs.Every.{below}
 use Rattle.laws.proofs.Filled.{getD-build}
-use Rattle.laws.proofs.Order.{place}
 use Rattle.laws.proofs.Signed.{small, small-at, held, held-small}
-use Rattle.channel.specs.Picks.{pickAt}
+use Rattle.picks.specs.Picks.{pickAt}
 
 -- the step of place k, row by row
 abbrev pub stepAt : List ℕ → ℕ → ℤ
@@ -31,14 +30,6 @@ eight-in-row n h = eqb→eq _ 8 (below (λ k. eqb (length (getD alphaSteps k [])
 pub small-step : (d : List ℕ) (x y : ℕ) → mag (alphaStep d x y) < 16
 unfolding alphaStep
 small-step d x y = small-row (bits 3 0 (byte d 1)) (alphaIndex d (4 * x + y)) (omega arith)
-
--- what turn i reads of any eight numbers is the pick of pixel 15 - i
-pub reads : (d : List ℕ) (eight : List ℤ) (i l : ℕ) → i < 16 → l ≡ indexWord d / 2 ^ (3 * i) → getD eight (l % 8) (pos 0) ≡ pickAt d eight (place (15 - i))
-unfolding pickAt
-reads d eight i l h e =
-    let n : 4 * (place (15 - i) % 4) + place (15 - i) / 4 ≡ 15 - i = omega arith in
-    let t : 45 - 3 * (15 - i) ≡ 3 * i = omega arith in
-    rw (n, t, e)
 
 -- of the block's own row the pick is the step
 pub step-picked : (d : List ℕ) (k : ℕ) → pickAt d (getD alphaSteps (bits 3 0 (byte d 1)) []) k ≡ stepAt d k

@@ -20,8 +20,8 @@ bits (suc zero) (suc zero) (suc (suc z)) h i j = absurd (omega arith)
 bits (suc zero) (suc (suc y)) z h i j = absurd (omega arith)
 bits (suc (suc x)) y z h i j = absurd (omega arith)
 
-half : (a b : ℕ) → bitXor a b / 2 ≡ bitXor (a / 2) (b / 2)
-half a b = xor-shr a b 1
+halved : (a b : ℕ) → bitXor a b / 2 ≡ bitXor (a / 2) (b / 2)
+halved a b = xor-shr a b 1
 
 small : (x y : ℕ) → x < 2 → y < 2 → bitXor x y ≡ differ x y
 small zero y h i = refl
@@ -41,9 +41,9 @@ to zero a b c h i j =
 to (suc n) a b c h i j =
     xor-step (bitXor a b) c
     ∙ ap₂ (λ (x y : ℕ). x * 2 + y)
-    (ap (λ (z : ℕ). bitXor z (c / 2)) (half a b)
+    (ap (λ (z : ℕ). bitXor z (c / 2)) (halved a b)
     ∙ to n (a / 2) (b / 2) (c / 2) (omega arith) (omega arith) (omega arith)
-    ∙ sym (ap (bitXor (a / 2)) (half b c)))
+    ∙ sym (ap (bitXor (a / 2)) (halved b c)))
     (ap (λ (z : ℕ). differ z (c % 2)) (odd a b)
     ∙ bits (a % 2) (b % 2) (c % 2) (omega arith) (omega arith) (omega arith)
     ∙ sym (ap (differ (a % 2)) (odd b c)))
@@ -56,7 +56,7 @@ grouped a b c = to (a + b + c) a b c (omega arith) (omega arith) (omega arith)
 moved : (h n m : ℕ) → crcStep (bitXor (h * 2 ^ suc n) m) ≡ bitXor (h * 2 ^ n) (crcStep m)
 moved h n m =
     ap₂ (λ (x y : ℕ). bitXor x (cond (eqb y 1) polynomial 0))
-    (half (h * 2 ^ suc n) m ∙ ap (λ (z : ℕ). bitXor z (m / 2)) (shifted-half h n))
+    (halved (h * 2 ^ suc n) m ∙ ap (λ (z : ℕ). bitXor z (m / 2)) (shifted-half h n))
     (odd (h * 2 ^ suc n) m ∙ ap (λ (z : ℕ). differ z (m % 2)) (shifted-even h n))
     ∙ grouped (h * 2 ^ n) (m / 2) (cond (eqb (m % 2) 1) polynomial 0)
 

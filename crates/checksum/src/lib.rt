@@ -1,6 +1,5 @@
 // The two checksums of a PNG: CRC-32 over its chunks, and Adler-32 over what its zlib stream holds.
 ghost use mathlib.Core.Path.{_≡_};
-ghost use Prim.Native.Nat.{_<_};
 ghost use Rattle.checksum.specs.Sums.{crcByte, crcMore, crc as crcSum, adlerByte, adlerMore};
 
 // What eight steps make of each byte: a step divides by the polynomial, and this does a byte of steps at once.
@@ -263,18 +262,11 @@ const REMAINDERS: [u32; 256] = [
     755167117,
 ];
 
-// A byte as a wider number.
-fn wide(b: u8) -> u32
-    ensures { λ r. ⌜ (r ≡ b) × (r < 256) ⌝ }
-{
-    b as u32
-}
-
 // The remainder after one byte more.
 fn crc_byte(sum: u32, b: u8) -> u32
     ensures { λ r. ⌜ r ≡ crcByte sum b ⌝ }
 {
-    let mixed = sum ^ wide(b);
+    let mixed = sum ^ b as u32;
     let low = (mixed % 256) as usize;
     REMAINDERS[low] ^ (mixed / 256)
 }
@@ -303,7 +295,7 @@ pub fn crc(bytes: &[u8]) -> u32
 fn adler_byte(sum: u32, b: u8) -> u32
     ensures { λ r. ⌜ r ≡ adlerByte sum b ⌝ }
 {
-    let first = (sum % 0x10000 + wide(b)) % 65521;
+    let first = (sum % 0x10000 + b as u32) % 65521;
     let second = (sum / 0x10000 + first) % 65521;
     second * 0x10000 + first
 }

@@ -192,7 +192,8 @@ module _ (d : List ℕ) (p : Picture) (old : List ℕ) (ok : 0 ∷ [] ≡ verdic
   pub the-census-counts-there : (r : RgbCensus) → CountsRgb d p r → accepts (rgbSaid r) ≡ true
   the-census-counts-there r q =
       let k = passed (strictChecks p d old) (0 ∷ []) tt (sym (ap accepts ok)) in
-      ap accepts (q ∙ all-pass (censusChecks p (length d)) _ (record { first = neither (tooLarge limit p) (ltb limit (p .pitch)) (k .first) .0; rest = record { first = k .rest .rest .first; rest = record {} } }))
+      let sides = neither (tooLarge limit p) (ltb limit (p .pitch)) (k .first) .0 in
+      ap accepts (q ∙ all-pass (censusChecks p (length d)) _ (record { first = sides; rest = record { first = k .rest .rest .first; rest = record {} } }))
 
   module _ (a : Answer) (new : List ℕ) (reads : ReadsStrict d p old a new) (c : RgbCounts) (q : CountsRgb d p (rgb.Counted c)) where
     abbrev n : ℕ

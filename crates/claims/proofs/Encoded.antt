@@ -13,8 +13,8 @@ use Rattle.records.proofs.Walk.{whole}
 
 -- a record that its fields can say
 pub record Fits (r : Record) : Type 0 where
-  pub kind : r .kind < 65536
-  pub payload : length (r .payload) < 4294967296
+  pub kind : r .kind < 0x10000
+  pub payload : length (r .payload) < 0x100000000
 
 module _ (r : Record) (f : Fits r) (d : List ℕ) where
   abbrev n : ℕ

@@ -1,74 +1,25 @@
 // The EAC channels of src/etc/eac.rs. The unsigned and the signed reader differ only in the centre of a block's values, so one
-// function serves both. The whole value of eleven bits comes first; the byte is a last step of its own.
+// function serves both. The whole value of eleven bits comes first, from crates/values; the byte is a last step of its own.
 ghost use mathlib.Core.Path.{_≡_};
 ghost use Prim.Native.Nat.{ℕ, _+_, _*_, _/_, _%_, _^_, _≤_, _<_};
-ghost use lib.IntN.{pos, _+ℤ_, _*ℤ_};
 ghost use lib.ListN.{length, getD};
-ghost use lib.Signed.{mag};
-ghost use Rattle.rules.specs.Notation.{build, clamp};
+ghost use Rattle.rules.specs.Notation.{build};
 ghost use Rattle.rules.specs.Pixel.{word};
 ghost use Rattle.rules.specs.Places.{tile};
-ghost use Rattle.rules.specs.Channels.{signedBase, centre, multiplier, eacByte, redPixel, redGreenPixel, orChannel};
-
-// The signed base: a byte as two's complement, where -128 is read as -127.
-fn signed_byte(b: u8) -> i16
-    ensures { λ r. ⌜ r ≡ signedBase b ⌝ }
-{
-    if b == 128 {
-        -127
-    } else if 127 < b {
-        b as i16 - 256
-    } else {
-        b as i16
-    }
-}
-
-// The value in the middle of a block's, to which steps are added: 8 * b0 + 4, or as two's complement with 1023 for 4.
-fn centre_of(b: u8, signed: bool) -> i16
-    ensures { λ r. ⌜ (r ≡ centre signed b) × (mag r < 4096) ⌝ }
-{
-    if signed {
-        1023 + 8 * signed_byte(b)
-    } else {
-        4 + 8 * b as i16
-    }
-}
-
-// What a step is multiplied by: 8 times the multiplier, or 1 where that is 0.
-fn times_of(m: u8) -> u8
-    requires { ⌜ m < 16 ⌝ }
-    ensures { λ r. ⌜ (r ≡ multiplier m) × (r < 121) ⌝ }
-{
-    if m == 0 { 1 } else { 8 * m }
-}
-
-// The whole value of a pixel, clamped to eleven bits.
-fn eac_value(base: i16, m: u8, s: i16) -> u32
-    requires { ⌜ (mag base < 4096) × (m < 121) × (mag s < 16) ⌝ }
-    ensures { λ r. ⌜ (r ≡ clamp 2047 (base +ℤ pos m *ℤ s)) × (r < 2048) ⌝ }
-{
-    let v = base + m as i16 * s;
-    if v < 0 {
-        0
-    } else if 2047 < v {
-        2047
-    } else {
-        v as u32
-    }
-}
+ghost use Rattle.rules.specs.Channels.{eacByte, redPixel, redGreenPixel, orChannel};
 
 // The byte of each pixel, row by row: an eighth of its value.
 fn eac_bytes(d: &[u8], signed: bool) -> [u32; 16]
     requires { ⌜ 8 ≤ length (now d) ⌝ }
     ensures { λ r. ⌜ r ≡ build 16 (λ k. eacByte signed (now (d .entry)) (k % 4) (k / 4)) ⌝ }
 {
-    let base = centre_of(d[0], signed);
-    let m = times_of(channel::multiplier_of(d[1]));
+    let base = values::centre_of(d[0], signed);
+    let m = values::times_of(picks::multiplier_of(d[1]));
     let steps = channel::steps_of(d);
     let mut out = [0u32; 16];
     let mut i: usize = 0;
     while i < 16 {
-        out[i] = eac_value(base, m, steps[i]) / 8;
+        out[i] = values::eac_value(base, m, steps[i]) / 8;
         i += 1;
     }
     out

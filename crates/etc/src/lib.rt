@@ -25,19 +25,7 @@ ghost use Rattle.rules.specs.Sheets.{TellsHead, ReadsSheet, WritesSheet};
 pub fn number(answer: Answer) -> u32
     ensures { λ r. ⌜ r ≡ getD (said answer) 0 0 ⌝ }
 {
-    match answer {
-        Answer::Done => 0,
-        Answer::TooLarge => 1,
-        Answer::ShortData => 2,
-        Answer::ShortImage => 3,
-        Answer::OutOfRange(_) => 4,
-        Answer::NoChannel => 5,
-        Answer::CutShort => 7,
-        Answer::NoHead => 8,
-        Answer::OtherKind => 9,
-        Answer::WrongBlocks => 10,
-        Answer::ShortPitch => 12,
-    }
+    spoken::number(answer)
 }
 
 // Reads a picture of any format, by its width and height: its rows have no gap.

@@ -7,7 +7,7 @@ use native.Mathlib.Omega.{arith}
 use borrow.Author.Tests.{eq-eqb, ne-eqb, lt-ltb, le-ltb}
 use lib.Dec.{eqb, ltb}
 use Rattle.rules.specs.declared.Format.{Format}
-use Rattle.header.specs.Files.{laidOut}
+use Rattle.textures.specs.Textures.{laidOut}
 
 pub same : {r x k : ℕ} → r ≡ x → r ≡ k → eqb x k ≡ true
 same {r} {x} {k} e h = eq-eqb x k (sym e ∙ h)

@@ -1,49 +1,11 @@
 // The headers of PKM and KTX 1 files, read from their first bytes. Any bytes get an answer, and specs/Files.antt says which.
-use rules::Format;
-use rules::Picture;
+use textures::Header;
+use textures::Known;
 ghost use mathlib.Core.Path.{_≡_};
 ghost use Prim.Native.Nat.{_+_, _<_, _≤_};
 ghost use lib.ListN.{length};
-ghost use Rattle.header.specs.Files.{word32, oldPkm, newPkm, glFormat, laidOut, pkmAs, pkmOf, levelAt};
+ghost use Rattle.header.specs.Files.{word32, padded as paddedTo, pkmAs, pkmOf, levelAt};
 ghost use Rattle.header.specs.Files.{sizeTold, isFlat, ktxAs, ktxIn, ktxOf, isKtx, headerOf};
-
-// What a number stands for, in a list of formats.
-pub enum Known {
-    As(Format),
-    Not,
-}
-
-// What a file holds: a picture of this format and size, whose blocks start at this byte and are so many bytes.
-pub struct Texture {
-    pub format: Format,
-    pub width: usize,
-    pub height: usize,
-    pub start: usize,
-    pub bytes: usize,
-}
-
-// What a header tells. The number of each refusal is `numberOf`, in specs/Files.antt.
-pub enum Header {
-    Holds(Texture),
-    // a side above 16,384
-    TooLarge,
-    // fewer bytes than the blocks need
-    ShortData,
-    // the file ends before its header does
-    Cut,
-    // neither PKM nor KTX 1
-    NoTexture,
-    // a version of PKM or a byte order of KTX that nobody defined
-    NoVersion,
-    // none of the eight formats
-    NoFormat,
-    // sizes that contradict each other
-    SizesDisagree,
-    // a volume, an array or the faces of a cube
-    NotFlat,
-    // a side of 0, which a PNG cannot have
-    NoPixels,
-}
 
 // The four bytes at a place, in a file's own order.
 fn word(order: bool, d: &[u8], at: usize) -> usize
@@ -57,90 +19,12 @@ fn word(order: bool, d: &[u8], at: usize) -> usize
     }
 }
 
-// The format of a number in a PKM file of version 1.0.
-fn old_pkm(number: usize) -> Known
-    ensures { λ r. ⌜ r ≡ oldPkm number ⌝ }
+// A side, made up to whole blocks.
+fn padded(side: usize) -> usize
+    requires { ⌜ side < 0x10000 ⌝ }
+    ensures { λ r. ⌜ r ≡ paddedTo side ⌝ }
 {
-    if number == 0 {
-        Known::As(Format::Etc1)
-    } else {
-        Known::Not
-    }
-}
-
-// The format of a number in a PKM file of version 2.0.
-fn new_pkm(number: usize) -> Known
-    ensures { λ r. ⌜ r ≡ newPkm number ⌝ }
-{
-    match number {
-        0 => Known::As(Format::Etc1),
-        1 => Known::As(Format::Etc2Rgb),
-        3 => Known::As(Format::Etc2Rgba8),
-        4 => Known::As(Format::Etc2Rgba1),
-        5 => Known::As(Format::EacR),
-        6 => Known::As(Format::EacRg),
-        7 => Known::As(Format::EacRSigned),
-        8 => Known::As(Format::EacRgSigned),
-        9 => Known::As(Format::Etc2Rgb),
-        10 => Known::As(Format::Etc2Rgba8),
-        11 => Known::As(Format::Etc2Rgba1),
-        _ => Known::Not,
-    }
-}
-
-// The format of OpenGL's number.
-fn gl_format(number: usize) -> Known
-    ensures { λ r. ⌜ r ≡ glFormat number ⌝ }
-{
-    match number {
-        0x8D64 => Known::As(Format::Etc1),
-        0x9270 => Known::As(Format::EacR),
-        0x9271 => Known::As(Format::EacRSigned),
-        0x9272 => Known::As(Format::EacRg),
-        0x9273 => Known::As(Format::EacRgSigned),
-        0x9274 => Known::As(Format::Etc2Rgb),
-        0x9275 => Known::As(Format::Etc2Rgb),
-        0x9276 => Known::As(Format::Etc2Rgba1),
-        0x9277 => Known::As(Format::Etc2Rgba1),
-        0x9278 => Known::As(Format::Etc2Rgba8),
-        0x9279 => Known::As(Format::Etc2Rgba8),
-        _ => Known::Not,
-    }
-}
-
-// A picture whose blocks start at a byte of a file of so many bytes.
-fn laid_out(f: Format, width: usize, height: usize, start: usize, len: usize) -> Header
-    requires { ⌜ start < 0x200000000 ⌝ }
-    ensures { λ r. ⌜ r ≡ laidOut f width height start len ⌝ }
-{
-    let pic = Picture {
-        width: width,
-        height: height,
-        pitch: width,
-    };
-    if width == 0 {
-        return Header::NoPixels;
-    }
-    if height == 0 {
-        return Header::NoPixels;
-    }
-    if 16384 < width {
-        return Header::TooLarge;
-    }
-    if 16384 < height {
-        return Header::TooLarge;
-    }
-    let bytes = checks::blocks_of(pic) * checks::size(f);
-    if len < start + bytes {
-        return Header::ShortData;
-    }
-    Header::Holds(Texture {
-        format: f,
-        width: width,
-        height: height,
-        start: start,
-        bytes: bytes,
-    })
+    (side + 3) / 4 * 4
 }
 
 // The rest of a PKM header, once its format is known.
@@ -153,13 +37,13 @@ fn pkm_as(known: Known, d: &[u8], len: usize) -> Header
     };
     let width = numbers::big2(d, 12);
     let height = numbers::big2(d, 14);
-    if numbers::big2(d, 8) != (width + 3) / 4 * 4 {
+    if numbers::big2(d, 8) != padded(width) {
         return Header::SizesDisagree;
     }
-    if numbers::big2(d, 10) != (height + 3) / 4 * 4 {
+    if numbers::big2(d, 10) != padded(height) {
         return Header::SizesDisagree;
     }
-    laid_out(f, width, height, 16, len)
+    textures::laid_out(f, width, height, 16, len)
 }
 
 // A PKM header.
@@ -170,10 +54,10 @@ fn pkm(d: &[u8], len: usize) -> Header
     let version = numbers::big2(d, 4);
     let number = numbers::big2(d, 6);
     if version == 0x3130 {
-        return pkm_as(old_pkm(number), d, len);
+        return pkm_as(textures::old_pkm(number), d, len);
     }
     if version == 0x3230 {
-        return pkm_as(new_pkm(number), d, len);
+        return pkm_as(textures::new_pkm(number), d, len);
     }
     Header::NoVersion
 }
@@ -232,7 +116,11 @@ fn ktx_as(known: Known, order: bool, d: &[u8], level: &[u8], len: usize) -> Head
     let width = word(order, d, 36);
     let height = word(order, d, 40);
     let start = 68 + word(order, d, 60);
-    size_told(order, level, laid_out(f, width, height, start, len))
+    size_told(
+        order,
+        level,
+        textures::laid_out(f, width, height, start, len),
+    )
 }
 
 // A KTX header in a byte order.
@@ -246,7 +134,13 @@ fn ktx_in(order: bool, d: &[u8], level: &[u8], len: usize) -> Header
     if word(order, d, 24) != 0 {
         return Header::NoFormat;
     }
-    ktx_as(gl_format(word(order, d, 28)), order, d, level, len)
+    ktx_as(
+        textures::gl_format(word(order, d, 28)),
+        order,
+        d,
+        level,
+        len,
+    )
 }
 
 // A KTX header.
@@ -295,11 +189,4 @@ pub fn read_header(d: &[u8], level: &[u8], len: usize) -> Header
         return Header::Cut;
     }
     ktx(d, level, len)
-}
-
-// Bare blocks, whose format and size somebody says: the same checks.
-pub fn bare(f: Format, width: usize, height: usize, len: usize) -> Header
-    ensures { λ r. ⌜ r ≡ laidOut f width height 0 len ⌝ }
-{
-    laid_out(f, width, height, 0, len)
 }

@@ -13,7 +13,7 @@ use Rattle.rules.specs.Notation.{byte, bit, minus, build}
 use Rattle.rules.specs.Colour.{shaded}
 use Rattle.rules.specs.Modes.{tBases, tDistance, tColours, hBases, hDistance, hColours, notLess}
 use Rattle.laws.proofs.Signed.{mag-neg}
-use Rattle.modes.specs.Fields.{tFields, hFields, distanceAt}
+use Rattle.fields.specs.Fields.{tFields, hFields, distanceAt}
 
 small-four : (a b c d : ℤ) → mag a < 1024 → mag b < 1024 → mag c < 1024 → mag d < 1024 → (k : ℕ) → mag (getD (a ∷ b ∷ c ∷ d ∷ []) k (pos 0)) < 1024
 small-four a b c d h i j l zero = h

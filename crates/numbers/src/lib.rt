@@ -8,7 +8,7 @@ ghost use lib.Seq.{sets};
 ghost use Rattle.numbers.specs.Numbers.{little, big, inBytes, bigBytes};
 
 // A byte as a wider number.
-fn wide(b: u8) -> usize
+pub fn wide(b: u8) -> usize
     ensures { λ r. ⌜ (r ≡ b) × (r < 256) ⌝ }
 {
     b as usize

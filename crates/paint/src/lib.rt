@@ -17,7 +17,7 @@ struct Spot {
 
 // Where the next block stands, in rows of n blocks.
 fn next_spot(spot: Spot, n: usize) -> Spot
-    requires { ⌜ (spot .bx < n) × (spot .by < 65536) ⌝ }
+    requires { ⌜ (spot .bx < n) × (spot .by < 0x10000) ⌝ }
     ensures { λ r. ⌜ ((b : ℕ) → Stands n b (spot .bx) (spot .by) → Stands n (b + 1) (r .bx) (r .by)) ⌝ }
 {
     let right = spot.bx + 1;

@@ -1,6 +1,6 @@
-// Runs the picture readers that take a pitch: around the limits, at 65,536 by 1 and 1 by 65,536, and at every size from 0 to 9 each way with
-// gaps of 0 to 5 elements, and prints what came out. An element is wrong where it is not the pixel that the reader paints without a
-// gap, or, in a gap or behind the last pixel, no more the 11111111 (hex) of before.
+// Runs the picture readers that take a pitch: around the limits, at 65,536 by 1 and 1 by 65,536, and at every size from 0 to 9 each
+// way with gaps of 0 to 5 elements, and prints what came out. An element is wrong where it is not the pixel that the reader paints
+// without a gap, or, in a gap or behind the last pixel, no more the 11111111 (hex) of before.
 use rules::Answer;
 use rules::Picture;
 ghost use mathlib.Core.Path.{_≡_};

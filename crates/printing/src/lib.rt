@@ -20,7 +20,7 @@ fn say_element(element: u32) {
 
 // Prints an answer's number, and the block that refusal 4 names.
 pub fn say_answer(answer: Answer) {
-    say_number(etc::number(answer) as usize);
+    say_number(spoken::number(answer) as usize);
     if let Answer::OutOfRange(block) = answer {
         say(b" block ");
         say_number(block);

@@ -1,4 +1,1 @@
-pub mod Bytes
-pub mod Whole
-pub mod Strict
 pub mod Row

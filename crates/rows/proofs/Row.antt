@@ -15,8 +15,9 @@ use Rattle.rules.specs.declared.Answer.{Answer}
 use Rattle.rules.specs.declared.Answer.the-variants.{Done}
 use Rattle.checks.proofs.Checks.{passed}
 use Rattle.place.proofs.Plain.{needed-plain}
-use Rattle.rows.specs.Rows.{high, rowBytes, rowPixels, ReadsRow}
-use Rattle.rows.proofs.Whole.{row-painted}
+use Rattle.strips.specs.Rows.{high, rowBytes, rowPixels}
+use Rattle.strips.proofs.Whole.{row-painted}
+use Rattle.rows.specs.Rows.{ReadsRow}
 
 module _ (f : Format) (bytes : List ℕ) (w h j : ℕ) (image : List ℕ) (answer : Answer) (new : List ℕ) where
   -- what is accepted is painted, and every check has passed

@@ -1,47 +1,10 @@
 // A picture in rows of blocks: each row is read from its own bytes, as a picture of its own, and shows what it shows in the
-// whole. So a picture needs the memory of one row. That all rows are the whole, and that the first row which a strict reader
-// refuses names the first block, is in proofs/.
+// whole. So a picture needs the memory of one row.
 use rules::Answer;
 use rules::Format;
 use rules::Picture;
-ghost use mathlib.Core.Path.{_≡_};
-ghost use Prim.Native.Nat.{_*_, _<_, _≤_};
-ghost use Rattle.rules.specs.Places.{across as acrossOf};
-ghost use Rattle.rows.specs.Rows.{high as highOf, ReadsRow, cornerOf};
-
-// The column and the row of a pixel.
-pub struct Corner {
-    pub column: usize,
-    pub row: usize,
-}
-
-// How many blocks a side needs, within the tool's own limit.
-pub fn across(side: usize) -> usize
-    requires { ⌜ side ≤ 16384 ⌝ }
-    ensures { λ r. ⌜ (r ≡ acrossOf side) × (r ≤ 4096) ⌝ }
-{
-    checks::across(side)
-}
-
-// The first pixel of a block, in rows of n blocks.
-pub fn corner_of(block: usize, n: usize) -> Corner
-    requires { ⌜ (0 < n) × (block < 0x1000000) ⌝ }
-    ensures { λ r. ⌜ r ≡ cornerOf n block ⌝ }
-{
-    Corner {
-        column: block % n * 4,
-        row: block / n * 4,
-    }
-}
-
-// How many pixels row j of blocks is high.
-pub fn high(height: usize, j: usize) -> usize
-    requires { ⌜ j * 4 < height ⌝ }
-    ensures { λ r. ⌜ (r ≡ highOf height j) × (r ≤ 4) ⌝ }
-{
-    let left = height - j * 4;
-    if left < 4 { left } else { 4 }
-}
+ghost use Prim.Native.Nat.{_*_, _<_};
+ghost use Rattle.rows.specs.Rows.{ReadsRow};
 
 // Reads row j of blocks of a picture, from the bytes of that row.
 pub fn read_row(
@@ -55,7 +18,7 @@ pub fn read_row(
     requires { ⌜ j * 4 < height ⌝ }
     ensures { λ r. ⌜ ReadsRow f (now (bytes .entry)) width height j (now (image .entry)) r (now (image .exit)) ⌝ }
 {
-    let tall = high(height, j);
+    let tall = strips::high(height, j);
     let row = Picture {
         width: width,
         height: tall,

@@ -155,5 +155,7 @@ orders =
     && notLess (5 ∷ 3 ∷ 9 ∷ []) (4 ∷ 2 ∷ 1 ∷ [])
 
 hold : T (numbers && words && orders && places && every (bench ++ recorded ++ table ++ pitches))
-unfolding numbers words orders places every bench table pitches recorded verdictOf paints leaves holds marked needed painted firstOf differential wrapped kindBySums outOfRange tBases tDistance hBases hDistance planarBases planarChannel indexed rgbPixel rgba1Pixel etc1Pixel alphaStep alphaByte rgba8Pixel eacValue eacByte redPixel redGreenPixel sizeOf showsOf
+unfolding numbers words orders places every bench table pitches recorded verdictOf paints leaves holds marked needed painted
+    firstOf differential wrapped kindBySums outOfRange tBases tDistance hBases hDistance planarBases planarChannel indexed
+    rgbPixel rgba1Pixel etc1Pixel alphaStep alphaByte rgba8Pixel eacValue eacByte redPixel redGreenPixel sizeOf showsOf
 hold = tt

@@ -46,7 +46,7 @@ abbrev pub bytes : List ℕ → List ℕ
 bytes blocks = apart 256 8 blocks
 
 abbrev pub elements : ℕ → List ℕ → List ℕ
-elements across lines = apart 4294967296 across lines
+elements across lines = apart 0x100000000 across lines
 
 -- what a row says of a reader's work: the reader and what it is lent, what it says, and what it leaves
 pub record Case : Type 0 where

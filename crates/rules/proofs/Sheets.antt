@@ -186,5 +186,8 @@ rows =
     ∷ []
 
 hold : T (every rows)
-unfolding room answer row every rec headed head some note good one rows little inBytes walked kept formatOf headVerdict readVerdict sheetOf writeVerdict needed painted differential wrapped kindBySums tBases tDistance hBases hDistance planarBases planarChannel indexed rgbPixel rgba1Pixel etc1Pixel alphaStep alphaByte rgba8Pixel eacValue eacByte redPixel redGreenPixel sizeOf showsOf
+unfolding room answer row every rec headed head some note good one rows little inBytes walked kept formatOf headVerdict
+    readVerdict sheetOf writeVerdict needed painted differential wrapped kindBySums tBases tDistance hBases hDistance planarBases
+    planarChannel indexed rgbPixel rgba1Pixel etc1Pixel alphaStep alphaByte rgba8Pixel eacValue eacByte redPixel redGreenPixel
+    sizeOf showsOf
 hold = tt

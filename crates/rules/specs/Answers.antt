@@ -9,7 +9,8 @@ use lib.ListN.{getD}
 use Rattle.rules.specs.Places.{needed, blocks}
 use Rattle.rules.specs.declared.Picture.{Picture}
 use Rattle.rules.specs.declared.Answer.{Answer}
-use Rattle.rules.specs.declared.Answer.the-variants.{Done, TooLarge, ShortData, ShortImage, OutOfRange, NoChannel, CutShort, NoHead, OtherKind, WrongBlocks, ShortPitch}
+use Rattle.rules.specs.declared.Answer.the-variants.{Done, TooLarge, ShortData, ShortImage, OutOfRange, NoChannel}
+use Rattle.rules.specs.declared.Answer.the-variants.{CutShort, NoHead, OtherKind, WrongBlocks, ShortPitch}
 
 -- the table of refusals: the number of each, and what it "also returns"
 abbrev pub said : Answer → List ℕ

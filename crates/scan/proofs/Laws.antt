@@ -19,9 +19,9 @@ use Rattle.rules.specs.declared.Picture.{Picture}
 use Rattle.rules.specs.declared.Answer.{Answer}
 use Rattle.rules.specs.declared.Answer.the-variants.{Done, ShortData, OutOfRange}
 use Rattle.place.proofs.Grid.{wide}
-use Rattle.header.specs.Files.{fileLimit}
-use Rattle.rows.specs.Rows.{scanned, firstIn, scannedRow}
-use Rattle.rows.proofs.Strict.{after-row, settled}
+use Rattle.textures.specs.Textures.{fileLimit}
+use Rattle.strips.specs.Rows.{scanned, firstIn, scannedRow}
+use Rattle.strips.proofs.Strict.{after-row, settled}
 use Rattle.scan.specs.Scan.{numberOf, ScansRow, Scans, Checked}
 
 -- ---- a row
@@ -123,13 +123,13 @@ named test n i e =
     ]
 
 -- a block that is named is one of the picture's
-pub placed : (w h i : ℕ) → w ≤ fileLimit → h ≤ fileLimit → Scans (sized w h) (OutOfRange i) → (0 < across w) × (i < 16777216)
+pub placed : (w h i : ℕ) → w ≤ fileLimit → h ≤ fileLimit → Scans (sized w h) (OutOfRange i) → (0 < across w) × (i < 0x1000000)
 placed w h i a b s =
     let p : i < across w * across h =
     ⊎-elim (λ q. absurd (not-short 4 (i ∷ []) (sym (ap said q)) (λ z. omega (arith, z))))
     (λ q. named (λ k. outOfRange (bytesOf 8 (q .bytes) k)) (across w * across h) i (q .says))
     s in
-    let m : across w * across h ≤ 16777216 =
+    let m : across w * across h ≤ 0x1000000 =
     let x : across w ≤ 4096 = omega arith in
     let y : across h ≤ 4096 = omega arith in
     mul-le-mul x y in

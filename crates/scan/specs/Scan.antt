@@ -13,7 +13,7 @@ use Rattle.rules.specs.declared.Answer.{Answer}
 use Rattle.rules.specs.declared.Answer.the-variants.{ShortData}
 use Rattle.rules.specs.declared.Format.{Format}
 use Rattle.rules.specs.declared.Format.the-variants.{Etc1, Etc2Rgb, Etc2Rgba1, Etc2Rgba8, EacR, EacRSigned, EacRg, EacRgSigned}
-use Rattle.rows.specs.Rows.{scanned, scannedRow}
+use Rattle.strips.specs.Rows.{scanned, scannedRow}
 
 -- the formats whose blocks an ETC1 reader may be handed
 abbrev pub isColour : Format → Bool

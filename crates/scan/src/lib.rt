@@ -1,15 +1,15 @@
 // Whether a strict ETC1 reader accepts a picture, row of blocks by row of blocks. What is said follows from the bytes of each
 // row by functions whose contracts are equations; reading them and writing the words is all that no contract speaks of.
-use header::Texture;
 use rules::Answer;
 use rules::Format;
+use textures::Texture;
 ghost use mathlib.Core.Path.{_≡_};
 ghost use Prim.Native.Nat.{_+_, _*_, _<_, _≤_};
 ghost use lib.ListN.{length};
 ghost use Rattle.rules.specs.Places.{sized};
 ghost use Rattle.rules.specs.Answers.{said};
-ghost use Rattle.header.specs.Files.{fileLimit};
-ghost use Rattle.rows.specs.Rows.{scannedRow};
+ghost use Rattle.textures.specs.Textures.{fileLimit};
+ghost use Rattle.strips.specs.Rows.{scannedRow};
 ghost use Rattle.scan.specs.Scan.{isColour, numberOf, ScansRow, Scans, Checked};
 
 // What a strict reader says of all blocks up to row j of n blocks, from the bytes of that row, where it had nothing to say
@@ -27,7 +27,7 @@ fn after_row(row: &[u8], n: usize, j: usize) -> Answer
 
 // Reads row j of n blocks, which is next in the file, and scans it.
 fn scan_row(fd: i32, n: usize, j: usize, bytes: &mut [u8]) -> Answer
-    requires { ⌜ (n ≤ 4096) × (j < 4096) × (65536 ≤ length (now bytes)) ⌝ }
+    requires { ⌜ (n ≤ 4096) × (j < 4096) × (0x10000 ≤ length (now bytes)) ⌝ }
     ensures { λ r. ⌜ ScansRow n j (now (bytes .exit)) r ⌝ }
 {
     let size = n * 8;
@@ -43,8 +43,8 @@ fn scan_rows(fd: i32, width: usize, height: usize) -> Answer
     requires { ⌜ (width ≤ fileLimit) × (height ≤ fileLimit) ⌝ }
     ensures { λ r. ⌜ Scans (sized width height) r ⌝ }
 {
-    let n = rows::across(width);
-    let rows = rows::across(height);
+    let n = strips::across(width);
+    let rows = strips::across(height);
     let mut room = io::large_buffer();
     let bytes: &mut [u8] = &mut room;
     let mut j: usize = 0;
@@ -62,7 +62,7 @@ fn scan_rows(fd: i32, width: usize, height: usize) -> Answer
 fn number(answer: Answer) -> u64
     ensures { λ r. ⌜ r ≡ numberOf answer ⌝ }
 {
-    etc::number(answer) as u64
+    spoken::number(answer) as u64
 }
 
 // Says what a strict reader says of a picture: the words follow from the answer alone.
@@ -71,7 +71,7 @@ fn say(answer: Answer, width: usize, height: usize)
 {
     match answer {
         Answer::Done => words::accepted(),
-        Answer::OutOfRange(block) => words::refused_block(block, rows::across(width)),
+        Answer::OutOfRange(block) => words::refused_block(block, strips::across(width)),
         _ => words::refusal(number(answer)),
     }
 }
@@ -107,13 +107,13 @@ pub fn picture(fd: i32, t: Texture) -> u64
 {
     let f = t.format;
     if !is_colour(f) {
-        return refused(27);
+        return refused(words::NO_COLOUR);
     }
     if 16384 < t.width {
-        return refused(1);
+        return refused(words::TOO_LARGE);
     }
     if 16384 < t.height {
-        return refused(1);
+        return refused(words::TOO_LARGE);
     }
     let answer = scan_rows(fd, t.width, t.height);
     say(answer, t.width, t.height);

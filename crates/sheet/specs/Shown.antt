@@ -6,7 +6,8 @@ use mathlib.Core.List.{List, []}
 use Prim.Native.Nat.{ℕ, _≤_, _<_}
 use lib.ListN.{length}
 use Rattle.rules.specs.Places.{sized}
-use Rattle.rules.specs.Answers.{accepts}
+use Rattle.rules.specs.Answers.{said, accepts}
+use Rattle.rules.specs.declared.Answer.{Answer}
 use Rattle.rules.specs.declared.Head.{Head}
 use Rattle.rules.specs.declared.Picture.{Picture}
 use Rattle.rules.specs.Records.{recordsOf}
@@ -24,6 +25,11 @@ Passes verdict = (then : List ℕ) → verdict then ≡ then
 pub record Halts (verdict : List ℕ → List ℕ) : Type 0 where
   pub alike : (then : List ℕ) → verdict then ≡ verdict []
   pub refused : accepts (verdict []) ≡ false
+
+-- which is refused with an answer, whatever is still to be said
+pub record Refuses (verdict : List ℕ → List ℕ) (a : Answer) : Type 0 where
+  pub says : (then : List ℕ) → said a ≡ verdict then
+  pub refused : accepts (said a) ≡ false
 
 -- the size that a head names
 abbrev pub sizeOfHead : Head → Picture

@@ -12,10 +12,12 @@ use Rattle.rules.specs.declared.Head.{Head}
 use Rattle.rules.specs.declared.Sheet.the-variants.{Refused}
 use Rattle.rules.specs.Records.{Records, recordsOf, first, later, kept}
 use Rattle.rules.specs.Sheets.{blockBytes, formatIn, sizeIn, afterHead, walkVerdict, headIn, TellsHead, ReadsSheet}
-use Rattle.sheet.specs.Shown.{walk, Halts}
+use Rattle.sheet.specs.Shown.{walk, Halts, Refuses}
 use Rattle.sheet.proofs.Shown as shown
-use Rattle.sheet_read.specs.Found.{Refuses, behind, Headed, Blocked, Sheeted}
-use Rattle.sheet_read.proofs.Heads.{head-then}
+use Rattle.sheet_first.specs.Heads.{Headed}
+use Rattle.sheet_first.proofs.Heads.{head-then}
+use Rattle.sheet_later.specs.Follows.{behind, Blocked}
+use Rattle.sheet_read.specs.Found.{Sheeted}
 
 -- behind a head within the limit, what follows decides
 module _ (d : List ℕ) (h : Head) (from n : ℕ) (p : Headed d h from n) where

@@ -27,7 +27,7 @@ pub fn read_block(f: Format, data: &[u8], image: &mut [u32]) -> Answer
     let Answer::Done = answer else {
         return answer;
     };
-    place::place_block(blocks::block(f, data), image);
+    fill::place_block(blocks::block(f, data), image);
     Answer::Done
 }
 
@@ -39,8 +39,8 @@ pub fn read_alpha(data: &[u8], image: &mut [u32]) -> Answer
     let Answer::Done = answer else {
         return answer;
     };
-    let stood = place::first_sixteen(image);
-    place::place_block(channel::a8_onto(data, stood), image);
+    let stood = fill::first_sixteen(image);
+    fill::place_block(channel::a8_onto(data, stood), image);
     Answer::Done
 }
 
@@ -55,7 +55,7 @@ pub fn read_channel(signed: bool, data: &[u8], channel: usize, image: &mut [u32]
     let Answer::Done = answer else {
         return answer;
     };
-    let stood = place::first_sixteen(image);
-    place::place_block(eac::eac_onto(data, signed, channel, stood), image);
+    let stood = fill::first_sixteen(image);
+    fill::place_block(eac::eac_onto(data, signed, channel, stood), image);
     Answer::Done
 }

@@ -1,7 +1,7 @@
 // The arguments of the program, each as the word that it is.
 use call::Asked;
 use call::Number;
-use header::Known;
+use textures::Known;
 
 // What the first argument asks.
 pub fn asked_first() -> Asked {

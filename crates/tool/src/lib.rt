@@ -4,8 +4,8 @@ mod args;
 mod source;
 
 use call::Asked;
-use header::Header;
 use source::Source;
+use textures::Header;
 
 // Says what a header tells against a picture, and the number of that.
 fn refused(header: Header) -> u64 {
@@ -31,8 +31,8 @@ fn checked(source: Source) -> u64 {
         return refused(told);
     };
     if !source::seek(source.fd, t.start) {
-        words::refusal(30);
-        return 30;
+        words::refusal(words::NO_FILE);
+        return words::NO_FILE;
     }
     scan::picture(source.fd, t)
 }
@@ -46,12 +46,12 @@ fn unpacked(source: Source, place: usize) -> u64 {
     let mut path = io::buffer();
     let n = os::arg(place, &mut path);
     if os::errno() != 0 {
-        words::refusal(32);
-        return 32;
+        words::refusal(words::NO_CALL);
+        return words::NO_CALL;
     }
     if !source::seek(source.fd, t.start) {
-        words::refusal(30);
-        return 30;
+        words::refusal(words::NO_FILE);
+        return words::NO_FILE;
     }
     writer::picture(source.fd, t, &path[..n])
 }
@@ -86,8 +86,8 @@ fn number_for(what: Asked) -> u64 {
             0
         }
         Asked::Nothing => {
-            words::refusal(32);
-            32
+            words::refusal(words::NO_CALL);
+            words::NO_CALL
         }
         _ => answered(what),
     }

@@ -1,8 +1,11 @@
 // A file that is read: its descriptor, its length and what its header tells.
 use call::Asked;
 use call::Number;
-use header::Header;
-use header::Known;
+use textures::Header;
+use textures::Known;
+ghost use mathlib.Core.Path.{_≡_};
+ghost use Rattle.rules.specs.Notation.{clamp};
+ghost use Rattle.tool.specs.Calls.{placeOf};
 
 // An opened file; where the descriptor is negative, the number of the refusal.
 pub struct Source {
@@ -21,7 +24,9 @@ fn none(number: u64) -> Source {
 }
 
 // What lseek answered, as a length. No picture needs as much as 2^40 bytes, so a longer file counts as that long.
-fn length_of(end: i64) -> usize {
+fn length_of(end: i64) -> usize
+    ensures { λ r. ⌜ r ≡ clamp 0x10000000000 end ⌝ }
+{
     if end < 0 {
         return 0;
     }
@@ -61,15 +66,20 @@ fn bare(len: usize) -> Header {
     let Number::Is(height) = crate::args::number_at(4) else {
         return Header::SizesDisagree;
     };
-    header::bare(format, width, height, len)
+    textures::bare(format, width, height, len)
 }
 
 // Where the file's name stands among the arguments.
-fn place_of(what: Asked) -> usize {
+fn place_of(what: Asked) -> usize
+    ensures { λ r. ⌜ r ≡ placeOf what ⌝ }
+{
     match what {
         Asked::Picture => 1,
         Asked::Raw => 5,
-        _ => 2,
+        Asked::Check => 2,
+        Asked::Info => 2,
+        Asked::Help => 2,
+        Asked::Nothing => 2,
     }
 }
 
@@ -88,12 +98,12 @@ pub fn named(what: Asked) -> Source {
     let fd = os::open_read(&path[..n]);
     if fd < 0 {
         os::fail(&path[..n]);
-        return none(30);
+        return none(words::NO_FILE);
     }
     let end = libc::lseek(fd, 0, libc::SEEK_END);
     if end < 0 {
         libc::close(fd);
-        return none(30);
+        return none(words::NO_FILE);
     }
     let len = length_of(end);
     Source {

@@ -1,12 +1,23 @@
 // The tool's words: results on standard output, refusals on standard error.
-use header::Header;
-use header::Texture;
 use libc::STDERR_FILENO;
 use libc::STDOUT_FILENO;
 use rules::Format;
+use textures::Header;
+use textures::Texture;
 ghost use mathlib.Core.Path.{_≡_};
 ghost use Prim.Native.Nat.{_<_};
-ghost use Rattle.header.specs.Files.{numberOf};
+ghost use Rattle.textures.specs.Textures.{numberOf};
+
+// The refusals of the tool that no header tells: a number stands here and beside its sentence, in `own_refusal`, and nowhere else.
+pub const TOO_LARGE: u64 = 1;
+
+pub const NO_COLOUR: u64 = 27;
+
+pub const NO_FILE: u64 = 30;
+
+pub const NO_PNG: u64 = 31;
+
+pub const NO_CALL: u64 = 32;
 
 // The number of what a header tells.
 pub fn number_of(header: Header) -> u64
@@ -42,24 +53,40 @@ pub fn count(n: u64) {
     io::print_decimal(STDOUT_FILENO, n);
 }
 
-// The sentence of a refusal.
-pub fn refusal(number: u64) {
+// The sentence of a refusal that a header tells.
+fn header_refusal(number: u64) {
     match number {
-        1 => complain(b"The picture is wider or higher than 16,384 pixels."),
-        2 => complain(b"The file has fewer bytes than its blocks need."),
         20 => complain(b"The file ends before its header does."),
         21 => complain(b"The file is neither a PKM nor a KTX 1 file."),
         22 => complain(b"The file has a version or a byte order that nobody defined."),
         23 => complain(b"The format is none of ETC1, ETC2 RGB, RGBA1, RGBA8, EAC R and RG."),
         24 => complain(b"The sizes contradict each other."),
         25 => complain(b"The file holds more than one flat picture: a volume, an array or a cube."),
-        26 => complain(b"The picture has no pixel, and a PNG cannot have none."),
+        _ => complain(b"The picture has no pixel, and a PNG cannot have none."),
+    }
+}
+
+// The sentence of any other refusal.
+fn own_refusal(number: u64) {
+    match number {
+        1 => complain(b"The picture is wider or higher than 16,384 pixels."),
+        2 => complain(b"The file has fewer bytes than its blocks need."),
         27 => complain(
             b"The picture is no ETC1 or ETC2 RGB picture, so an ETC1 reader has nothing to accept.",
         ),
         30 => complain(b"The file cannot be opened or measured."),
         31 => complain(b"The PNG cannot be written; nothing is left of it."),
         _ => complain(b"That is not a way to call this program; --help says how to."),
+    }
+}
+
+// The sentence of a refusal. The sentences are two functions, and so is what `help` says: what a check of a function costs grows faster
+// than its arms and calls.
+pub fn refusal(number: u64) {
+    if (19 < number) & (number < 27) {
+        header_refusal(number)
+    } else {
+        own_refusal(number)
     }
 }
 
@@ -84,6 +111,18 @@ fn name(f: Format) {
     }
 }
 
+// How many blocks there are, and where.
+fn blocks(t: Texture) {
+    let f = t.format;
+    let size = checks::size(f);
+    count((t.bytes / size) as u64);
+    tell(b" of ");
+    count(size as u64);
+    tell(b" bytes, from byte ");
+    count(t.start as u64);
+    tell(b" on\n");
+}
+
 // Format, size and blocks.
 pub fn texture(t: Texture) {
     let f = t.format;
@@ -94,12 +133,7 @@ pub fn texture(t: Texture) {
     tell(b" x ");
     count(t.height as u64);
     tell(b" pixels\nblocks ");
-    count((t.bytes / checks::size(f)) as u64);
-    tell(b" of ");
-    count(checks::size(f) as u64);
-    tell(b" bytes, from byte ");
-    count(t.start as u64);
-    tell(b" on\n");
+    blocks(t);
 }
 
 // How far the work is, where somebody looks on: every 64th row of blocks of a large picture.
@@ -119,13 +153,18 @@ pub fn progress(row: usize, rows: usize) {
     io::print_decimal(STDERR_FILENO, rows as u64);
 }
 
-// How to call the program.
-pub fn help() {
+// What may be asked.
+fn usage() {
     tell(b"unpack FILE OUT.png                        a PKM or KTX 1 file to a PNG\n");
     tell(b"unpack --raw FORMAT WIDTH HEIGHT FILE OUT.png   the same of bare blocks\n");
     tell(b"unpack --check FILE     whether a strict ETC1 reader accepts the picture\n");
     tell(b"unpack --info FILE      format, size and blocks\n");
     tell(b"unpack --help           this\n\n");
+}
+
+// How to call the program.
+pub fn help() {
+    usage();
     tell(
         b"FORMAT is etc1, etc2-rgb, etc2-rgba1, etc2-rgba8, eac-r, eac-r-signed,\neac-rg or eac-rg-signed.\n\n",
     );
@@ -149,9 +188,9 @@ pub fn accepted() {
 
 // The first block that it does not accept, where n blocks are a row, and the first pixel of that block.
 pub fn refused_block(block: usize, n: usize)
-    requires { ⌜ (0 < n) × (block < 16777216) ⌝ }
+    requires { ⌜ (0 < n) × (block < 0x1000000) ⌝ }
 {
-    let corner = rows::corner_of(block, n);
+    let corner = strips::corner_of(block, n);
     tell(b"A strict ETC1 reader must not show this picture: block ");
     count(block as u64);
     tell(b", at pixel column ");

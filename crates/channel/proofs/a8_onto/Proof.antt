@@ -11,7 +11,7 @@ use Rattle.rules.specs.Notation.{byte, build, clamp}
 use Rattle.rules.specs.Channels.{alphaByte, withAlpha}
 use Rattle.laws.proofs.Filling.{Filling, inOrder, begun, stored-next, filled-all}
 use Rattle.laws.proofs.Filled.{build-same}
-use Rattle.channel.specs.Picks.{pickAt}
+use Rattle.picks.specs.Picks.{pickAt}
 use Rattle.channel.proofs.Steps.{held-at}
 use Rattle.channel.proofs.Moves.{moveAt, move-picked, small-in, small-move}
 use Rattle.channel.proofs.a8_onto.Statement.{statement}

@@ -10,7 +10,7 @@ use lib.ListN.{getD}
 use Rattle.rules.specs.Notation.{build}
 use Rattle.rules.specs.Channels.{alphaSteps}
 use Rattle.laws.proofs.Filled.{build-same}
-use Rattle.channel.specs.Picks.{pickAt}
+use Rattle.picks.specs.Picks.{pickAt}
 use Rattle.channel.proofs.Steps.{small-row, step-picked}
 use Rattle.channel.proofs.steps_of.Statement.{statement}
 use Rattle.channel.proofs.steps_of.Tie as tie

@@ -52,7 +52,9 @@ abbrev start : tie.After-short-image → tie.Start
 start c = c .before .before .before .before .before
 
 -- the answer is left to the other three
-after : (c : tie.After-short-image) (v : List ℕ) → v ≡ verdict (pitch (start c) ∷ bytes (start c) ∷ elements (start c) ∷ []) → v ≡ verdict (sides (start c) ∷ pitch (start c) ∷ bytes (start c) ∷ elements (start c) ∷ [])
+after : (c : tie.After-short-image) (v : List ℕ)
+    → v ≡ verdict (pitch (start c) ∷ bytes (start c) ∷ elements (start c) ∷ [])
+    → v ≡ verdict (sides (start c) ∷ pitch (start c) ∷ bytes (start c) ∷ elements (start c) ∷ [])
 after c v e =
     let s = start c in
     passes (sides s) (pitch s ∷ bytes s ∷ elements s ∷ []) (0 ∷ []) v (clear (c .before .before)) e

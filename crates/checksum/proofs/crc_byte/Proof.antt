@@ -5,16 +5,12 @@ use Prim.Native.Nat.{ℕ, _/_, _%_}
 use native.Mathlib.Omega.{arith}
 use native.Mathlib.Nat.{mod-lt}
 use lib.Bits.{bitXor}
-use Rattle.checksum.specs.Sums.{crcByte, crcSteps}
+use Rattle.checksum.specs.Sums.{crcByte}
 use Rattle.checksum.proofs.Table.{remainder}
 use Rattle.checksum.proofs.Bytes.{eight}
 use borrow.Author.Needs.{needs}
 use Rattle.checksum.proofs.crc_byte.Statement.{statement}
 use Rattle.checksum.proofs.crc_byte.Tie as tie
-
--- src/lib.rt:54:23
-wide-requires : tie.Need-wide-requires
-wide-requires c κs = search needs
 
 -- src/lib.rt:55:15
 cast-low : tie.Need-cast-low
@@ -32,11 +28,8 @@ array-read-result c = search needs
 returns : tie.Need-returns
 unfolding crcByte
 returns c =
-    let a = c .before .args in
-    let m = bitXor (a .sum) (c .wide .result) in
-    ap (λ (z : ℕ). bitXor z (m / 256)) (remainder (m % 256) (mod-lt m (omega arith)))
-    ∙ sym (eight m)
-    ∙ ap (λ (z : ℕ). crcSteps 8 (bitXor (a .sum) z)) (c .wide .ensures .0)
+    let m = bitXor (c .args .sum) (c .args .b) in
+    ap (λ (z : ℕ). bitXor z (m / 256)) (remainder (m % 256) (mod-lt m (omega arith))) ∙ sym (eight m)
 
 pub crc-byte-spec : {M : Type 1} → statement M
-crc-byte-spec = tie.close (tie.spec wide-requires cast-low mul-result array-read-result returns)
+crc-byte-spec = tie.close (tie.spec cast-low mul-result array-read-result returns)

@@ -49,7 +49,7 @@ mul-out-3 c =
     let b = c .before .before .before in
     let u = c .before .before .unit-of in
     let s = byte-small _ _ (b .eac-bytes .result) (c .before .loop .i) (b .eac-bytes .ensures) (omega arith) in
-    omega (arith, times-le (getD (b .eac-bytes .result) (c .before .loop .i) 0) 255 (u .result) 16777216 (omega arith) (omega arith))
+    omega (arith, times-le (getD (b .eac-bytes .result) (c .before .loop .i) 0) 255 (u .result) 0x1000000 (omega arith) (omega arith))
 
 mul-out-4 : tie.Need-mul-out-4 Inv-loop μ-loop
 mul-out-4 c = omega arith

@@ -3,7 +3,8 @@
 use mathlib.Core.Path.{_∙_, ap}
 use denote.Ref.{now}
 use Rattle.header.proofs.Picks.{same, other}
-use Rattle.header.specs.Files.{ktxIn, ktxAs, glFormat}
+use Rattle.textures.specs.Textures.{glFormat}
+use Rattle.header.specs.Files.{ktxIn, ktxAs}
 use borrow.Author.Needs.{needs}
 use Rattle.header.proofs.ktx_in.Statement.{statement}
 use Rattle.header.proofs.ktx_in.Tie as tie

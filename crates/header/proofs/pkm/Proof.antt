@@ -3,7 +3,8 @@
 use mathlib.Core.Path.{_∙_, ap}
 use denote.Ref.{now}
 use Rattle.header.proofs.Picks.{same, other}
-use Rattle.header.specs.Files.{pkmOf, pkmAs, oldPkm, newPkm}
+use Rattle.textures.specs.Textures.{oldPkm, newPkm}
+use Rattle.header.specs.Files.{pkmOf, pkmAs}
 use borrow.Author.Needs.{needs}
 use Rattle.header.proofs.pkm.Statement.{statement}
 use Rattle.header.proofs.pkm.Tie as tie

@@ -26,38 +26,36 @@ big2-requires-2 c κs = search needs
 big2-requires-3 : tie.Need-big2-requires-3
 big2-requires-3 c κs = search needs
 
-add-if1 : tie.Need-add-if1
-add-if1 c = search needs
-
-mul-if1 : tie.Need-mul-if1
-mul-if1 c = search needs
+padded-requires : tie.Need-padded-requires
+padded-requires c κs = search needs
 
 returns-2 : tie.Need-returns-2
 unfolding pkmAs
 returns-2 c =
-    let h = c .before in
+    let p = c .before in
+    let h = p .before in
     simp (
       h .before .before .before .before .known .given .1,
-      unlike (h .big23 .ensures .0) (ap padded (h .before .before .big2 .ensures .0)) (c .if1 .taken),
+      unlike (h .big23 .ensures .0) (p .padded .ensures ∙ ap padded (h .before .before .big2 .ensures .0)) (c .if1 .taken),
     )
 
 big2-requires-4 : tie.Need-big2-requires-4
 big2-requires-4 c κs = search needs
 
-add-if2 : tie.Need-add-if2
-add-if2 c = search needs
-
-mul-if2 : tie.Need-mul-if2
-mul-if2 c = search needs
+padded-requires-2 : tie.Need-padded-requires-2
+padded-requires-2 c κs = search needs
 
 returns-3 : tie.Need-returns-3
 unfolding pkmAs
 returns-3 c =
-    let h = c .before .before .before in
+    let q = c .before in
+    let b = q .before in
+    let p = b .before .before in
+    let h = p .before in
     simp (
       h .before .before .before .before .known .given .1,
-      alike (h .big23 .ensures .0) (ap padded (h .before .before .big2 .ensures .0)) (c .before .before .if1 .left),
-      unlike (c .before .big24 .ensures .0) (ap padded (h .before .big22 .ensures .0)) (c .if2 .taken),
+      alike (h .big23 .ensures .0) (p .padded .ensures ∙ ap padded (h .before .before .big2 .ensures .0)) (b .before .if1 .left),
+      unlike (b .big24 .ensures .0) (q .padded2 .ensures ∙ ap padded (h .before .big22 .ensures .0)) (c .if2 .taken),
     )
 
 laid-out-requires : tie.Need-laid-out-requires
@@ -66,11 +64,14 @@ laid-out-requires c κs = search needs
 returns-4 : tie.Need-returns-4
 unfolding pkmAs
 returns-4 c =
-    let h = c .before .before .before .before in
+    let q = c .before .before in
+    let b = q .before in
+    let p = b .before .before in
+    let h = p .before in
     simp (
       h .before .before .before .before .known .given .1,
-      alike (h .big23 .ensures .0) (ap padded (h .before .before .big2 .ensures .0)) (c .before .before .before .if1 .left),
-      alike (c .before .before .big24 .ensures .0) (ap padded (h .before .big22 .ensures .0)) (c .before .if2 .left),
+      alike (h .big23 .ensures .0) (p .padded .ensures ∙ ap padded (h .before .before .big2 .ensures .0)) (b .before .if1 .left),
+      alike (b .big24 .ensures .0) (q .padded2 .ensures ∙ ap padded (h .before .big22 .ensures .0)) (c .before .if2 .left),
     )
     (c .laid-out .ensures ∙ laid _ _ (h .before .before .big2 .ensures .0) (h .before .big22 .ensures .0) refl)
 
@@ -84,12 +85,10 @@ pkm-as-spec =
     big2-requires
     big2-requires-2
     big2-requires-3
-    add-if1
-    mul-if1
+    padded-requires
     returns-2
     big2-requires-4
-    add-if2
-    mul-if2
+    padded-requires-2
     returns-3
     laid-out-requires
     returns-4)

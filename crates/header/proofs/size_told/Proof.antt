@@ -10,9 +10,9 @@ use mathlib.Core.List.{List}
 use types.Run.{OneOf, miss}
 use denote.Enum.Declared
 use Rattle.header.specs.Files.{sizeTold}
-use Rattle.header.specs.declared.Header.{Header}
-use Rattle.header.specs.declared.Header.the-variants.{Holds, TooLarge, ShortData, Cut, NoTexture, NoVersion, NoFormat, SizesDisagree, NotFlat, NoPixels}
-use Rattle.header.proofs.Header.{the-type}
+use Rattle.textures.specs.declared.Header.{Header}
+use Rattle.textures.specs.declared.Header.the-variants.{Holds, TooLarge, ShortData, Cut, NoTexture, NoVersion, NoFormat, SizesDisagree, NotFlat, NoPixels}
+use Rattle.textures.proofs.Header.{the-type}
 use borrow.Author.Needs.{needs}
 use Rattle.header.proofs.size_told.Statement.{statement}
 use Rattle.header.proofs.size_told.Tie as tie

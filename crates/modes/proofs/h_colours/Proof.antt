@@ -3,7 +3,7 @@
 use mathlib.Core.Path.{_∙_, ap}
 use Rattle.rules.specs.Modes.{hBases, hDistance, hColours}
 use Rattle.shade.proofs.Pick.{halves}
-use Rattle.modes.specs.Fields.{distanceAt}
+use Rattle.fields.specs.Fields.{distanceAt}
 use Rattle.modes.proofs.Four.{small-h, h-four}
 use borrow.Author.Needs.{needs}
 use Rattle.modes.proofs.h_colours.Statement.{statement}

@@ -59,7 +59,7 @@ at : (c : tie.In-loop Inv-loop μ-loop) → Stands (across (start-of c .args .pi
 at c = rw (c .before .before .before .across .ensures) at (c .before .loop .inv .2)
 
 -- the row of the block is one of the picture
-low : (c : tie.In-loop Inv-loop μ-loop) → c .before .loop .spot .by < 65536
+low : (c : tie.In-loop Inv-loop μ-loop) → c .before .loop .spot .by < 0x10000
 low c =
     let s = start-of c in
     let l = c .before .loop in

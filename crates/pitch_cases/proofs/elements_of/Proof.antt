@@ -1,7 +1,7 @@
 -- At most eight rows of fifteen, and nine.
 -- Assumes nothing.
 use borrow.Author.Needs.{needs}
-use Prim.Native.Nat.{ℕ, _-_, _*_, _≤_}
+use Prim.Native.Nat.{_-_, _*_, _≤_}
 use native.Mathlib.Omega.{arith}
 use Rattle.laws.proofs.Signed.{times-le}
 use Rattle.pitch_cases.proofs.elements_of.Statement.{statement}

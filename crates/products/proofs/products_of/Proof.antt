@@ -1,6 +1,6 @@
 -- Each row of the table is its rule: b is the arm's own number, and there antt computes multiplier times step for all eight.
 -- Assumes nothing.
-use mathlib.Core.Path.{_≡_, ap}
+use mathlib.Core.Path.{ap}
 use Prim.Native.Nat.{ℕ}
 use native.Mathlib.Omega.{arith}
 use lib.IntN.{ℤ}

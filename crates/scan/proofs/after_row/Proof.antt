@@ -11,7 +11,7 @@ use Rattle.scan.proofs.after_row.Tie as tie
 first-out-of-range-requires : tie.Need-first-out-of-range-requires
 first-out-of-range-requires c κs = search needs
 
-few : (s : tie.Start) → s .args .j * s .args .n ≤ 16777216
+few : (s : tie.Start) → s .args .j * s .args .n ≤ 0x1000000
 few s =
     let a : s .args .j ≤ 4096 = omega (arith, s .pre) in
     let b : s .args .n ≤ 4096 = omega (arith, s .pre) in

@@ -11,7 +11,7 @@ use Rattle.scan.proofs.scan_rows.Statement.{statement}
 use Rattle.scan.proofs.scan_rows.Tie as tie
 
 abbrev Inv-loop : tie.InvT-loop
-Inv-loop fd width height n rows bytes₀ j₀ bytes j = (65536 ≤ length bytes) × (j ≤ rows) × Clear n j
+Inv-loop fd width height n rows bytes₀ j₀ bytes j = (0x10000 ≤ length bytes) × (j ≤ rows) × Clear n j
 
 abbrev μ-loop : tie.MeasureT-loop
 μ-loop fd width height n rows bytes₀ j₀ bytes j = rows - j

@@ -89,12 +89,12 @@ loop-again c =
     let d = s .args .d .now in
     let colours = s .args .t2 in
     let o = at (c .before) in
-    let top : w .result / 65536 ≡ highWord d = omega arith in
+    let top : w .result / 0x10000 ≡ highWord d = omega arith in
     let n : 1 * l .i ≡ l .i = omega arith in
     let lb : l .low % 2 ≡ bit (l .i) (lowWord d) = rw (l .inv .0, n, w .ensures .0) (low-field 16 (highWord d) (lowWord d) (l .i) 1 (w .ensures .1) (omega arith)) in
     let hb : l .high % 2 ≡ bit (l .i) (highWord d) = rw (l .inv .1, n, top) in (
       ap (λ (n : ℕ). n / 2) (l .inv .0) ∙ shifted (w .result) 1 (l .i),
-      ap (λ (n : ℕ). n / 2) (l .inv .1) ∙ shifted (w .result / 65536) 1 (l .i),
+      ap (λ (n : ℕ). n / 2) (l .inv .1) ∙ shifted (w .result / 0x10000) 1 (l .i),
       stored place (taken d colours) 0 16 (l .out) (l .i) (getD order (l .i) 0) _ (l .inv .2) (omega arith) (omega arith) (λ k h e. omega arith)
           (takes d colours (l .i) _ (l .low) (l .high) (omega arith) (rw div-one (c .half-of .ensures .0)) lb hb ∙ ap (taken d colours) (sym o)),
     )

@@ -9,7 +9,7 @@ use borrow.Author.Tests.{eq-eqb, ne-eqb}
 use borrow.Author.Needs.{needs}
 use Rattle.rules.specs.Colour.{kindBySums}
 use Rattle.laws.specs.Sorted.{fourth}
-use Rattle.laws.proofs.Sorted.{placeBy, sorts}
+use Rattle.laws.proofs.Sorted.{sorts}
 use Rattle.tally.proofs.place_of.Statement.{statement}
 use Rattle.tally.proofs.place_of.Tie as tie
 
