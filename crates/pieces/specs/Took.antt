@@ -1,0 +1,20 @@
+-- A piece that is taken: what the function below the checks promises.
+-- Assumes nothing.
+use mathlib.Core.Path.{_≡_}
+use mathlib.Core.List.{List, _++_}
+use Prim.Native.Nat.{ℕ}
+use Rattle.rules.specs.Places.{bytesFrom, pixelBy}
+use Rattle.rules.specs.Formats.{sizeOf, showsOf}
+use Rattle.rules.specs.declared.Answer.the-variants.{Done}
+use Rattle.rules.specs.declared.Format.{Format}
+use Rattle.rules.specs.declared.Picture.{Picture}
+use Rattle.prules.specs.declared.Progress.{Progress}
+use Rattle.prules.specs.declared.Taken.{Taken}
+use Rattle.prules.specs.Pieces.{completed, behindLast, after, imageAfter}
+
+pub record Took (p : Progress) (e image : List ℕ) (r : Taken) (new : List ℕ) : Type 0 where
+  pub answer : r .answer ≡ Done
+  pub state : r .progress ≡ after p e
+  pub painted : r .painted ≡ completed p e
+  pub unused : r .unused ≡ behindLast p e
+  pub leaves : new ≡ imageAfter p e image

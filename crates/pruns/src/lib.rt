@@ -1,0 +1,1 @@
+// Runs of blocks; to be moved to paint.
