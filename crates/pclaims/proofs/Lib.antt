@@ -1,0 +1,3 @@
+pub mod Arrived
+pub mod Step
+pub mod Cuts

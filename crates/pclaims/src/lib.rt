@@ -1,0 +1,1 @@
+// Claims of M-105; to be moved to claims.
