@@ -15,7 +15,7 @@ use lib.Seq.{ext-getD, length-take-le, getD-take, getD-drop, getD-append-add, ge
 use Rattle.rules.specs.Notation.{build, byte}
 use Rattle.rules.specs.Places.{bytesOf}
 use Rattle.laws.proofs.Filled.{is-build, length-build, getD-build}
-use Rattle.prules.specs.Pieces.{padded}
+use Rattle.rules.specs.Pieces.{padded}
 
 module _ (kept e : List ℕ) (h : ℕ) (long : h ≤ length kept) where
   size : length (take h kept) ≡ h

@@ -4,7 +4,7 @@ ghost use mathlib.Core.List.{_++_};
 ghost use Prim.Native.Nat.{_+_, _≤_};
 ghost use lib.ListN.{length, take};
 ghost use Rattle.rules.specs.Notation.{build, byte};
-ghost use Rattle.prules.specs.Pieces.{padded};
+ghost use Rattle.rules.specs.Pieces.{padded};
 
 // Byte i of them, and 0 past their end.
 fn byte_at(kept: [u8; 15], held: usize, bytes: &[u8], i: usize) -> u8

@@ -8,11 +8,11 @@ use lib.ListN.{length, take}
 use Rattle.rules.specs.Answers.{said, accepts}
 use Rattle.rules.specs.declared.Answer.{Answer}
 use Rattle.rules.specs.declared.Answer.the-variants.{Done}
-use Rattle.prules.specs.declared.Progress.{Progress}
-use Rattle.prules.specs.declared.Taken.{Taken}
-use Rattle.prules.specs.Pieces.{size, got, later, completed, behindLast, after, padded, pieceVerdict, imageAfter, Takes}
+use Rattle.rules.specs.declared.Progress.{Progress}
+use Rattle.rules.specs.declared.Taken.{Taken}
+use Rattle.rules.specs.Pieces.{size, got, later, completed, behindLast, after, padded, pieceVerdict, imageAfter, Takes}
 use Rattle.paint.specs.Run.{PaintsRun}
-use Rattle.pruns.proofs.Runs.{run-painted}
+use Rattle.paint.proofs.Runs.{run-painted}
 use Rattle.pieces.specs.Took.{Took}
 
 module _ (p : Progress) (e image : List ℕ) where

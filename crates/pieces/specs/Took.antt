@@ -8,9 +8,9 @@ use Rattle.rules.specs.Formats.{sizeOf, showsOf}
 use Rattle.rules.specs.declared.Answer.the-variants.{Done}
 use Rattle.rules.specs.declared.Format.{Format}
 use Rattle.rules.specs.declared.Picture.{Picture}
-use Rattle.prules.specs.declared.Progress.{Progress}
-use Rattle.prules.specs.declared.Taken.{Taken}
-use Rattle.prules.specs.Pieces.{completed, behindLast, after, imageAfter}
+use Rattle.rules.specs.declared.Progress.{Progress}
+use Rattle.rules.specs.declared.Taken.{Taken}
+use Rattle.rules.specs.Pieces.{completed, behindLast, after, imageAfter}
 
 pub record Took (p : Progress) (e image : List ℕ) (r : Taken) (new : List ℕ) : Type 0 where
   pub answer : r .answer ≡ Done

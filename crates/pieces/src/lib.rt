@@ -1,12 +1,12 @@
 // A picture whose bytes arrive in pieces of any length: each block is painted as soon as it is whole, and between two pieces at most
 // 15 bytes are kept. The state goes in by value and comes back. Every value of it is a state, so a forged one is answered like any
 // other, and nothing is asked of the caller.
-use prules::Progress;
-use prules::Started;
-use prules::Taken;
 use rules::Answer;
 use rules::Format;
 use rules::Picture;
+use rules::Progress;
+use rules::Started;
+use rules::Taken;
 ghost use mathlib.Core.Path.{_≡_};
 ghost use mathlib.Core.List.{_++_};
 ghost use Prim.Native.Nat.{_+_, _-_, _*_, _<_, _≤_, min};
@@ -14,7 +14,7 @@ ghost use lib.ListN.{length, take};
 ghost use Rattle.rules.specs.Places.{blocks};
 ghost use Rattle.rules.specs.Answers.{said, limit, verdict};
 ghost use Rattle.rules.specs.Formats.{sizeOf};
-ghost use Rattle.prules.specs.Pieces.{startChecks, Starts, Takes, Ends};
+ghost use Rattle.rules.specs.Pieces.{startChecks, Starts, Takes, Ends};
 ghost use Rattle.place.specs.Tile.{Room};
 ghost use Rattle.paint.specs.Run.{PaintsRun};
 ghost use Rattle.pieces.specs.Took.{Took};

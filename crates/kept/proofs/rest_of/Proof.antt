@@ -6,7 +6,7 @@ use Prim.Native.Nat.{_-_, _≤_}
 use native.Mathlib.Omega.{arith}
 use lib.ListN.{take}
 use denote.Ref.{now}
-use Rattle.prules.specs.Pieces.{padded}
+use Rattle.rules.specs.Pieces.{padded}
 use Rattle.kept.proofs.Joined.{padded-more}
 use borrow.Author.Needs.{needs}
 use Rattle.kept.proofs.rest_of.Statement.{statement}

@@ -7,7 +7,7 @@ use Prim.Native.Nat.{ℕ, _*_}
 use lib.Dec.{ltb}
 use Rattle.rules.specs.Places.{blocks}
 use Rattle.rules.specs.Answers.{Check, verdict, limitCheck, pitchCheck, dataCheck}
-use Rattle.prules.specs.Pieces.{whole}
+use Rattle.rules.specs.Pieces.{whole}
 use Rattle.checks.proofs.Checks.{fails, passes, within-limit}
 use borrow.Author.Needs.{needs}
 use Rattle.pieces.proofs.end.Statement.{statement}

@@ -13,7 +13,7 @@ use Rattle.laws.proofs.Parts.{rest}
 use Rattle.place.proofs.Grid.{kept}
 use Rattle.paint.proofs.Blocks.{room}
 use Rattle.kept.proofs.Joined.{joint-block, later-block}
-use Rattle.pruns.proofs.Runs.{two-runs, other-bytes}
+use Rattle.paint.proofs.Runs.{two-runs, other-bytes}
 use Rattle.kept.proofs.Numbers.{peel, one-block}
 use borrow.Author.Needs.{needs}
 use Rattle.pieces.proofs.paint_joined.Statement.{statement}

@@ -7,7 +7,7 @@ use borrow.Author.Tests.{ltb-false}
 use denote.Ref.{now}
 use Rattle.rules.specs.Places.{needed}
 use Rattle.rules.specs.Answers.{said, accepts}
-use Rattle.prules.specs.Pieces.{startChecks, pieceVerdict}
+use Rattle.rules.specs.Pieces.{startChecks, pieceVerdict}
 use Rattle.laws.proofs.Judged.{passed}
 use Rattle.laws.proofs.Unique.{refusal}
 use Rattle.place.proofs.Grid.{roomy}

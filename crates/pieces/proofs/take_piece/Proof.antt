@@ -7,8 +7,8 @@ use native.Mathlib.Nat.{mul-le-mul, mod-lt}
 use lib.ListN.{length}
 use denote.Ref.{now}
 use Rattle.rules.specs.Places.{blocks}
-use Rattle.prules.specs.Pieces.{whole, got, later}
-use Rattle.prules.specs.declared.Progress.{Progress}
+use Rattle.rules.specs.Pieces.{whole, got, later}
+use Rattle.rules.specs.declared.Progress.{Progress}
 use Rattle.kept.proofs.Numbers.{blocks-up, blocks-top, shared}
 use Rattle.pieces.proofs.Promise.{took}
 use borrow.Author.Needs.{needs}

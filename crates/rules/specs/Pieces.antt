@@ -7,16 +7,16 @@ use mathlib.Core.List.{List, [], _∷_, _++_}
 use Prim.Native.Nat.{ℕ, _+_, _-_, _*_, _/_, _%_, min}
 use lib.Dec.{leb, ltb}
 use lib.ListN.{length, take}
 use Rattle.rules.specs.Notation.{build, byte}
 use Rattle.rules.specs.Places.{needed, inside, blocks, blockAt, bytesFrom, pixelBy, pixelAt, painted}
 use Rattle.rules.specs.Answers.{said, accepts, Check, verdict, limitCheck, pitchCheck, dataCheck, imageCheck}
 use Rattle.rules.specs.Formats.{sizeOf, showsOf}
 use Rattle.rules.specs.declared.Answer.{Answer}
 use Rattle.rules.specs.declared.Format.{Format}
 use Rattle.rules.specs.declared.Picture.{Picture}
-use Rattle.prules.specs.declared.Progress.{Progress}
-use Rattle.prules.specs.declared.Started.{Started}
-use Rattle.prules.specs.declared.Taken.{Taken}
+use Rattle.rules.specs.declared.Progress.{Progress}
+use Rattle.rules.specs.declared.Started.{Started}
+use Rattle.rules.specs.declared.Taken.{Taken}
 
 -- the bytes of a block, and of all blocks of the picture
 abbrev pub size : Progress → ℕ

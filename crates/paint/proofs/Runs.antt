@@ -12,15 +12,12 @@ use lib.Dec.{T, leb, ltb, leb→le, le→leb, ltb→lt, lt→ltb}
 use lib.ListN.{length, getD, List·getD-eq-default}
 use Rattle.rules.specs.Pixel.{Shows}
 use Rattle.rules.specs.Places.{inside, blockAt, column, row, pixelBy, painted}
-use Rattle.prules.specs.Pieces.{inRun}
-use Rattle.rules.specs.Formats.{sizeOf}
-use Rattle.rules.specs.declared.Format.{Format}
-use Rattle.rules.specs.declared.Format.the-variants.{Etc1, Etc2Rgb, Etc2Rgba1, Etc2Rgba8, EacR, EacRSigned, EacRg, EacRgSigned}
+use Rattle.rules.specs.Pieces.{inRun}
 use Rattle.rules.specs.declared.Picture.{Picture}
 use Rattle.laws.specs.Painted.{Painted}
 use Rattle.laws.proofs.Paint.{said, also, is-painted, length-painted, getD-painted}
 use Rattle.place.specs.Tile.{Room}
 use Rattle.paint.specs.Run.{InRun}
 
 -- both of two tests
 both : (a b : Bool) → T a → T b → T (a && b)
@@ -107,15 +104,3 @@ module _ (pic : Picture) where
               ];
           same = same;
         }
-
--- a block has at most 16 bytes
-pub few-bytes : (f : Format) → sizeOf f ≤ 16
-unfolding sizeOf
-few-bytes Etc1 = omega arith
-few-bytes Etc2Rgb = omega arith
-few-bytes Etc2Rgba1 = omega arith
-few-bytes Etc2Rgba8 = omega arith
-few-bytes EacR = omega arith
-few-bytes EacRSigned = omega arith
-few-bytes EacRg = omega arith
-few-bytes EacRgSigned = omega arith

@@ -15,7 +15,7 @@ use Rattle.rules.specs.Notation.{byte}
 use Rattle.rules.specs.Places.{bytesOf}
 use Rattle.laws.proofs.Filled.{getD-build, build-same}
 use Rattle.paint.proofs.Blocks.{room}
-use Rattle.prules.specs.Pieces.{padded}
+use Rattle.rules.specs.Pieces.{padded}
 use Rattle.kept.proofs.Joined.{low, high, same-bytes}
 use Rattle.kept.proofs.Numbers.{sub-times}
 

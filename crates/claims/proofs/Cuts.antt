@@ -14,26 +14,26 @@ use Rattle.rules.specs.Places.{inside, blocks, blockAt, pixelAt, painted}
 use Rattle.rules.specs.Answers.{said, accepts, refusal, judged, verdict, limitCheck, pitchCheck}
 use Rattle.rules.specs.Formats.{sizeOf, showsOf}
 use Rattle.rules.specs.Readers.{pictureOf, pictureVerdict, ReadsPicture}
-use Rattle.prules.specs.Pieces.{size, whole, got, finished, held, completed, behindLast, after, imageAfter, padded, inRun, fresh}
-use Rattle.prules.specs.Pieces.{startChecks, pieceVerdict, endChecks, Starts, Takes, Ends}
-use Rattle.prules.specs.Pieces.{used, wholes, stateOf, soFar, joined, Course, nothing, followed}
+use Rattle.rules.specs.Pieces.{size, whole, got, finished, held, completed, behindLast, after, imageAfter, padded, inRun, fresh}
+use Rattle.rules.specs.Pieces.{startChecks, pieceVerdict, endChecks, Starts, Takes, Ends}
+use Rattle.rules.specs.Pieces.{used, wholes, stateOf, soFar, joined, Course, nothing, followed}
 use Rattle.rules.specs.declared.Answer.{Answer}
 use Rattle.rules.specs.declared.Answer.the-variants.{Done}
 use Rattle.rules.specs.declared.Format.{Format}
 use Rattle.rules.specs.declared.Picture.{Picture}
-use Rattle.prules.specs.declared.Progress.{Progress}
-use Rattle.prules.specs.declared.Started.{Started}
-use Rattle.prules.specs.declared.Taken.{Taken}
+use Rattle.rules.specs.declared.Progress.{Progress}
+use Rattle.rules.specs.declared.Started.{Started}
+use Rattle.rules.specs.declared.Taken.{Taken}
 use Rattle.laws.proofs.Filled.{build-same}
 use Rattle.laws.proofs.Judged.{passed}
 use Rattle.laws.proofs.Paint.{none, getD-painted}
-use Rattle.laws.proofs.Reach.{some-bytes}
+use Rattle.laws.proofs.Reach.{some-bytes, few-bytes}
 use Rattle.laws.proofs.Unique.{answer}
 use Rattle.checks.proofs.Checks.{passed as picture-passed}
 use Rattle.paint.proofs.Blocks.{block-in}
-use Rattle.pruns.proofs.Runs.{few-bytes, taken, left, run-painted, tested, tests}
-use Rattle.pclaims.proofs.Arrived.{padded-same}
-use Rattle.pclaims.proofs.Step.{Stepped, step}
+use Rattle.paint.proofs.Runs.{taken, left, run-painted, tested, tests}
+use Rattle.claims.proofs.Arrived.{padded-same}
+use Rattle.claims.proofs.Step.{Stepped, step}
 
 -- ---- no second outcome
 

@@ -1,3 +1,0 @@
-pub mod Arrived
-pub mod Step
-pub mod Cuts

@@ -1,1 +1,0 @@
-// Claims of M-105; to be moved to claims.

@@ -1,1 +1,0 @@
-// Runs of blocks; to be moved to paint.
