@@ -14,7 +14,8 @@ ghost use Rattle.rules.specs.Places.{sized, pitched};
 ghost use Rattle.rules.specs.Readers.{ReadsPicture, ReadsStrict, ReadsBlock, ReadsAlpha, ReadsChannel};
 ghost use Rattle.rules.specs.Census.{rgbTests, rgba1Tests};
 ghost use Rattle.rules.specs.Sheets.{ReadsSheet};
-ghost use Rattle.pieces_lent.specs.Lent.{StartLent, PieceLent, EndLent};
+ghost use Rattle.rules.specs.Pieces.{Ends};
+ghost use Rattle.pieces_lent.specs.Lent.{stateIn, StartLent, PieceLent};
 ghost use Rattle.capi.specs.Census.{CountsInto};
 ghost use Rattle.capi.specs.Told.{Told, blockOr, HeadTold, WriterTold};
 
@@ -589,15 +590,16 @@ pub extern "C" fn yalivucu_start_etc1(
     numbers: &mut [usize; 5],
     kept: &mut [u8; 15],
 ) -> u32
-    ensures { λ r. ⌜ StartLent Format.Etc1 (pitched width height pitch) (length (now (image .entry)))
-        r (now (numbers .exit)) (now (kept .exit)) ⌝ }
+    ensures { λ r. ⌜ Told
+        (λ a. StartLent Format.Etc1 (pitched width height pitch) (length (now (image .entry))) a (now (numbers .exit)) (now (kept .exit)))
+        r ⌝ }
 {
     let pic = Picture {
         width: width,
         height: height,
         pitch: pitch,
     };
-    pieces_lent::start(Format::Etc1, pic, image, numbers, kept)
+    etc::number(pieces_lent::start(Format::Etc1, pic, image, numbers, kept))
 }
 
 // Starts to read an ETC2 RGB picture in pieces; the caller keeps the state, in the two arrays.
@@ -610,15 +612,16 @@ pub extern "C" fn yalivucu_start_etc2_rgb(
     numbers: &mut [usize; 5],
     kept: &mut [u8; 15],
 ) -> u32
-    ensures { λ r. ⌜ StartLent Format.Etc2Rgb (pitched width height pitch) (length (now (image .entry)))
-        r (now (numbers .exit)) (now (kept .exit)) ⌝ }
+    ensures { λ r. ⌜ Told
+        (λ a. StartLent Format.Etc2Rgb (pitched width height pitch) (length (now (image .entry))) a (now (numbers .exit)) (now (kept .exit)))
+        r ⌝ }
 {
     let pic = Picture {
         width: width,
         height: height,
         pitch: pitch,
     };
-    pieces_lent::start(Format::Etc2Rgb, pic, image, numbers, kept)
+    etc::number(pieces_lent::start(Format::Etc2Rgb, pic, image, numbers, kept))
 }
 
 // Starts to read an ETC2 RGBA1 picture in pieces; the caller keeps the state, in the two arrays.
@@ -631,15 +634,16 @@ pub extern "C" fn yalivucu_start_etc2_rgba1(
     numbers: &mut [usize; 5],
     kept: &mut [u8; 15],
 ) -> u32
-    ensures { λ r. ⌜ StartLent Format.Etc2Rgba1 (pitched width height pitch) (length (now (image .entry)))
-        r (now (numbers .exit)) (now (kept .exit)) ⌝ }
+    ensures { λ r. ⌜ Told
+        (λ a. StartLent Format.Etc2Rgba1 (pitched width height pitch) (length (now (image .entry))) a (now (numbers .exit)) (now (kept .exit)))
+        r ⌝ }
 {
     let pic = Picture {
         width: width,
         height: height,
         pitch: pitch,
     };
-    pieces_lent::start(Format::Etc2Rgba1, pic, image, numbers, kept)
+    etc::number(pieces_lent::start(Format::Etc2Rgba1, pic, image, numbers, kept))
 }
 
 // Starts to read an ETC2 RGBA8 picture in pieces; the caller keeps the state, in the two arrays.
@@ -652,15 +656,16 @@ pub extern "C" fn yalivucu_start_etc2_rgba8(
     numbers: &mut [usize; 5],
     kept: &mut [u8; 15],
 ) -> u32
-    ensures { λ r. ⌜ StartLent Format.Etc2Rgba8 (pitched width height pitch) (length (now (image .entry)))
-        r (now (numbers .exit)) (now (kept .exit)) ⌝ }
+    ensures { λ r. ⌜ Told
+        (λ a. StartLent Format.Etc2Rgba8 (pitched width height pitch) (length (now (image .entry))) a (now (numbers .exit)) (now (kept .exit)))
+        r ⌝ }
 {
     let pic = Picture {
         width: width,
         height: height,
         pitch: pitch,
     };
-    pieces_lent::start(Format::Etc2Rgba8, pic, image, numbers, kept)
+    etc::number(pieces_lent::start(Format::Etc2Rgba8, pic, image, numbers, kept))
 }
 
 // Starts to read an EAC R picture in pieces; the caller keeps the state, in the two arrays.
@@ -673,15 +678,16 @@ pub extern "C" fn yalivucu_start_eacr(
     numbers: &mut [usize; 5],
     kept: &mut [u8; 15],
 ) -> u32
-    ensures { λ r. ⌜ StartLent Format.EacR (pitched width height pitch) (length (now (image .entry)))
-        r (now (numbers .exit)) (now (kept .exit)) ⌝ }
+    ensures { λ r. ⌜ Told
+        (λ a. StartLent Format.EacR (pitched width height pitch) (length (now (image .entry))) a (now (numbers .exit)) (now (kept .exit)))
+        r ⌝ }
 {
     let pic = Picture {
         width: width,
         height: height,
         pitch: pitch,
     };
-    pieces_lent::start(Format::EacR, pic, image, numbers, kept)
+    etc::number(pieces_lent::start(Format::EacR, pic, image, numbers, kept))
 }
 
 // Starts to read a signed EAC R picture in pieces; the caller keeps the state, in the two arrays.
@@ -694,15 +700,16 @@ pub extern "C" fn yalivucu_start_eacr_signed(
     numbers: &mut [usize; 5],
     kept: &mut [u8; 15],
 ) -> u32
-    ensures { λ r. ⌜ StartLent Format.EacRSigned (pitched width height pitch) (length (now (image .entry)))
-        r (now (numbers .exit)) (now (kept .exit)) ⌝ }
+    ensures { λ r. ⌜ Told
+        (λ a. StartLent Format.EacRSigned (pitched width height pitch) (length (now (image .entry))) a (now (numbers .exit)) (now (kept .exit)))
+        r ⌝ }
 {
     let pic = Picture {
         width: width,
         height: height,
         pitch: pitch,
     };
-    pieces_lent::start(Format::EacRSigned, pic, image, numbers, kept)
+    etc::number(pieces_lent::start(Format::EacRSigned, pic, image, numbers, kept))
 }
 
 // Starts to read an EAC RG picture in pieces; the caller keeps the state, in the two arrays.
@@ -715,15 +722,16 @@ pub extern "C" fn yalivucu_start_eacrg(
     numbers: &mut [usize; 5],
     kept: &mut [u8; 15],
 ) -> u32
-    ensures { λ r. ⌜ StartLent Format.EacRg (pitched width height pitch) (length (now (image .entry)))
-        r (now (numbers .exit)) (now (kept .exit)) ⌝ }
+    ensures { λ r. ⌜ Told
+        (λ a. StartLent Format.EacRg (pitched width height pitch) (length (now (image .entry))) a (now (numbers .exit)) (now (kept .exit)))
+        r ⌝ }
 {
     let pic = Picture {
         width: width,
         height: height,
         pitch: pitch,
     };
-    pieces_lent::start(Format::EacRg, pic, image, numbers, kept)
+    etc::number(pieces_lent::start(Format::EacRg, pic, image, numbers, kept))
 }
 
 // Starts to read a signed EAC RG picture in pieces; the caller keeps the state, in the two arrays.
@@ -736,15 +744,16 @@ pub extern "C" fn yalivucu_start_eacrg_signed(
     numbers: &mut [usize; 5],
     kept: &mut [u8; 15],
 ) -> u32
-    ensures { λ r. ⌜ StartLent Format.EacRgSigned (pitched width height pitch) (length (now (image .entry)))
-        r (now (numbers .exit)) (now (kept .exit)) ⌝ }
+    ensures { λ r. ⌜ Told
+        (λ a. StartLent Format.EacRgSigned (pitched width height pitch) (length (now (image .entry))) a (now (numbers .exit)) (now (kept .exit)))
+        r ⌝ }
 {
     let pic = Picture {
         width: width,
         height: height,
         pitch: pitch,
     };
-    pieces_lent::start(Format::EacRgSigned, pic, image, numbers, kept)
+    etc::number(pieces_lent::start(Format::EacRgSigned, pic, image, numbers, kept))
 }
 
 // Takes a piece of a picture that was started.
@@ -757,16 +766,18 @@ pub extern "C" fn yalivucu_take_piece(
     painted: &mut usize,
     unused: &mut usize,
 ) -> u32
-    ensures { λ r. ⌜ PieceLent (now (numbers .entry)) (now (kept .entry)) (now (bytes .entry)) (now (image .entry))
-        r (now (numbers .exit)) (now (kept .exit)) (now (painted .exit)) (now (unused .exit)) (now (image .exit)) ⌝ }
+    ensures { λ r. ⌜ Told
+        (λ a. PieceLent (now (numbers .entry)) (now (kept .entry)) (now (bytes .entry)) (now (image .entry))
+        a (now (numbers .exit)) (now (kept .exit)) (now (painted .exit)) (now (unused .exit)) (now (image .exit)))
+        r ⌝ }
 {
-    pieces_lent::take(numbers, kept, bytes, image, painted, unused)
+    etc::number(pieces_lent::take_piece(numbers, kept, bytes, image, painted, unused))
 }
 
 // Ends a picture that was started.
 #[no_mangle]
 pub extern "C" fn yalivucu_end_pieces(numbers: &[usize; 5], kept: &[u8; 15]) -> u32
-    ensures { λ r. ⌜ EndLent (now (numbers .entry)) (now (kept .entry)) r ⌝ }
+    ensures { λ r. ⌜ Told (λ a. Ends (stateIn (now (numbers .entry)) (now (kept .entry))) a) r ⌝ }
 {
-    pieces_lent::end(numbers, kept)
+    etc::number(pieces_lent::end(numbers, kept))
 }

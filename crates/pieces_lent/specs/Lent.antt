@@ -6,15 +6,12 @@ use mathlib.Core.List.{List, [], _∷_}
 use Prim.Native.Nat.{ℕ}
 use lib.ListN.{getD, set}
 use Rattle.rules.specs.Places.{pitched}
-use Rattle.rules.specs.Answers.{said}
-use Rattle.rules.specs.Pieces.{Starts, Takes, Ends}
+use Rattle.rules.specs.Pieces.{Starts, Takes}
 use Rattle.rules.specs.declared.Answer.{Answer}
 use Rattle.rules.specs.declared.Format.{Format}
 use Rattle.rules.specs.declared.Format.the-variants.{Etc1, Etc2Rgb, Etc2Rgba1, Etc2Rgba8, EacR, EacRSigned, EacRg, EacRgSigned}
 use Rattle.rules.specs.declared.Picture.{Picture}
 use Rattle.rules.specs.declared.Progress.{Progress}
-use Rattle.rules.specs.declared.Started.{Started}
-use Rattle.rules.specs.declared.Taken.{Taken}
 
 -- the formats by their numbers here, a table of its own; a number behind it is read as the first
 abbrev pub formats : List Format
@@ -33,25 +30,14 @@ stateIn numbers kept =
       kept = kept;
     }
 
--- Starting: the number of the answer, and the arrays hold the state.
-pub record StartLent (f : Format) (p : Picture) (elements number : ℕ) (numbers kept : List ℕ) : Type 0 where
-  pub result : Started
-  pub starts : Starts f p elements result
-  pub says : number ≡ getD (said (result .answer)) 0 0
-  pub state : stateIn numbers kept ≡ result .progress
+-- Starting: the arrays hold the state that comes of it.
+abbrev pub StartLent : Format → Picture → ℕ → Answer → List ℕ → List ℕ → Type 0
+StartLent f p elements answer numbers kept = Starts f p elements (record { answer = answer; progress = stateIn numbers kept })
 
--- A piece e: of the five numbers only that of the bytes taken is written.
-pub record PieceLent (numbers kept e image : List ℕ) (number : ℕ) (numbers' kept' : List ℕ) (painted unused : ℕ) (new : List ℕ) : Type 0 where
-  pub result : Taken
-  pub takes : Takes (stateIn numbers kept) e image result new
-  pub says : number ≡ getD (said (result .answer)) 0 0
-  pub the-numbers : numbers' ≡ set numbers 4 (result .progress .taken)
-  pub the-bytes : kept' ≡ result .progress .kept
-  pub paints : painted ≡ result .painted
-  pub leaves : unused ≡ result .unused
-
--- Ending.
-pub record EndLent (numbers kept : List ℕ) (number : ℕ) : Type 0 where
-  pub answer : Answer
-  pub ends : Ends (stateIn numbers kept) answer
-  pub says : number ≡ getD (said answer) 0 0
+-- A piece e: so do they, and of the five numbers only that of the bytes taken is written.
+pub record PieceLent (numbers kept e image : List ℕ) (answer : Answer) (numbers' kept' : List ℕ) (painted unused : ℕ) (new : List ℕ) : Type 0 where
+  pub takes :
+      Takes (stateIn numbers kept) e image
+      (record { answer = answer; progress = stateIn numbers' kept'; painted = painted; unused = unused })
+      new
+  pub only : numbers' ≡ set numbers 4 (getD numbers' 4 0)

@@ -1,12 +1,13 @@
 // The reader of a picture in pieces for callers who keep its state themselves, in two arrays that they lend: five numbers and fifteen
 // bytes. Every content of them is a state, so a caller who spoils them gets another picture and never a store out of place.
+use rules::Answer;
 use rules::Format;
 use rules::Picture;
 use rules::Progress;
 ghost use mathlib.Core.Path.{_≡_};
 ghost use lib.ListN.{length};
-ghost use Rattle.rules.specs.Pieces.{fresh};
-ghost use Rattle.pieces_lent.specs.Lent.{formatAt, stateIn, StartLent, PieceLent, EndLent};
+ghost use Rattle.rules.specs.Pieces.{Ends};
+ghost use Rattle.pieces_lent.specs.Lent.{formatAt, stateIn, StartLent, PieceLent};
 
 // The format of a number; a number that no format has is the first one's.
 fn format_at(n: usize) -> Format
@@ -65,48 +66,44 @@ pub fn start(
     image: &[u32],
     numbers: &mut [usize; 5],
     kept: &mut [u8; 15],
-) -> u32
+) -> Answer
     ensures { λ r. ⌜ StartLent f pic (length (now (image .entry))) r (now (numbers .exit)) (now (kept .exit)) ⌝ }
 {
-    let started = etc::start_pieces(f, pic, image);
+    let started = pieces::start(f, pic, image);
     let progress = started.progress;
     let bytes = progress.kept;
     let n = number_of(f);
     *numbers = [n, pic.width, pic.height, pic.pitch, 0];
     *kept = bytes;
-    let answer = started.answer;
-    etc::number(answer)
+    started.answer
 }
 
 // Takes a piece: the arrays then hold the state after it.
-pub fn take(
+pub fn take_piece(
     numbers: &mut [usize; 5],
     kept: &mut [u8; 15],
     bytes: &[u8],
     image: &mut [u32],
     painted: &mut usize,
     unused: &mut usize,
-) -> u32
+) -> Answer
     ensures { λ r. ⌜ PieceLent (now (numbers .entry)) (now (kept .entry)) (now (bytes .entry)) (now (image .entry))
         r (now (numbers .exit)) (now (kept .exit)) (now (painted .exit)) (now (unused .exit)) (now (image .exit)) ⌝ }
 {
     let state = state_in(*numbers, *kept);
-    let taken = etc::take_piece(state, bytes, image);
+    let taken = pieces::piece(state, bytes, image);
     let after = taken.progress;
     let rest = after.kept;
     numbers[4] = after.taken;
     *kept = rest;
     *painted = taken.painted;
     *unused = taken.unused;
-    let answer = taken.answer;
-    etc::number(answer)
+    taken.answer
 }
 
 // Ends: what the arrays hold is not changed.
-pub fn end(numbers: &[usize; 5], kept: &[u8; 15]) -> u32
-    ensures { λ r. ⌜ EndLent (now (numbers .entry)) (now (kept .entry)) r ⌝ }
+pub fn end(numbers: &[usize; 5], kept: &[u8; 15]) -> Answer
+    ensures { λ r. ⌜ Ends (stateIn (now (numbers .entry)) (now (kept .entry))) r ⌝ }
 {
-    let state = state_in(*numbers, *kept);
-    let answer = etc::end_pieces(state);
-    etc::number(answer)
+    pieces::end(state_in(*numbers, *kept))
 }
