@@ -4,7 +4,7 @@
 use mathlib.Core.Path.{_≡_}
 use mathlib.Core.List.{List, [], _∷_}
 use Prim.Native.Nat.{ℕ}
-use lib.ListN.{getD, set}
+use lib.ListN.{getD}
 use Rattle.rules.specs.Places.{pitched}
 use Rattle.rules.specs.Pieces.{Starts, Takes}
 use Rattle.rules.specs.declared.Answer.{Answer}
@@ -30,6 +30,10 @@ stateIn numbers kept =
       kept = kept;
     }
 
+-- five numbers, with another one for the bytes taken
+abbrev pub withTaken : List ℕ → ℕ → List ℕ
+withTaken numbers taken = getD numbers 0 0 ∷ getD numbers 1 0 ∷ getD numbers 2 0 ∷ getD numbers 3 0 ∷ taken ∷ []
+
 -- Starting: the arrays hold the state that comes of it.
 abbrev pub StartLent : Format → Picture → ℕ → Answer → List ℕ → List ℕ → Type 0
 StartLent f p elements answer numbers kept = Starts f p elements (record { answer = answer; progress = stateIn numbers kept })
@@ -40,4 +44,4 @@ pub record PieceLent (numbers kept e image : List ℕ) (answer : Answer) (number
       Takes (stateIn numbers kept) e image
       (record { answer = answer; progress = stateIn numbers' kept'; painted = painted; unused = unused })
       new
-  pub only : numbers' ≡ set numbers 4 (getD numbers' 4 0)
+  pub only : numbers' ≡ withTaken numbers (getD numbers' 4 0)

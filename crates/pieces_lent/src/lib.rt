@@ -90,11 +90,12 @@ pub fn take_piece(
     ensures { λ r. ⌜ PieceLent (now (numbers .entry)) (now (kept .entry)) (now (bytes .entry)) (now (image .entry))
         r (now (numbers .exit)) (now (kept .exit)) (now (painted .exit)) (now (unused .exit)) (now (image .exit)) ⌝ }
 {
-    let state = state_in(*numbers, *kept);
+    let before = *numbers;
+    let state = state_in(before, *kept);
     let taken = pieces::piece(state, bytes, image);
     let after = taken.progress;
     let rest = after.kept;
-    numbers[4] = after.taken;
+    *numbers = [before[0], before[1], before[2], before[3], after.taken];
     *kept = rest;
     *painted = taken.painted;
     *unused = taken.unused;
