@@ -14,7 +14,7 @@ use Rattle.rules.specs.Places.{inside, blocks, blockAt, pixelAt, painted}
 use Rattle.rules.specs.Answers.{said, accepts, refusal, judged, verdict, limitCheck, pitchCheck}
 use Rattle.rules.specs.Formats.{sizeOf, showsOf}
 use Rattle.rules.specs.Readers.{pictureOf, pictureVerdict, ReadsPicture}
-use Rattle.rules.specs.Pieces.{size, whole, got, finished, held, completed, behindLast, after, imageAfter, padded, inRun, fresh}
+use Rattle.rules.specs.Pieces.{whole, got, finished, held, completed, behindLast, after, imageAfter, padded, inRun, fresh}
 use Rattle.rules.specs.Pieces.{startChecks, pieceVerdict, endChecks, Starts, Takes, Ends}
 use Rattle.rules.specs.Pieces.{used, wholes, stateOf, soFar, joined, Course, nothing, followed}
 use Rattle.rules.specs.declared.Answer.{Answer}
