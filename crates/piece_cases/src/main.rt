@@ -199,9 +199,16 @@ fn cut(f: Format, data: &[u8], shown: &[u32; 29], i: usize, j: usize, sums: Sums
     added(three, sums)
 }
 
+// What is left of n bytes after i; no picture here has more than 66.
+fn rest(n: usize, i: usize) -> usize
+    ensures { λ r. ⌜ r ≤ 66 ⌝ }
+{
+    least(66, n - least(i, n))
+}
+
 // The second piece of every length, after a first one of i bytes.
 fn cuts(f: Format, data: &[u8], shown: &[u32; 29], i: usize, before: Sums) -> Sums {
-    let most = data.len() - least(i, data.len());
+    let most = rest(data.len(), i);
     let mut sums = before;
     let mut j: usize = 0;
     while j <= most {
@@ -212,9 +219,10 @@ fn cuts(f: Format, data: &[u8], shown: &[u32; 29], i: usize, before: Sums) -> Su
 }
 
 fn pairs(f: Format, data: &[u8], shown: &[u32; 29]) -> Sums {
+    let most = rest(data.len(), 0);
     let mut sums = nothing();
     let mut i: usize = 0;
-    while i <= data.len() {
+    while i <= most {
         sums = cuts(f, data, shown, i, sums);
         i += 1;
     }
@@ -287,9 +295,10 @@ fn early(f: Format, data: &[u8], shown: &[u32; 29], n: usize, sums: Sums) -> Sum
 }
 
 fn ends(f: Format, data: &[u8], shown: &[u32; 29]) -> Sums {
+    let most = rest(data.len(), 0);
     let mut sums = nothing();
     let mut n: usize = 0;
-    while n <= data.len() {
+    while n <= most {
         sums = early(f, data, shown, n, sums);
         n += 1;
     }
