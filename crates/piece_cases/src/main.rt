@@ -246,31 +246,31 @@ fn moved(v: usize) -> usize {
     (v % 65536 * 40505 + 12829) % 65536
 }
 
-// Four pieces, of lengths that a seed picks.
-fn four(c: Course, seed: usize, data: &[u8], image: &mut [u32], shown: &[u32; 29]) -> Course {
-    let second = moved(seed);
-    let third = moved(second);
+// Two pieces, of lengths that a seed picks.
+fn two(c: Course, seed: usize, data: &[u8], image: &mut [u32], shown: &[u32; 29]) -> Course {
     let one = follow(c, length_of(seed), data, image, shown);
-    let two = follow(one, length_of(second), data, image, shown);
-    let three = follow(two, length_of(third), data, image, shown);
-    follow(three, length_of(moved(third)), data, image, shown)
+    follow(one, length_of(moved(seed)), data, image, shown)
 }
 
-// The seed of the next four.
+// The seed of the next two.
 fn further(seed: usize) -> usize {
-    moved(moved(moved(moved(seed))))
+    moved(moved(seed))
 }
 
 // Twelve such pieces, and then the rest.
 fn scattered(f: Format, data: &[u8], shown: &[u32; 29], seed: usize, sums: Sums) -> Sums {
     let mut image = [0x11111111u32; 29];
-    let c = begin(f, &image);
     let second = further(seed);
-    let one = four(c, seed, data, &mut image, shown);
-    let two = four(one, second, data, &mut image, shown);
-    let three = four(two, further(second), data, &mut image, shown);
-    let rest = follow(three, data.len(), data, &mut image, shown);
-    added(rest, sums)
+    let third = further(second);
+    let fourth = further(third);
+    let fifth = further(fourth);
+    let c = two(begin(f, &image), seed, data, &mut image, shown);
+    let d = two(c, second, data, &mut image, shown);
+    let e = two(d, third, data, &mut image, shown);
+    let g = two(e, fourth, data, &mut image, shown);
+    let h = two(g, fifth, data, &mut image, shown);
+    let i = two(h, further(fifth), data, &mut image, shown);
+    added(follow(i, data.len(), data, &mut image, shown), sums)
 }
 
 fn random(f: Format, data: &[u8], shown: &[u32; 29]) -> Sums {
@@ -279,7 +279,7 @@ fn random(f: Format, data: &[u8], shown: &[u32; 29]) -> Sums {
     let mut i: usize = 0;
     while i < 200 {
         sums = scattered(f, data, shown, seed, sums);
-        seed = further(further(further(seed)));
+        seed = moved(seed);
         i += 1;
     }
     sums
