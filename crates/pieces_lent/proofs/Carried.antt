@@ -7,17 +7,36 @@ use Prim.Native.Nat.{ℕ}
 use Rattle.rules.specs.Answers.{accepts}
 use Rattle.rules.specs.Pieces.{after, pieceVerdict, Starts, Takes}
 use Rattle.rules.specs.declared.Format.{Format}
+use Rattle.rules.specs.declared.Format.the-variants.{Etc1, Etc2Rgb, Etc2Rgba1, Etc2Rgba8, EacR, EacRSigned, EacRg, EacRgSigned}
 use Rattle.rules.specs.declared.Picture.{Picture}
 use Rattle.rules.specs.declared.Progress.{Progress}
 use Rattle.rules.specs.declared.Started.{Started}
 use Rattle.rules.specs.declared.Taken.{Taken}
-use Rattle.pieces_lent.specs.Lent.{formatAt, stateIn, withTaken, StartLent, PieceLent}
+use Rattle.pieces_lent.specs.Lent.{formatAt, numberOf, stateIn, withTaken, StartLent, PieceLent}
 
-pub begun : (f : Format) (p : Picture) (n m : ℕ) (t : Started) → Starts f p n t → formatAt m ≡ f → StartLent f p n (t .answer) (m ∷ p .width ∷ p .height ∷ p .pitch ∷ 0 ∷ []) (t .progress .kept)
+-- each format is that of its number
+numbered : (f : Format) → formatAt (numberOf f) ≡ f
+unfolding formatAt numberOf
+numbered Etc1 = refl
+numbered Etc2Rgb = refl
+numbered Etc2Rgba1 = refl
+numbered Etc2Rgba8 = refl
+numbered EacR = refl
+numbered EacRSigned = refl
+numbered EacRg = refl
+numbered EacRgSigned = refl
+
+pub begun : (f : Format) (p : Picture) (n m : ℕ) (t : Started) → Starts f p n t → m ≡ numberOf f → StartLent f p n (t .answer) (m ∷ p .width ∷ p .height ∷ p .pitch ∷ 0 ∷ []) (t .progress .kept)
 begun f p n m t a e =
     record {
-      says = a .says;
-      state = ap (λ (g : Format). make g (t .progress .kept)) e ∙ ap (make f) (ap (λ (q : Progress). q .kept) (a .state));
+      starts =
+          record {
+            says = a .says;
+            state =
+                ap (λ (g : Format). make g (t .progress .kept)) (ap formatAt e ∙ numbered f)
+                ∙ ap (make f) (ap (λ (q : Progress). q .kept) (a .state));
+          };
+      these = ap (λ (x : ℕ). x ∷ p .width ∷ p .height ∷ p .pitch ∷ 0 ∷ []) e;
     }
   where
     make : Format → List ℕ → Progress

@@ -4,9 +4,21 @@ use mathlib.Core.Path.{_≡_, _∙_, sym, ap}
 use mathlib.Core.List.{List}
 use Prim.Native.Nat.{ℕ}
 use Rattle.rules.specs.declared.Answer.{Answer}
+use Rattle.rules.specs.declared.Format.{Format}
+use Rattle.rules.specs.declared.Picture.{Picture}
 use Rattle.rules.specs.declared.Progress.{Progress}
 use Rattle.laws.proofs.Unique.{answer}
-use Rattle.pieces_lent.specs.Lent.{withTaken, PieceLent}
+use Rattle.pieces_lent.specs.Lent.{withTaken, StartLent, PieceLent}
+
+pub start-lent : (f : Format) (p : Picture) (elements : ℕ) (a b : Answer) (n n' k k' : List ℕ)
+    → StartLent f p elements a n k
+    → StartLent f p elements b n' k'
+    → (a ≡ b) × (n ≡ n') × (k ≡ k')
+start-lent f p elements a b n n' k k' x y = (
+  answer a b (x .starts .says ∙ sym (y .starts .says)),
+  x .these ∙ sym (y .these),
+  ap (λ (q : Progress). q .kept) (x .starts .state ∙ sym (y .starts .state)),
+)
 
 pub piece-lent : (numbers kept e image : List ℕ) (a b : Answer) (n n' k k' : List ℕ) (painted painted' unused unused' : ℕ) (new new' : List ℕ)
     → PieceLent numbers kept e image a n k painted unused new

@@ -20,6 +20,17 @@ formats = Etc1 ∷ Etc2Rgb ∷ Etc2Rgba1 ∷ Etc2Rgba8 ∷ EacR ∷ EacRSigned �
 unfoldable pub formatAt : ℕ → Format
 formatAt n = getD formats n Etc1
 
+-- and the number of each, which starting writes
+unfoldable pub numberOf : Format → ℕ
+numberOf Etc1 = 0
+numberOf Etc2Rgb = 1
+numberOf Etc2Rgba1 = 2
+numberOf Etc2Rgba8 = 3
+numberOf EacR = 4
+numberOf EacRSigned = 5
+numberOf EacRg = 6
+numberOf EacRgSigned = 7
+
 -- the state that the arrays hold, whatever is in them
 abbrev pub stateIn : List ℕ → List ℕ → Progress
 stateIn numbers kept =
@@ -34,9 +45,10 @@ stateIn numbers kept =
 abbrev pub withTaken : List ℕ → ℕ → List ℕ
 withTaken numbers taken = getD numbers 0 0 ∷ getD numbers 1 0 ∷ getD numbers 2 0 ∷ getD numbers 3 0 ∷ taken ∷ []
 
--- Starting: the arrays hold the state that comes of it.
-abbrev pub StartLent : Format → Picture → ℕ → Answer → List ℕ → List ℕ → Type 0
-StartLent f p elements answer numbers kept = Starts f p elements (record { answer = answer; progress = stateIn numbers kept })
+-- Starting: the arrays hold the state that comes of it, and the five numbers are these.
+pub record StartLent (f : Format) (p : Picture) (elements : ℕ) (answer : Answer) (numbers kept : List ℕ) : Type 0 where
+  pub starts : Starts f p elements (record { answer = answer; progress = stateIn numbers kept })
+  pub these : numbers ≡ numberOf f ∷ p .width ∷ p .height ∷ p .pitch ∷ 0 ∷ []
 
 -- A piece e: so do they, and of the five numbers only that of the bytes taken is written.
 pub record PieceLent (numbers kept e image : List ℕ) (answer : Answer) (numbers' kept' : List ℕ) (painted unused : ℕ) (new : List ℕ) : Type 0 where

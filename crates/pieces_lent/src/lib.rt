@@ -7,7 +7,7 @@ use rules::Progress;
 ghost use mathlib.Core.Path.{_≡_};
 ghost use lib.ListN.{length};
 ghost use Rattle.rules.specs.Pieces.{Ends};
-ghost use Rattle.pieces_lent.specs.Lent.{formatAt, stateIn, StartLent, PieceLent};
+ghost use Rattle.pieces_lent.specs.Lent.{formatAt, numberOf, stateIn, StartLent, PieceLent};
 
 // The format of a number; a number that no format has is the first one's.
 fn format_at(n: usize) -> Format
@@ -27,7 +27,7 @@ fn format_at(n: usize) -> Format
 
 // The number of a format.
 fn number_of(f: Format) -> usize
-    ensures { λ r. ⌜ formatAt r ≡ f ⌝ }
+    ensures { λ r. ⌜ r ≡ numberOf f ⌝ }
 {
     match f {
         Format::Etc1 => 0,

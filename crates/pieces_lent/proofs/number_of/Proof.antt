@@ -1,7 +1,7 @@
 -- `pieces_lent::number_of` meets its contract, format by format.
 -- Assumes nothing.
-use mathlib.Core.Path.{sym}
-use Rattle.pieces_lent.specs.Lent.{formatAt}
+use mathlib.Core.Path.{sym, ap}
+use Rattle.pieces_lent.specs.Lent.{numberOf}
 use borrow.Author.Needs.{needs}
 use Rattle.pieces_lent.proofs.number_of.Statement.{statement}
 use Rattle.pieces_lent.proofs.number_of.Tie as tie
@@ -31,36 +31,36 @@ enum-told-8 : tie.Need-enum-told-8
 enum-told-8 c = search needs
 
 returns : tie.Need-returns
-unfolding formatAt
-returns c = sym (c .enum-told .given .1)
+unfolding numberOf
+returns c = sym (ap numberOf (c .enum-told .given .1))
 
 returns-2 : tie.Need-returns-2
-unfolding formatAt
-returns-2 c = sym (c .enum-told2 .given .1)
+unfolding numberOf
+returns-2 c = sym (ap numberOf (c .enum-told2 .given .1))
 
 returns-3 : tie.Need-returns-3
-unfolding formatAt
-returns-3 c = sym (c .enum-told3 .given .1)
+unfolding numberOf
+returns-3 c = sym (ap numberOf (c .enum-told3 .given .1))
 
 returns-4 : tie.Need-returns-4
-unfolding formatAt
-returns-4 c = sym (c .enum-told4 .given .1)
+unfolding numberOf
+returns-4 c = sym (ap numberOf (c .enum-told4 .given .1))
 
 returns-5 : tie.Need-returns-5
-unfolding formatAt
-returns-5 c = sym (c .enum-told5 .given .1)
+unfolding numberOf
+returns-5 c = sym (ap numberOf (c .enum-told5 .given .1))
 
 returns-6 : tie.Need-returns-6
-unfolding formatAt
-returns-6 c = sym (c .enum-told6 .given .1)
+unfolding numberOf
+returns-6 c = sym (ap numberOf (c .enum-told6 .given .1))
 
 returns-7 : tie.Need-returns-7
-unfolding formatAt
-returns-7 c = sym (c .enum-told7 .given .1)
+unfolding numberOf
+returns-7 c = sym (ap numberOf (c .enum-told7 .given .1))
 
 returns-8 : tie.Need-returns-8
-unfolding formatAt
-returns-8 c = sym (c .enum-told8 .given .1)
+unfolding numberOf
+returns-8 c = sym (ap numberOf (c .enum-told8 .given .1))
 
 pub number-of-spec : {M : Type 1} → statement M
 number-of-spec =
