@@ -1,6 +1,7 @@
 // The headers of PKM and KTX 1 files, read from their first bytes. Any bytes get an answer, and specs/Files.antt says which.
 use textures::Header;
 use textures::Known;
+use textures::Texture;
 ghost use mathlib.Core.Path.{_≡_};
 ghost use Prim.Native.Nat.{_+_, _<_, _≤_};
 ghost use lib.ListN.{length};
