@@ -18,11 +18,11 @@ few s =
     let b : s .args .n ≤ 4096 = omega (arith, s .pre) in
     mul-le-mul a b
 
-mul-t6 : tie.Need-mul-t6
-mul-t6 c = omega (arith, few (c .before .before .before))
+mul-named : tie.Need-mul-named
+mul-named c = omega (arith, few (c .before .before .before))
 
-add-t7 : tie.Need-add-t7
-add-t7 c = omega (arith, few (c .before .before .before))
+add-named : tie.Need-add-named
+add-named c = omega (arith, few (c .before .before .before))
 
 named-requires : tie.Need-named-requires
 named-requires c κs = search needs
@@ -34,4 +34,4 @@ returns-2 : tie.Need-returns-2
 returns-2 c = goes-on _ _ _ _ _ (c .before .first-bad .ensures) (c .if1 .left)
 
 pub after-row-spec : {M : Type 1} → statement M
-after-row-spec = tie.close (tie.spec first-bad-requires mul-t6 add-t7 named-requires returns returns-2)
+after-row-spec = tie.close (tie.spec first-bad-requires mul-named add-named named-requires returns returns-2)

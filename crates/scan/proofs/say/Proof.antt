@@ -36,7 +36,7 @@ across-requires-2 c κs = search needs
 refused-block-requires-2 : tie.Need-refused-block-requires-2
 refused-block-requires-2 c κs =
     let s = c .before .before .before .before in
-    let p = placed (s .args .viewer) _ _ 11 _ _ (s .pre .0) (s .pre .1) (ap said (c .before .before .answer .given .1)) (lit< tt) (s .pre .2) in
+    let p = placed (s .args .viewer) _ _ 11 _ _ (s .pre .0) (s .pre .1) (ap said (c .before .before .answer2 .given .1)) (lit< tt) (s .pre .2) in
     (omega (arith, p .0, c .across2 .ensures .0), p .1)
 
 number-requires : tie.Need-number-requires
