@@ -11,6 +11,7 @@
 //! # Ok::<(), Refusal>(())
 //! ```
 pub use crate::census::{census_etc2_rgb, census_etc2_rgba1, KindCounts, RgbCounts, Rgba1Counts};
+pub use crate::pieces::{Pieces, Taken};
 pub use crate::refusal::Refusal;
 pub use crate::sheet::{read_sheet, sheet_head, write_sheet, Head};
 use crate::sys;
@@ -72,6 +73,19 @@ impl Format {
             Format::EacRSigned => sys::yalivucu_decode_eacr_signed_pitched,
             Format::EacRg => sys::yalivucu_decode_eacrg_pitched,
             Format::EacRgSigned => sys::yalivucu_decode_eacrg_signed_pitched,
+        }
+    }
+
+    pub(crate) fn starter(self) -> sys::Start {
+        match self {
+            Format::Etc1 => sys::yalivucu_start_etc1,
+            Format::Etc2Rgb => sys::yalivucu_start_etc2_rgb,
+            Format::Etc2Rgba1 => sys::yalivucu_start_etc2_rgba1,
+            Format::Etc2Rgba8 => sys::yalivucu_start_etc2_rgba8,
+            Format::EacR => sys::yalivucu_start_eacr,
+            Format::EacRSigned => sys::yalivucu_start_eacr_signed,
+            Format::EacRg => sys::yalivucu_start_eacrg,
+            Format::EacRgSigned => sys::yalivucu_start_eacrg_signed,
         }
     }
 

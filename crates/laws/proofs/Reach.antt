@@ -179,3 +179,15 @@ some-bytes EacR = omega arith
 some-bytes EacRSigned = omega arith
 some-bytes EacRg = omega arith
 some-bytes EacRgSigned = omega arith
+
+-- and at most 16
+pub few-bytes : (f : Format) → sizeOf f ≤ 16
+unfolding sizeOf
+few-bytes Etc1 = omega arith
+few-bytes Etc2Rgb = omega arith
+few-bytes Etc2Rgba1 = omega arith
+few-bytes Etc2Rgba8 = omega arith
+few-bytes EacR = omega arith
+few-bytes EacRSigned = omega arith
+few-bytes EacRg = omega arith
+few-bytes EacRgSigned = omega arith
