@@ -16,7 +16,7 @@ NUMERAL = re.compile(r"0x[0-9A-Fa-f_]+|[0-9][0-9_]*")
 HEAD = re.compile(r"(?:(?:unfoldable|abbrev|pub) )*(?P<name>[^\s:]+)(?: \{[^}]*\})? : (?P<type>.*)")
 DATA = re.compile(r"(?:pub )?data ")  # it has constructors, and no body to change
 RECORD = re.compile(r"(?:pub )?record (?P<name>\S+)(?P<parameters>.*) : Type 0 where")
-HOLD = re.compile(r"^hold : T (?P<test>.*)\n(?:unfolding .*\n)?hold = tt\n", re.M)  # the test of a file of specimens
+HOLD = re.compile(r"^hold : T (?P<test>.*)\n(?:unfolding .*\n(?:[ ]+.*\n)*)?hold = tt\n", re.M)  # the test of a file of specimens
 FIELD = re.compile(r" +(?:pub )?(?P<name>\S+) : ")
 
 Token = collections.namedtuple("Token", "text start end")
@@ -127,7 +127,10 @@ class Reader:
             names.append(self.take().text)
             self.take("=")
             parts.append(self.expression(0))
-            if self.take().text == "}":
+            last = self.take().text
+            if last == ";" and self.peek() == "}":  # a semicolon behind the last field
+                last = self.take().text
+            if last == "}":
                 return Node("record", opening.start, self.found[self.at - 1].end, parts, " ".join(names))
 
 

@@ -1,6 +1,7 @@
 // The headers of PKM and KTX 1 files, read from their first bytes. Any bytes get an answer, and specs/Files.antt says which.
 use textures::Header;
 use textures::Known;
+use textures::Texture;
 ghost use mathlib.Core.Path.{_≡_};
 ghost use Prim.Native.Nat.{_+_, _<_, _≤_};
 ghost use lib.ListN.{length};
@@ -82,10 +83,23 @@ fn size_told(order: bool, level: &[u8], header: Header) -> Header
     if level.len() < 4 {
         return Header::Cut;
     }
-    if word(order, level, 0) != t.bytes {
+    let told = word(order, level, 0);
+    if told < t.bytes {
         return Header::SizesDisagree;
     }
-    header
+    let f = t.format;
+    let held = Texture {
+        format: f,
+        width: t.width,
+        height: t.height,
+        start: t.start,
+        bytes: t.bytes,
+        level: told,
+    };
+    if t.bytes < told {
+        return Header::LongLevel(held);
+    }
+    Header::Holds(held)
 }
 
 // Whether a KTX header speaks of one picture.

@@ -139,6 +139,9 @@ rows =
     -- two blocks at once, and three bytes behind them
     ∷ row (counts (some 3 (4 ∷ 0 ∷ 0 ∷ 9 ∷ 9 ∷ 9 ∷ [])) (2 ∷ replicate 15 0) 5) (2 ∷ 3 ∷ [])
     ∷ row (image (some 3 (4 ∷ 0 ∷ 0 ∷ 9 ∷ 9 ∷ 9 ∷ [])) (2 ∷ replicate 15 0) 7) (four ++ (0xFF020202 ∷ untouched 2))
+    -- behind the first block, two bytes of the second are kept; and the second and the third at once, of which the latter is S2's
+    ∷ row (state (some 8 (replicate 6 0)) (5 ∷ 6 ∷ []) 5) (10 ∷ 5 ∷ 6 ∷ replicate 13 0)
+    ∷ row (image (reading Etc1 (sized 12 1) 11 (replicate 15 0)) (replicate 5 0 ++ first) 12) (untouched 4 ++ replicate 4 0xFF020202 ++ four)
     -- "0 included": an empty piece keeps what was kept; what a forged state has behind it is gone
     ∷ row (state (some 3 (4 ∷ 1 ∷ 2 ∷ 9 ∷ 9 ∷ 9 ∷ [])) [] 5) (3 ∷ 4 ∷ 1 ∷ 2 ∷ replicate 12 0)
     ∷ row (counts (some 3 (4 ∷ 1 ∷ 2 ∷ 9 ∷ 9 ∷ 9 ∷ [])) [] 5) (0 ∷ 0 ∷ [])
@@ -171,8 +174,9 @@ rows =
     ∷ row (ends (reading Etc1 (pitched 5 1 65537) 0 [])) (1 ∷ [])
     ∷ row (ends (reading Etc1 (pitched 5 65537 4) 99 [])) (1 ∷ [])
     ∷ row (ends (reading Etc1 (pitched 5 1 4) 0 [])) (12 ∷ [])
-    -- eleven bytes and twenty of two blocks, and a block of EAC R (S13) in a picture of one
+    -- eleven bytes, three and twenty of two blocks, and a block of EAC R (S13) in a picture of one
     ∷ row (arrived Etc1 wide (first ++ (1 ∷ 2 ∷ 3 ∷ []))) (11 ∷ 1 ∷ 11 ∷ 1 ∷ 2 ∷ 3 ∷ replicate 12 0)
+    ∷ row (arrived Etc1 wide (4 ∷ 1 ∷ 2 ∷ [])) (3 ∷ 0 ∷ 3 ∷ 4 ∷ 1 ∷ 2 ∷ replicate 12 0)
     ∷ row (arrived Etc1 wide (first ++ replicate 12 5)) (16 ∷ 2 ∷ 16 ∷ replicate 15 0)
     ∷ row (shown Etc1 wide (first ++ (1 ∷ 2 ∷ 3 ∷ [])) 7) (four ++ untouched 3)
     ∷ row (shown Etc1 wide (first ++ replicate 9 0) 7) (four ++ (0xFF020202 ∷ untouched 2))
@@ -181,5 +185,7 @@ rows =
     ∷ []
 
 hold : T (every rows)
-unfolding told answer row every reading wide first four some alpha rows needed painted differential wrapped kindBySums tBases tDistance hBases hDistance planarBases planarChannel indexed rgbPixel rgba1Pixel etc1Pixel alphaStep alphaByte rgba8Pixel eacValue eacByte redPixel redGreenPixel sizeOf showsOf
+unfolding told answer row every reading wide first four some alpha rows needed painted differential wrapped kindBySums
+    tBases tDistance hBases hDistance planarBases planarChannel indexed rgbPixel rgba1Pixel etc1Pixel alphaStep
+    alphaByte rgba8Pixel eacValue eacByte redPixel redGreenPixel sizeOf showsOf
 hold = tt
