@@ -35,8 +35,9 @@
  *      of the writer: the format is above 7.
  *   9  refused: a record of another kind, a second one of kind 1 included.
  *  10  refused: no record of blocks, a second one, or blocks that are not of the exact length.
+ *  11  refused by yalivucu_decode_etc2_rgba1_opaque alone: a block's opaque bit is clear.
  *  12  refused: the pitch is below the width.
- * Pictures test 1, 12, 2, 6, 3, 4 in that order, blocks 5, 2, 3, censuses 1, 2, 3. A sheet is walked
+ * Pictures test 1, 12, 2, 6, 3, 4 or 11 in that order, blocks 5, 2, 3, censuses 1, 2, 3. A sheet is walked
  * front to back and the first fault is the answer, 3 last; the writer tests 8, 1, 10, 3. A refusal
  * touches no element. Pictures in pieces have an order of their own, below, and their last answer,
  * 2, leaves what is painted.
@@ -70,6 +71,7 @@ enum yalivucu_answer {
     YALIVUCU_NO_HEAD = 8,
     YALIVUCU_OTHER_KIND = 9,
     YALIVUCU_WRONG_BLOCKS = 10,
+    YALIVUCU_NOT_OPAQUE = 11,
     YALIVUCU_SHORT_PITCH = 12
 };
 
@@ -121,6 +123,13 @@ static inline struct yalivucu_strict yalivucu_etc1_strict_pitched(const uint8_t 
     told.answer = yalivucu_decode_etc1_strict_pitched(data, data_len, width, height, pitch, image, image_len, &told.block);
     return told;
 }
+
+/* An ETC2 RGBA1 picture, in blocks of 8 bytes, for a viewer that knows ETC2 RGB but nothing transparent:
+ * what it accepts, readers of either format show alike. With answer 11, *block is the number of the first
+ * block whose opaque bit is clear; with any other answer *block is not written. What follows the blocks
+ * is ignored. block is not NULL and points into neither data nor image. */
+uint32_t yalivucu_decode_etc2_rgba1_opaque(const uint8_t *data, size_t data_len, size_t width, size_t height, uint32_t *image, size_t image_len, size_t *block);
+uint32_t yalivucu_decode_etc2_rgba1_opaque_pitched(const uint8_t *data, size_t data_len, size_t width, size_t height, size_t pitch, uint32_t *image, size_t image_len, size_t *block);
 
 /* One block of 8 bytes, into out[0] to out[15]. */
 uint32_t yalivucu_decode_etc1_block(const uint8_t *data, size_t data_len, uint32_t *out, size_t out_len);

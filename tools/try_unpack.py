@@ -100,6 +100,25 @@ def leftovers(room):
     note("how many bytes that level has" in said, "--help does not say what --check looks at")
 
 
+def opaques(room):
+    """RGBA1 pictures of 8 by 8, as PKM files: opaque, with a block clear, and with a clear block behind them."""
+    head = b"PKM 20\0\4" + b"\0\10" * 4
+    red, clear = b"\xf8\0\0\2\0\0\0\0", b"\xf8\0\0\0\0\0\0\0"
+    path = os.path.join(room, "opaque.pkm")
+    for what, data, number, words in (
+        ("opaque", red * 4, 0, "An opaque-only viewer may show this picture"),
+        ("two clear blocks", red * 2 + clear * 2, 11, "block 2, at pixel column 0 and row 4, has its opaque bit clear"),
+        ("the last block clear", red * 3 + clear, 11, "block 3, at pixel column 4 and row 4,"),
+        ("a clear block behind the last", red * 4 + clear, 0, "An opaque-only viewer may show this picture"),
+        ("too few bytes", red * 3, 2, ""),
+    ):
+        with open(path, "wb") as f:
+            f.write(head + data)
+        status, said, _ = unpack("--check", path)
+        note(status == number, "%s: --check says %d, not %d" % (what, status, number))
+        note(words in said, what + ": another sentence")
+
+
 def bad_files():
     ktx = open(os.path.join(TOP, "examples", "kinds.ktx"), "rb").read()
     big = open(os.path.join(TOP, "examples", "glow.ktx"), "rb").read()
@@ -177,6 +196,7 @@ def main():
         examples(room)
         refusals(room)
         leftovers(room)
+        opaques(room)
     try_files.cases()
     try_build.cases()
     print("%d passed, %d failed" % (COUNT[True], COUNT[False]))

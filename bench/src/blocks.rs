@@ -27,6 +27,8 @@ pub enum Half {
     Colour,
     /// Colour whose difference bit is the opaque bit.
     Punched,
+    /// The same with that bit set in every block.
+    Opaque,
     Alpha,
     Channel,
 }
@@ -41,7 +43,11 @@ enum Kind {
 }
 
 pub fn random(count: usize, halves: &[Half], random: &mut Random) -> Vec<u8> {
-    (0..count * halves.len() * 8).map(|_| random.next() as u8).collect()
+    let mut data: Vec<u8> = (0..count * halves.len() * 8).map(|_| random.next() as u8).collect();
+    if halves[0] == Half::Opaque {
+        data.chunks_mut(8).for_each(|block| block[3] |= 2);
+    }
+    data
 }
 
 /// Runs of 1 to 32 blocks of one kind: 78 % differential, 13 % individual, 3 % each of T, H
@@ -61,6 +67,7 @@ pub fn natural(count: usize, halves: &[Half], random: &mut Random) -> Vec<u8> {
             data.extend(match half {
                 Half::Colour => colour(kind, random),
                 Half::Punched => punched(kind, share >= 10, random),
+                Half::Opaque => punched(kind, true, random),
                 Half::Alpha => alpha(share < 25, random),
                 Half::Channel => alpha(false, random),
             });

@@ -1,5 +1,6 @@
 //! The formats that are measured, and how the crate's pixels are compared with the library's.
 use crate::blocks::Half;
+use yalivucu::typed::{read_opaque, Picture, Refusal};
 
 pub type Reader = fn(&[u8], usize, usize, &mut [u32]) -> Result<(), &'static str>;
 
@@ -9,12 +10,12 @@ pub struct Format {
     pub name: &'static str,
     pub halves: &'static [Half],
     pub library: Reader,
-    /// Its twin with a pitch; a reader of single blocks has none.
+    /// Its twin with a pitch; a reader of single blocks has none, and that of an opaque-only viewer none here.
     pub pitched: Option<Pitched>,
     pub given: Reader,
 }
 
-pub const FORMATS: [Format; 7] = [
+pub const FORMATS: [Format; 8] = [
     Format {
         name: "ETC1",
         halves: &[Half::Colour],
@@ -35,6 +36,13 @@ pub const FORMATS: [Format; 7] = [
         library: yalivucu::decode_etc2_rgba1,
         pitched: Some(yalivucu::decode_etc2_rgba1_pitched),
         given: given::decode_etc2_rgba1,
+    },
+    Format {
+        name: "RGBA1, opaque only, beside the crate's RGB",
+        halves: &[Half::Opaque],
+        library: |data, width, height, image| read_opaque(data, Picture::new(width, height), image).map_err(Refusal::text),
+        pitched: None,
+        given: given::decode_etc2_rgb,
     },
     Format {
         name: "RGBA8",

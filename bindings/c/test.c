@@ -98,6 +98,36 @@ static void pitched(void)
     }
 }
 
+/* A block of red that is opaque, and one of zeros, whose opaque bit is clear: the block is written with 11 alone, and what
+ * follows the blocks is ignored. */
+static void opaque(void)
+{
+    uint8_t data[16] = {0xf8, 0, 0, 2};
+    size_t block = 77;
+    clear();
+    same("opaque, too large", yalivucu_decode_etc2_rgba1_opaque(data, 16, 65537, 1, image, 5, &block), YALIVUCU_TOO_LARGE);
+    same("opaque, short", yalivucu_decode_etc2_rgba1_opaque(data, 15, 5, 1, image, 5, &block), YALIVUCU_SHORT_DATA);
+    same("opaque, short image", yalivucu_decode_etc2_rgba1_opaque(data, 16, 5, 1, image, 4, &block), YALIVUCU_SHORT_IMAGE);
+    same("opaque, short pitch", yalivucu_decode_etc2_rgba1_opaque_pitched(data, 16, 5, 1, 4, image, 8, &block), YALIVUCU_SHORT_PITCH);
+    same("opaque, no data", yalivucu_decode_etc2_rgba1_opaque(NULL, 0, 4, 4, NULL, 0, &block), YALIVUCU_SHORT_DATA);
+    same("opaque, no pixels", yalivucu_decode_etc2_rgba1_opaque(NULL, 0, 0, 0, NULL, 0, &block), YALIVUCU_DONE);
+    same("opaque, block kept", (uint32_t)block, 77);
+    same("opaque, refused", yalivucu_decode_etc2_rgba1_opaque(data, 16, 5, 1, image, 5, &block), YALIVUCU_NOT_OPAQUE);
+    same("opaque, block", (uint32_t)block, 1);
+    block = 77;
+    same("opaque pitched, refused", yalivucu_decode_etc2_rgba1_opaque_pitched(data, 16, 5, 1, 6, image, 6, &block), YALIVUCU_NOT_OPAQUE);
+    same("opaque pitched, block", (uint32_t)block, 1);
+    untouched("opaque, refused", 0);
+    block = 77;
+    same("opaque pitched, accepted", yalivucu_decode_etc2_rgba1_opaque_pitched(data, 16, 4, 2, 6, image, 10, &block), YALIVUCU_DONE);
+    for (int at = 0; at < 10; at++) same("opaque pitched", image[at], at % 6 < 4 ? 0xffff0202 : STOOD);
+    clear();
+    same("opaque, accepted", yalivucu_decode_etc2_rgba1_opaque(data, 16, 4, 1, image, 4, &block), YALIVUCU_DONE);
+    same("opaque, painted", image[3], 0xffff0202);
+    same("opaque, block kept where accepted", (uint32_t)block, 77);
+    untouched("opaque, accepted", 4);
+}
+
 /* Strict with a pitch: the gap is no pixel of the block beside it. */
 static void strict_pitched(void)
 {
@@ -351,6 +381,7 @@ int main(void)
     nothing();
     strict();
     strict_pitched();
+    opaque();
     blocks();
     channels();
     censuses();

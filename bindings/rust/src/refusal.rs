@@ -30,6 +30,11 @@ pub enum Refusal {
     OtherKind,
     /// Refusal 10, of a sheet: no block record, a second one, or blocks of a wrong length.
     WrongBlocks,
+    /// Refusal 11, of the opaque-only reader alone: a block's opaque bit is clear.
+    NotOpaque {
+        /// The first such block, counted from 0.
+        block: usize,
+    },
     /// Refusal 12: the pitch is below the width.
     ShortPitch,
     /// A number that this package does not know: another archive than its own was linked.
@@ -53,6 +58,7 @@ impl Refusal {
             Refusal::NoHead => 8,
             Refusal::OtherKind => 9,
             Refusal::WrongBlocks => 10,
+            Refusal::NotOpaque { .. } => 11,
             Refusal::ShortPitch => 12,
             Refusal::Unknown { number } => number,
         }
@@ -71,6 +77,7 @@ impl Refusal {
             Refusal::NoHead => "The sheet has no head, or its format has no number!",
             Refusal::OtherKind => "The sheet has a record of an unknown kind!",
             Refusal::WrongBlocks => "The sheet has not exactly its blocks!",
+            Refusal::NotOpaque { .. } => "An RGBA1 block has its opaque bit clear!",
             Refusal::ShortPitch => "The pitch is below the width!",
             Refusal::Unknown { .. } => "The linked library gave an answer that this package does not know!",
         }
@@ -90,6 +97,7 @@ impl Refusal {
             8 => Err(Refusal::NoHead),
             9 => Err(Refusal::OtherKind),
             10 => Err(Refusal::WrongBlocks),
+            11 => Err(Refusal::NotOpaque { block }),
             12 => Err(Refusal::ShortPitch),
             number => Err(Refusal::Unknown { number }),
         }
@@ -122,6 +130,10 @@ impl fmt::Display for Refusal {
             ),
             Refusal::OtherKind => write!(f, "Refusal {number}: the sheet has a record of an unknown kind."),
             Refusal::WrongBlocks => write!(f, "Refusal {number}: the sheet has not exactly its blocks."),
+            Refusal::NotOpaque { block } => write!(
+                f,
+                "Refusal {number}: an RGBA1 block has its opaque bit clear, the first of them block {block}."
+            ),
             Refusal::ShortPitch => write!(f, "Refusal {number}: the pitch is below the width."),
             Refusal::Unknown { .. } => write!(f, "Refusal {number}: the linked library is not this package's own."),
         }

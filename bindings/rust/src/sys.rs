@@ -2,6 +2,7 @@
 //! pointer and its length.
 
 pub type Picture = unsafe extern "C" fn(*const u8, usize, usize, usize, usize, *mut u32, usize) -> u32;
+pub type Guarded = unsafe extern "C" fn(*const u8, usize, usize, usize, usize, *mut u32, usize, *mut usize) -> u32;
 pub type Start = unsafe extern "C" fn(usize, usize, usize, *const u32, usize, *mut [usize; 5], *mut [u8; 15]) -> u32;
 pub type Block = unsafe extern "C" fn(*const u8, usize, *mut u32, usize) -> u32;
 pub type Channel = unsafe extern "C" fn(*const u8, usize, usize, *mut u32, usize) -> u32;
@@ -73,6 +74,16 @@ extern "C" {
         yalivucu_census_etc2_rgba1
     }
     pub fn yalivucu_decode_etc1_strict_pitched(
+        data: *const u8,
+        data_len: usize,
+        width: usize,
+        height: usize,
+        pitch: usize,
+        image: *mut u32,
+        image_len: usize,
+        block: *mut usize,
+    ) -> u32;
+    pub fn yalivucu_decode_etc2_rgba1_opaque_pitched(
         data: *const u8,
         data_len: usize,
         width: usize,

@@ -215,11 +215,36 @@ pub fn read(format: Format, data: &[u8], picture: Picture, image: &mut [u32]) ->
 /// assert_eq!(image, [7; 16]);
 /// ```
 pub fn read_strict(data: &[u8], picture: Picture, image: &mut [u32]) -> Result<(), Refusal> {
+    guarded(sys::yalivucu_decode_etc1_strict_pitched, data, picture, image)
+}
+
+/// Reads an ETC2 RGBA1 picture for a viewer that knows ETC2 RGB but nothing transparent. One that has a
+/// block whose opaque bit is clear it refuses, with [`Refusal::NotOpaque`] and the number of the first
+/// such block. What it accepts, readers of either format show alike.
+///
+/// Refuses with [`Refusal::TooLarge`], [`Refusal::ShortPitch`], [`Refusal::ShortData`],
+/// [`Refusal::ShortImage`] or [`Refusal::NotOpaque`], tested in that order, and then `image` is as it was.
+///
+/// ```
+/// use yalivucu::typed::{read_opaque, Picture, Refusal};
+///
+/// let mut image = [7; 16];
+/// let refused = read_opaque(&[0; 8], Picture::new(4, 4), &mut image);
+/// assert_eq!(refused, Err(Refusal::NotOpaque { block: 0 }));
+/// assert_eq!(image, [7; 16]);
+/// assert_eq!(read_opaque(&[0xf8, 0, 0, 0x02, 0, 0, 0, 0], Picture::new(4, 4), &mut image), Ok(()));
+/// assert_eq!(image, [0xffff0202; 16]);
+/// ```
+pub fn read_opaque(data: &[u8], picture: Picture, image: &mut [u32]) -> Result<(), Refusal> {
+    guarded(sys::yalivucu_decode_etc2_rgba1_opaque_pitched, data, picture, image)
+}
+
+fn guarded(reader: sys::Guarded, data: &[u8], picture: Picture, image: &mut [u32]) -> Result<(), Refusal> {
     let mut block = 0;
     // SAFETY: the pointers and lengths are those of two slices that live through the call, and
     // `block` is a local of its own.
     let number = unsafe {
-        sys::yalivucu_decode_etc1_strict_pitched(
+        reader(
             data.as_ptr(),
             data.len(),
             picture.width,

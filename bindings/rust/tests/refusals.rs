@@ -185,6 +185,36 @@ fn strict_names_the_first_block() {
 }
 
 #[test]
+fn opaque_names_the_first_block() {
+    // blocks 2 and 3 of four have their opaque bit clear; then none has, and a clear one follows
+    let mut data = [[0xf8, 0, 0, 2, 0, 0, 0, 0]; 5].concat();
+    (data[19], data[27], data[35]) = (0, 0, 0);
+    let mut image = [STOOD; 25];
+    let refused = read_opaque(&data, Picture::new(5, 5), &mut image);
+    assert_eq!(refused, Err(Refusal::NotOpaque { block: 2 }));
+    assert_eq!(
+        read_opaque(&data, Picture::new(5, 5), &mut image[..24]),
+        Err(Refusal::ShortImage)
+    );
+    assert_eq!(
+        read_opaque(&data[..31], Picture::new(5, 5), &mut image),
+        Err(Refusal::ShortData)
+    );
+    assert_eq!(
+        read_opaque(&data[..31], Picture::new(5, 5).with_pitch(4), &mut image),
+        Err(Refusal::ShortPitch)
+    );
+    assert_eq!(image, [STOOD; 25]);
+    (data[19], data[27]) = (2, 2);
+    assert_eq!(read_opaque(&data, Picture::new(5, 5), &mut image), Ok(()));
+    for format in [Format::Etc2Rgb, Format::Etc2Rgba1] {
+        let mut other = [STOOD; 25];
+        assert_eq!(read(format, &data, Picture::new(5, 5), &mut other), Ok(()));
+        assert_eq!(image, other);
+    }
+}
+
+#[test]
 fn strict_leaves_nothing_over() {
     // a block in range, and a second one that is not
     let mut data = [0; 16];
@@ -196,7 +226,10 @@ fn strict_leaves_nothing_over() {
         let refused = read_strict(&data[..8 + more], Picture::new(4, 4), &mut image[..15]);
         assert_eq!(refused, Err(Refusal::LongData));
     }
-    assert_eq!(read_strict(&data[..1], Picture::new(0, 4), &mut image), Err(Refusal::LongData));
+    assert_eq!(
+        read_strict(&data[..1], Picture::new(0, 4), &mut image),
+        Err(Refusal::LongData)
+    );
     assert_eq!(image, [STOOD; 16]);
     assert_eq!(read(Format::Etc1, &data, Picture::new(4, 4), &mut image), Ok(()));
     assert_eq!(read_strict(&data[..8], Picture::new(4, 4), &mut image), Ok(()));
@@ -225,6 +258,10 @@ fn refusals_say_what_is_wrong() {
     assert_eq!(
         told(Refusal::LongData),
         "Refusal 6: there are more bytes than the blocks need."
+    );
+    assert_eq!(
+        told(Refusal::NotOpaque { block: 3 }),
+        "Refusal 11: an RGBA1 block has its opaque bit clear, the first of them block 3."
     );
     assert_eq!(told(Refusal::ShortPitch), "Refusal 12: the pitch is below the width.");
 }

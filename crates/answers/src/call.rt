@@ -7,7 +7,7 @@ ghost use Prim.Native.Nat.{_≤_};
 
 // Whether a number names a reader of pictures with a pitch, which stands in the place of a channel.
 fn is_pitched(number: u32) -> bool {
-    number >= 40 && number <= 48
+    number >= 40 && number <= 53
 }
 
 // Calls the reader of a number on the first n bytes and the first m elements.
@@ -36,7 +36,7 @@ fn call(
     data: &[u8],
     image: &mut [u32],
 ) -> Answer {
-    if number <= 8 {
+    if number <= 13 {
         return picture(number, data, width, height, image);
     }
     if is_pitched(number) {
@@ -65,6 +65,9 @@ fn picture(number: u32, data: &[u8], width: usize, height: usize, image: &mut [u
     }
     if number <= 7 {
         return channels(number, data, width, height, image);
+    }
+    if number == 13 {
+        return etc::decode_etc2_rgba1_opaque(data, width, height, image);
     }
     etc::decode_etc1_strict(data, width, height, image)
 }

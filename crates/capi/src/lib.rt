@@ -11,7 +11,7 @@ ghost use mathlib.Core.Path.{_≡_};
 ghost use mathlib.Core.Bool.{true, false};
 ghost use lib.ListN.{length};
 ghost use Rattle.rules.specs.Places.{sized, pitched};
-ghost use Rattle.rules.specs.Readers.{ReadsPicture, ReadsStrict, ReadsBlock, ReadsAlpha, ReadsChannel};
+ghost use Rattle.rules.specs.Readers.{ReadsPicture, ReadsStrict, ReadsOpaque, ReadsBlock, ReadsAlpha, ReadsChannel};
 ghost use Rattle.rules.specs.Census.{rgbTests, rgba1Tests};
 ghost use Rattle.rules.specs.Sheets.{ReadsSheet};
 ghost use Rattle.rules.specs.Pieces.{Ends};
@@ -312,6 +312,52 @@ pub extern "C" fn yalivucu_decode_etc1_strict_pitched(
         pitch: pitch,
     };
     told::strict(data, pic, image, block)
+}
+
+// Reads an ETC2 RGBA1 picture for a viewer that knows ETC2 RGB alone. Where it refuses for a block whose opaque bit is clear, `block` is its
+// number; otherwise `block` stays as it was.
+#[no_mangle]
+pub extern "C" fn yalivucu_decode_etc2_rgba1_opaque(
+    data: &[u8],
+    width: usize,
+    height: usize,
+    image: &mut [u32],
+    block: &mut usize,
+) -> u32
+    ensures { λ r. ⌜ Told
+        (λ a. ReadsOpaque (now («data» .entry)) (sized width height) (now (image .entry)) a (now (image .exit))
+        × (now (block .exit) ≡ blockOr a (now (block .entry))))
+        r ⌝ }
+{
+    let pic = Picture {
+        width: width,
+        height: height,
+        pitch: width,
+    };
+    told::opaque(data, pic, image, block)
+}
+
+// The same of a picture with a pitch.
+#[no_mangle]
+pub extern "C" fn yalivucu_decode_etc2_rgba1_opaque_pitched(
+    data: &[u8],
+    width: usize,
+    height: usize,
+    pitch: usize,
+    image: &mut [u32],
+    block: &mut usize,
+) -> u32
+    ensures { λ r. ⌜ Told
+        (λ a. ReadsOpaque (now («data» .entry)) (pitched width height pitch) (now (image .entry)) a (now (image .exit))
+        × (now (block .exit) ≡ blockOr a (now (block .entry))))
+        r ⌝ }
+{
+    let pic = Picture {
+        width: width,
+        height: height,
+        pitch: pitch,
+    };
+    told::opaque(data, pic, image, block)
 }
 
 // Reads an ETC1 block of 8 bytes into the elements 0 to 15.

@@ -4,7 +4,7 @@
 use mathlib.Core.Bool.{Bool}
 use mathlib.Core.List.{List}
 use Prim.Native.Nat.{ℕ}
-use Rattle.rules.specs.Readers.{ReadsPicture, ReadsStrict, ReadsBlock, ReadsAlpha, ReadsChannel}
+use Rattle.rules.specs.Readers.{ReadsPicture, ReadsStrict, ReadsOpaque, ReadsBlock, ReadsAlpha, ReadsChannel}
 use Rattle.rules.specs.declared.Answer.{Answer}
 use Rattle.rules.specs.declared.Format.{Format}
 use Rattle.rules.specs.declared.Picture.{Picture}
@@ -19,6 +19,10 @@ module _ (d image : List ℕ) (a b : Answer) (new new' : List ℕ) where
   -- strict ETC1
   pub strict-determined : (pic : Picture) → ReadsStrict d pic image a new → ReadsStrict d pic image b new' → Same a b new new'
   strict-determined pic p q = no-second-outcome _ _ image a b new new' p q
+
+  -- RGBA1 for an opaque-only viewer
+  pub opaque-determined : (pic : Picture) → ReadsOpaque d pic image a new → ReadsOpaque d pic image b new' → Same a b new new'
+  opaque-determined pic p q = no-second-outcome _ _ image a b new new' p q
 
   -- the eight block readers of the formats
   pub block-determined : (f : Format) → ReadsBlock f d image a new → ReadsBlock f d image b new' → Same a b new new'

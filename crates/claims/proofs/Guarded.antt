@@ -1,24 +1,27 @@
--- Demand 3, over any guard: its number and the answer that names a block, its test, its own rule and the rule that is shown. The
--- checks before it are any list.
+-- Demand 3 and M-109, over any guard: its number and the answer that names a block, its test, its own rule and the rule that is shown.
+-- The checks before it are any list. Strict.antt and Opaque.antt have its two instances.
 -- Assumes nothing.
 use mathlib.Core.Path.{_≡_, _∙_, sym, ap}
-use mathlib.Core.Bool.{Bool, true, false, true≢false}
+use mathlib.Core.Bool.{Bool, true, false, cond, true≢false}
 use mathlib.Core.List.{List, [], _∷_}
-use Prim.Native.Nat.{ℕ, _<_, _≤_}
+use Prim.Native.Nat.{ℕ, _%_, _<_, _≤_}
 use native.Mathlib.Omega.{arith}
 use native.Mathlib.Decide.{decLt}
 use borrow.Author.Tests.{ne-eqb}
-use lib.Dec.{T}
-use Rattle.rules.specs.Places.{blocks}
+use lib.Dec.{T, ltb}
+use lib.ListN.{length, getD}
+use Rattle.rules.specs.Places.{inside, blocks, blockAt, bytesOf, column, row, pixelAt, Alike}
 use Rattle.rules.specs.Answers.{said, accepts, Check, verdict, firstOf, guarded}
+use Rattle.rules.specs.Formats.{sizeOf, showsOf}
 use Rattle.rules.specs.Guards.{Guard, badAt}
-use Rattle.rules.specs.Readers.{pictureOf, ReadsGuarded}
+use Rattle.rules.specs.Readers.{pictureOf, ReadsPicture, ReadsGuarded}
 use Rattle.rules.specs.declared.Answer.{Answer}
 use Rattle.rules.specs.declared.Answer.the-variants.{Done}
 use Rattle.rules.specs.declared.Picture.{Picture}
-use Rattle.laws.proofs.First.{first}
+use Rattle.laws.proofs.First.{first, first-alike}
 use Rattle.laws.proofs.Guards.{Sound, finds, finds-none}
 use Rattle.laws.proofs.Judged.{numbered, goes-on}
+use Rattle.laws.proofs.Paint.{getD-painted}
 use Rattle.laws.proofs.Unique.{answer}
 use Rattle.picture.proofs.Guard.{agree}
 use Rattle.claims.proofs.Outcomes.{a-refusal-alters-nothing, an-acceptance-paints}
@@ -84,3 +87,34 @@ module _ (g : Guard) (sound : Sound g) (name : ℕ → Answer) (spoken : (n : �
         let e : a ≡ Done = answer a Done (left ∙ finds-none (g .number) (badAt g d) (blocks pic) l) in
         let painted = an-acceptance-paints _ _ image new a p (ap (λ (x : Answer). accepts (said x)) e) in
         record { accepted = e; shows = painted; shows-own = painted ∙ sym (agree g sound pic d image l) }
+
+-- What an older reader shows, that has no guard.
+module _ (g : Guard) (sound : Sound g) (d : List ℕ) (pic : Picture) where
+  -- at a pixel it is what the newer one shows, unless the pixel's own block is one that must not be there
+  pub differs-only-there : (k : ℕ) → badAt g d (blockAt pic k) ≡ false → pixelAt (showsOf (g .own)) (sizeOf (g .own)) pic d k ≡ pixelAt (showsOf (g .shown)) (sizeOf (g .shown)) pic d k
+  differs-only-there k e =
+      sound .agree (bytesOf (sizeOf (g .own)) d (blockAt pic k)) (column pic k % 4) (row pic k % 4) e
+      ∙ ap (λ (s : ℕ). pixelAt (showsOf (g .shown)) s pic d k) (sound .one-size)
+
+  -- so of pictures of the same bytes that both accept over one image, every element is the same outside the tiles of such blocks
+  pub older-reader-differs-only-there : (image old new : List ℕ) (a b : Answer)
+      → ReadsPicture (g .own) d pic image a old
+      → ReadsPicture (g .shown) d pic image b new
+      → accepts (said a) ≡ true
+      → accepts (said b) ≡ true
+      → (k : ℕ)
+      → k < length image
+      → badAt g d (blockAt pic k) ≡ false
+      → getD old k 0 ≡ getD new k 0
+  older-reader-differs-only-there image old new a b p q r t k l e =
+      ap (λ (l : List ℕ). getD l k 0) (an-acceptance-paints _ _ image old a p r)
+      ∙ getD-painted (inside pic) (pixelAt (showsOf (g .own)) (sizeOf (g .own)) pic d) image k l
+      ∙ ap (λ (v : ℕ). cond (inside pic k) v (getD image k 0)) (differs-only-there k e)
+      ∙ sym (getD-painted (inside pic) (pixelAt (showsOf (g .shown)) (sizeOf (g .shown)) pic d) image k l)
+      ∙ sym (ap (λ (l : List ℕ). getD l k 0) (an-acceptance-paints _ _ image new b q t))
+
+-- what a guard says of inputs that agree on the blocks of a picture
+pub guard-alike : (g : Guard) (d e : List ℕ) (pic : Picture) → Alike (sizeOf (g .own)) pic d e → guarded (g .number) (badAt g d) (blocks pic) ≡ guarded (g .number) (badAt g e) (blocks pic)
+guard-alike g d e pic same =
+    ap (λ (n : ℕ). cond (ltb n (blocks pic)) (g .number ∷ n ∷ []) (0 ∷ []))
+    (first-alike (badAt g d) (badAt g e) (blocks pic) (λ n l. ap (g .bad) (same n l)))

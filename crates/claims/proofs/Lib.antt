@@ -6,6 +6,8 @@ pub mod Settled
 pub mod Guarded
 pub mod Strict
 pub mod Leftovers
+pub mod Opaque
+pub mod Older
 pub mod Blocks
 pub mod Census
 pub mod Sheets

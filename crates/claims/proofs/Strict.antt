@@ -2,13 +2,12 @@
 -- is a guard (Guarded.antt). And what follows for a reader that is not strict.
 -- Assumes nothing.
 use mathlib.Core.Path.{_≡_, _∙_, refl, sym, ap}
-use mathlib.Core.Bool.{Bool, true, false, cond}
+use mathlib.Core.Bool.{Bool, true, false}
 use mathlib.Core.List.{List, [], _∷_}
 use Prim.Native.Nat.{ℕ, _%_, _<_, _≤_}
 use native.Mathlib.Omega.{arith}
-use lib.Dec.{ltb}
 use lib.ListN.{length, getD}
-use Rattle.rules.specs.Places.{element, inside, needed, blocks, blockOf, blockAt, bytesOf, column, row, pixelAt, Alike, Beside}
+use Rattle.rules.specs.Places.{element, needed, blocks, blockOf, blockAt, bytesOf, pixelAt, Alike, Beside}
 use Rattle.rules.specs.Answers.{said, accepts, overLimit, judged, exactChecks, verdict, guarded}
 use Rattle.rules.specs.Colour.{outOfRange}
 use Rattle.rules.specs.Formats.{sizeOf, showsOf}
@@ -18,13 +17,10 @@ use Rattle.rules.specs.declared.Answer.{Answer}
 use Rattle.rules.specs.declared.Answer.the-variants.{Done, OutOfRange}
 use Rattle.rules.specs.declared.Format.the-variants.{Etc1, Etc2Rgb}
 use Rattle.rules.specs.declared.Picture.{Picture}
-use Rattle.laws.proofs.First.{first-alike}
 use Rattle.laws.proofs.Guards.{strict-sound, finds-none}
-use Rattle.laws.proofs.Paint.{getD-painted}
-use Rattle.laws.proofs.Range.{agree}
 use Rattle.place.proofs.Grid.{beyond, in-gap, roomy}
 use Rattle.checks.proofs.Checks.{passed-exactly-by}
-use Rattle.claims.proofs.Outcomes.{Same, an-acceptance-paints}
+use Rattle.claims.proofs.Outcomes.{Same}
 use Rattle.claims.proofs.Alike.{OnlyInTile, none-left}
 use Rattle.claims.proofs.Guarded as guarded-claims
 use Rattle.claims.proofs.Pictures.{Empty, no-blocks, empty-passes, only-its-own-pixels, each-accepted-pixel, an-empty-picture, own-tile, only-blocks-are-read}
@@ -56,9 +52,8 @@ module _ (d : List ℕ) (pic : Picture) (image : List ℕ) (a : Answer) (new : L
 
 -- what plain ETC1 shows at a pixel is what ETC2 RGB shows there, unless the pixel's own block is out of range
 pub etc1-differs-only-out-of-range : (d : List ℕ) (pic : Picture) (k : ℕ) → outOfRange (bytesOf 8 d (blockAt pic k)) ≡ false → pixelAt (showsOf Etc1) 8 pic d k ≡ pixelAt (showsOf Etc2Rgb) 8 pic d k
-unfolding showsOf
-etc1-differs-only-out-of-range d pic k e =
-    agree (bytesOf 8 d (blockAt pic k)) (column pic k % 4) (row pic k % 4) e
+unfolding sizeOf
+etc1-differs-only-out-of-range d pic k e = guarded-claims.differs-only-there inRange strict-sound d pic k e
 
 -- so of pictures of the same bytes that both readers accept over one image, every element is the same outside the tiles of
 -- out-of-range blocks
@@ -72,12 +67,7 @@ pub old-reader-differs-only-there : (d : List ℕ) (pic : Picture) (image old ne
     → outOfRange (bytesOf 8 d (blockAt pic k)) ≡ false
     → getD old k 0 ≡ getD new k 0
 unfolding sizeOf
-old-reader-differs-only-there d pic image old new a b p q r t k l e =
-    ap (λ (l : List ℕ). getD l k 0) (an-acceptance-paints _ _ image old a p r)
-    ∙ getD-painted (inside pic) (pixelAt (showsOf Etc1) 8 pic d) image k l
-    ∙ ap (λ (v : ℕ). cond (inside pic k) v (getD image k 0)) (etc1-differs-only-out-of-range d pic k e)
-    ∙ sym (getD-painted (inside pic) (pixelAt (showsOf Etc2Rgb) 8 pic d) image k l)
-    ∙ sym (ap (λ (l : List ℕ). getD l k 0) (an-acceptance-paints _ _ image new b q t))
+old-reader-differs-only-there d pic = guarded-claims.older-reader-differs-only-there inRange strict-sound d pic
 
 -- What Pictures.antt says of the readers of the formats, of strict ETC1.
 module _ (d : List ℕ) (pic : Picture) (image : List ℕ) where
@@ -125,5 +115,4 @@ module _ (d : List ℕ) (pic : Picture) (image : List ℕ) where
     strict-reads-no-data-beyond-the-last-block e b new' long same q =
         only-blocks-are-read (showsOf Etc2Rgb) 8 pic image (strictVerdict pic d image) (strictVerdict pic e image) d e a b new new' p q same
         (ap (λ (n : ℕ). judged (exactChecks 8 pic n (length image)) (guarded 4 (bad d) (blocks pic))) long
-        ∙ ap (λ (n : ℕ). judged (exactChecks 8 pic (length e) (length image)) (cond (ltb n (blocks pic)) (4 ∷ n ∷ []) (0 ∷ [])))
-        (first-alike (bad d) (bad e) (blocks pic) (λ n l. ap outOfRange (same n l))))
+        ∙ ap (judged (exactChecks 8 pic (length e) (length image))) (guarded-claims.guard-alike inRange d e pic same))

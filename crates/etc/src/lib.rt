@@ -1,10 +1,11 @@
-// The public list of src/etc.rs: eleven block readers, eight picture readers and strict ETC1, each of these nine with a twin that takes
-// the description with its pitch; two censuses; the readers and the writer of sheets; and the reader of a picture in pieces. None asks
-// anything of its caller. Each promises the answer and every element of what it is lent afterwards, for all inputs; what that is,
-// crates/rules/specs/Readers.antt, Census.antt, Sheets.antt and Pieces.antt say for all of them. Refusals: 1 width, height or pitch above
-// 65,536 (of a sheet: width or height above 16,384); 12 a pitch below the width; 2 too few bytes; 6 too many (strict only); 3 too few
-// elements, or too little room for a sheet; 4 a block out of range, with its number (strict only); 5 a channel above 3; of sheets, 7 a
-// record cut short, 8 no head, 9 another kind, 10 not exactly the blocks. A refusal changes nothing.
+// The public list of src/etc.rs: eleven block readers, eight picture readers, strict ETC1 and RGBA1 for an opaque-only viewer, each of
+// these ten with a twin that takes the description with its pitch; two censuses; the readers and the writer of sheets; and the reader of a
+// picture in pieces. None asks anything of its caller. Each promises the answer and every element of what it is lent afterwards, for all
+// inputs; what that is, crates/rules/specs/Readers.antt, Census.antt, Sheets.antt and Pieces.antt say for all of them. Refusals: 1 width,
+// height or pitch above 65,536 (of a sheet: width or height above 16,384); 12 a pitch below the width; 2 too few bytes; 6 too many (strict
+// only); 3 too few elements, or too little room for a sheet; 4 a block out of range, with its number (strict only); 5 a channel above 3; of
+// sheets, 7 a record cut short, 8 no head, 9 another kind, 10 not exactly the blocks; 11 a block whose opaque bit is clear, with its
+// number (opaque only). A refusal changes nothing.
 use rules::Answer;
 use rules::Format;
 use rules::Picture;
@@ -21,7 +22,7 @@ ghost use lib.ListN.{length, getD};
 ghost use Rattle.rules.specs.Places.{sized};
 ghost use Rattle.rules.specs.Answers.{said};
 ghost use Rattle.rules.specs.Census.{CountsRgb, CountsRgba1};
-ghost use Rattle.rules.specs.Readers.{ReadsPicture, ReadsStrict, ReadsBlock, ReadsAlpha, ReadsChannel};
+ghost use Rattle.rules.specs.Readers.{ReadsPicture, ReadsStrict, ReadsOpaque, ReadsBlock, ReadsAlpha, ReadsChannel};
 ghost use Rattle.rules.specs.Sheets.{TellsHead, ReadsSheet, WritesSheet};
 ghost use Rattle.rules.specs.Pieces.{Starts, Takes, Ends};
 
@@ -176,6 +177,31 @@ pub fn decode_etc1_strict_pitched(data: &[u8], pic: Picture, image: &mut [u32]) 
     ensures { λ r. ⌜ ReadsStrict (now («data» .entry)) pic (now (image .entry)) r (now (image .exit)) ⌝ }
 {
     picture::read_strict(data, pic, image)
+}
+
+// Reads an ETC2 RGBA1 picture for a viewer that knows ETC2 RGB alone: it refuses one that has a block whose opaque bit is clear, with the
+// number of the first. Each pixel that it paints is the one that the RGBA1 rule and the RGB rule give.
+pub fn decode_etc2_rgba1_opaque(
+    data: &[u8],
+    width: usize,
+    height: usize,
+    image: &mut [u32],
+) -> Answer
+    ensures { λ r. ⌜ ReadsOpaque (now («data» .entry)) (sized width height) (now (image .entry)) r (now (image .exit)) ⌝ }
+{
+    let pic = Picture {
+        width: width,
+        height: height,
+        pitch: width,
+    };
+    decode_etc2_rgba1_opaque_pitched(data, pic, image)
+}
+
+// The same of a picture with a pitch.
+pub fn decode_etc2_rgba1_opaque_pitched(data: &[u8], pic: Picture, image: &mut [u32]) -> Answer
+    ensures { λ r. ⌜ ReadsOpaque (now («data» .entry)) pic (now (image .entry)) r (now (image .exit)) ⌝ }
+{
+    picture::read_opaque(data, pic, image)
 }
 
 // Reads an ETC1 block of 8 bytes into the elements 0 to 15.

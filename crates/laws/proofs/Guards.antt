@@ -2,7 +2,7 @@
 -- each.
 -- Assumes nothing.
 use mathlib.Core.Path.{_≡_, _∙_, refl, sym, ap}
-use mathlib.Core.Bool.{Bool, true, false, true≢false}
+use mathlib.Core.Bool.{Bool, true, false, not, true≢false}
 use mathlib.Core.List.{List, [], _∷_}
 use Prim.Native.Nat.{ℕ, _<_, _≤_}
 use native.Mathlib.Omega.{arith}
@@ -11,8 +11,10 @@ use borrow.Author.Tests.{lt-ltb, le-ltb, ne-eqb}
 use lib.Dec.{lit<}
 use lib.ListN.{getD}
 use Rattle.rules.specs.Answers.{accepts, firstOf, guarded}
+use Rattle.rules.specs.Colour.{differs}
+use Rattle.rules.specs.Modes.{rgbPixel, rgba1Pixel}
 use Rattle.rules.specs.Formats.{sizeOf, showsOf}
-use Rattle.rules.specs.Guards.{Guard, inRange}
+use Rattle.rules.specs.Guards.{Guard, inRange, notOpaque, opaqueOnly}
 use Rattle.laws.proofs.First.{first}
 use Rattle.laws.proofs.Range as range
 
@@ -59,3 +61,16 @@ pub record Sound (g : Guard) : Type 0 where
 pub strict-sound : Sound inRange
 unfolding sizeOf showsOf
 strict-sound = record { is-refusal = lit< tt; one-size = refl; agree = range.agree }
+
+-- the opaque-only viewer: a block with its opaque bit set reads the same under ETC2 RGB and under RGBA1
+set : (t : Bool) → not t ≡ false → t ≡ true
+set true e = refl
+set false e = absurd (true≢false e)
+
+opaque-agree : (d : List ℕ) (x y : ℕ) → notOpaque d ≡ false → rgbPixel d x y ≡ rgba1Pixel d x y
+unfolding rgbPixel rgba1Pixel
+opaque-agree d x y e = rw (set (differs d) e)
+
+pub opaque-sound : Sound opaqueOnly
+unfolding sizeOf showsOf
+opaque-sound = record { is-refusal = lit< tt; one-size = refl; agree = opaque-agree }

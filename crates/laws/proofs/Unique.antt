@@ -13,7 +13,7 @@ use denote.Enum.Declared
 use Rattle.rules.specs.Notation.{build}
 use Rattle.rules.specs.Answers.{said, accepts, Outcome}
 use Rattle.rules.specs.declared.Answer.{Answer}
-use Rattle.rules.specs.declared.Answer.the-variants.{Done, TooLarge, ShortData, ShortImage, OutOfRange, NoChannel, LongData, CutShort, NoHead, OtherKind, WrongBlocks, ShortPitch}
+use Rattle.rules.specs.declared.Answer.the-variants.{Done, TooLarge, ShortData, ShortImage, OutOfRange, NoChannel, LongData, CutShort, NoHead, OtherKind, WrongBlocks, NotOpaque, ShortPitch}
 use Rattle.rules.proofs.Answer.{the-type}
 
 -- every answer, with the value that some of them return
@@ -30,6 +30,7 @@ answers =
     ∷ (λ n. NoHead)
     ∷ (λ n. OtherKind)
     ∷ (λ n. WrongBlocks)
+    ∷ (λ n. NotOpaque n)
     ∷ (λ n. ShortPitch)
     ∷ []
 
@@ -53,6 +54,7 @@ answered CutShort = refl
 answered NoHead = refl
 answered OtherKind = refl
 answered WrongBlocks = refl
+answered (NotOpaque n) = refl
 answered ShortPitch = refl
 
 -- the answer is fixed by what it says on paper

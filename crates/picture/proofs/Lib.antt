@@ -1,1 +1,2 @@
 pub mod Guard
+pub mod Viewed

@@ -1,16 +1,19 @@
-// Whole pictures: the checks, then every block in its place, said once for all formats; and the strict reader, which looks
-// at every block before it paints one.
+// Whole pictures: the checks, then every block in its place, said once for all formats; and the readers of older viewers, which look
+// at every block before they paint one, said once for both.
+use guard::Viewer;
 use rules::Answer;
 use rules::Format;
 use rules::Picture;
 ghost use mathlib.Core.Path.{_≡_};
 ghost use mathlib.Core.Bool.{true};
 ghost use lib.ListN.{length};
-ghost use Rattle.rules.specs.Answers.{said, accepts, exactChecks};
+ghost use Rattle.rules.specs.Answers.{said, accepts, verdict};
 ghost use Rattle.rules.specs.Formats.{sizeOf};
-ghost use Rattle.rules.specs.Guards.{inRange, guardVerdict};
-ghost use Rattle.rules.specs.Readers.{pictureOf, ReadsPicture, ReadsStrict};
+ghost use Rattle.rules.specs.Guards.{guardVerdict};
+ghost use Rattle.rules.specs.Readers.{pictureOf, ReadsPicture, ReadsGuarded, ReadsStrict, ReadsOpaque};
 ghost use Rattle.checks.specs.Passed.{Passed};
+ghost use Rattle.guard.specs.Viewers.{guardOf};
+ghost use Rattle.picture.specs.Checked.{checksFor};
 ghost use Rattle.picture.specs.Obeys.{Obeys};
 
 // Paints the whole of a picture that has passed the checks.
@@ -47,15 +50,35 @@ pub fn read(f: Format, data: &[u8], pic: Picture, image: &mut [u32]) -> Answer
     paint_if_done(answer, f, data, pic, image)
 }
 
-// The answer of the strict reader: the checks, then every block, before one is painted.
-fn strict_answer(d: &[u8], pic: Picture, elements: usize) -> Answer
-    ensures { λ r. ⌜ said r ≡ guardVerdict inRange (exactChecks 8 pic (length (now (d .entry))) elements) pic (now (d .entry)) ⌝ }
+// The checks of a viewer's reader.
+fn verify(viewer: Viewer, pic: Picture, bytes: usize, elements: usize) -> Answer
+    ensures { λ r. ⌜ said r ≡ verdict (checksFor viewer pic bytes elements) ⌝ }
 {
-    let answer = checks::verify_exact(8, pic, d.len(), elements);
+    match viewer {
+        Viewer::Etc1 => checks::verify_exact(8, pic, bytes, elements),
+        Viewer::Opaque => checks::verify(8, pic, bytes, elements),
+    }
+}
+
+// The answer of a viewer's reader: the checks, then every block, before one is painted.
+fn guarded_answer(viewer: Viewer, d: &[u8], pic: Picture, elements: usize) -> Answer
+    ensures { λ r. ⌜ said r ≡ guardVerdict (guardOf viewer) (checksFor viewer pic (length (now (d .entry))) elements) pic (now (d .entry)) ⌝ }
+{
+    let answer = verify(viewer, pic, d.len(), elements);
     let Answer::Done = answer else {
         return answer;
     };
-    guard::out_of_range(d, checks::blocks_of(pic))
+    guard::refusal(viewer, d, checks::blocks_of(pic))
+}
+
+// Reads a picture by the rule that an older viewer has, or refuses it for the first block that this viewer must not show: the answer
+// and every element of the image, for all inputs. What is painted is what the newer rule shows.
+fn read_guarded(viewer: Viewer, data: &[u8], pic: Picture, image: &mut [u32]) -> Answer
+    ensures { λ r. ⌜ ReadsGuarded (guardOf viewer) (checksFor viewer pic (length (now («data» .entry))) (length (now (image .entry))))
+        (now («data» .entry)) pic (now (image .entry)) r (now (image .exit)) ⌝ }
+{
+    let answer = guarded_answer(viewer, data, pic, image.len());
+    paint_if_done(answer, guard::own(viewer), data, pic, image)
 }
 
 // Reads an ETC1 picture, or refuses it for bytes left over, or for a sum out of range and names the first such block: the answer and
@@ -63,6 +86,12 @@ fn strict_answer(d: &[u8], pic: Picture, elements: usize) -> Answer
 pub fn read_strict(data: &[u8], pic: Picture, image: &mut [u32]) -> Answer
     ensures { λ r. ⌜ ReadsStrict (now («data» .entry)) pic (now (image .entry)) r (now (image .exit)) ⌝ }
 {
-    let answer = strict_answer(data, pic, image.len());
-    paint_if_done(answer, Format::Etc1, data, pic, image)
+    read_guarded(Viewer::Etc1, data, pic, image)
+}
+
+// Reads an RGBA1 picture, or refuses it for an opaque bit that is clear and names the first such block: likewise.
+pub fn read_opaque(data: &[u8], pic: Picture, image: &mut [u32]) -> Answer
+    ensures { λ r. ⌜ ReadsOpaque (now («data» .entry)) pic (now (image .entry)) r (now (image .exit)) ⌝ }
+{
+    read_guarded(Viewer::Opaque, data, pic, image)
 }

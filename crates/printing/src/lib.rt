@@ -18,12 +18,12 @@ fn say_element(element: u32) {
     io::print_hex(STDOUT_FILENO, element as u64, 8);
 }
 
-// Prints an answer's number, and the block that refusal 4 names.
+// Prints an answer's number, and the block that refusal 4 or 11 names.
 pub fn say_answer(answer: Answer) {
     say_number(spoken::number(answer) as usize);
-    if let Answer::OutOfRange(block) = answer {
+    if spoken::names(answer) {
         say(b" block ");
-        say_number(block);
+        say_number(spoken::block_or(answer, 0));
     }
 }
 

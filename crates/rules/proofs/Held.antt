@@ -1,6 +1,6 @@
 -- The test of all specimens, which antt computes over the very definitions that the readers promise; and that these are what
 -- they promise. Document 01's rows are in Specimens.antt, those of M-104 in Pitches.antt, those of M-107 in
--- Leftovers.antt, those of other decoders in Recorded.antt.
+-- Leftovers.antt, those of M-109 in Opaque.antt, those of other decoders in Recorded.antt.
 -- Assumes nothing.
 use mathlib.Core.Bool.{Bool, true, false, cond, not, _&&_}
 use mathlib.Core.List.{List, [], _∷_, _++_}
@@ -17,23 +17,26 @@ use Rattle.rules.specs.Modes.{tBases, tDistance, hBases, notLess, hDista
 use Rattle.rules.specs.Modes.{rgbPixel, rgba1Pixel, etc1Pixel}
 use Rattle.rules.specs.Channels.{alphaStep, alphaByte, rgba8Pixel, eacValue, eacByte, redPixel, redGreenPixel}
 use Rattle.rules.specs.Formats.{sizeOf, showsOf}
-use Rattle.rules.specs.Readers.{pictureOf, pictureVerdict, ReadsPicture, strictChecks, strictVerdict, ReadsStrict}
+use Rattle.rules.specs.Readers.{pictureOf, pictureVerdict, ReadsPicture, strictChecks, strictVerdict, ReadsStrict, opaqueChecks, opaqueVerdict, ReadsOpaque}
 use Rattle.rules.specs.Readers.{blockVerdict, blockPainted, ReadsBlock, alphaPainted, ReadsAlpha, channelVerdict, channelPainted, ReadsChannel}
 use Rattle.rules.specs.declared.Answer.{Answer}
-use Rattle.rules.specs.declared.Answer.the-variants.{Done, TooLarge, ShortData, ShortImage, OutOfRange, NoChannel, LongData, ShortPitch}
-use Rattle.rules.specs.declared.Format.the-variants.{Etc2Rgb}
-use Rattle.rules.proofs.Rows.{Reader, picture, strict, padded, paddedStrict, block, alphaHalf, channel, Row, caseOf, bytes, same}
+use Rattle.rules.specs.declared.Answer.the-variants.{Done, TooLarge, ShortData, ShortImage, OutOfRange, NoChannel, LongData, NotOpaque, ShortPitch}
+use Rattle.rules.specs.declared.Format.the-variants.{Etc2Rgb, Etc2Rgba1}
+use Rattle.rules.proofs.Rows.{Reader, picture, strict, opaque, padded, paddedStrict, paddedOpaque, block, alphaHalf, channel, Row, caseOf, bytes, same}
 use Rattle.rules.proofs.Specimens.{rows, columns, bench, table}
 use Rattle.rules.proofs.Pitches.{pitches}
 use Rattle.rules.proofs.Leftovers.{leftovers}
+use Rattle.rules.proofs.Opaque.{opaques}
 use Rattle.rules.proofs.Recorded.{recorded}
 
 -- what a reader says of the bytes and the image that it is lent, and what it would paint
 verdictOf : Reader → ℕ → ℕ → List ℕ → List ℕ → List ℕ
 verdictOf (picture f) w h d image = pictureVerdict f (sized w h) d image
 verdictOf strict w h d image = strictVerdict (sized w h) d image
+verdictOf opaque w h d image = opaqueVerdict (sized w h) d image
 verdictOf (padded f p) w h d image = pictureVerdict f (pitched w h p) d image
 verdictOf (paddedStrict p) w h d image = strictVerdict (pitched w h p) d image
+verdictOf (paddedOpaque p) w h d image = opaqueVerdict (pitched w h p) d image
 verdictOf (block f) w h d image = blockVerdict (sizeOf f) d image
 verdictOf alphaHalf w h d image = blockVerdict 8 d image
 verdictOf (channel s c) w h d image = channelVerdict c d image
@@ -41,8 +44,10 @@ verdictOf (channel s c) w h d image = channelVerdict c d image
 paints : Reader → ℕ → ℕ → List ℕ → List ℕ → List ℕ
 paints (picture f) w h d image = pictureOf f (sized w h) d image
 paints strict w h d image = pictureOf Etc2Rgb (sized w h) d image
+paints opaque w h d image = pictureOf Etc2Rgba1 (sized w h) d image
 paints (padded f p) w h d image = pictureOf f (pitched w h p) d image
 paints (paddedStrict p) w h d image = pictureOf Etc2Rgb (pitched w h p) d image
+paints (paddedOpaque p) w h d image = pictureOf Etc2Rgba1 (pitched w h p) d image
 paints (block f) w h d image = blockPainted (λ k. showsOf f d (k % 4) (k / 4)) image
 paints alphaHalf w h d image = alphaPainted d image
 paints (channel s c) w h d image = channelPainted s d c image
@@ -54,8 +59,10 @@ leaves reader w h d image = left (verdictOf reader w h d image) (paints reader w
 Promise : Reader → ℕ → ℕ → List ℕ → List ℕ → Answer → List ℕ → Type 0
 Promise (picture f) w h d image answer new = ReadsPicture f d (sized w h) image answer new
 Promise strict w h d image answer new = ReadsStrict d (sized w h) image answer new
+Promise opaque w h d image answer new = ReadsOpaque d (sized w h) image answer new
 Promise (padded f p) w h d image answer new = ReadsPicture f d (pitched w h p) image answer new
 Promise (paddedStrict p) w h d image answer new = ReadsStrict d (pitched w h p) image answer new
+Promise (paddedOpaque p) w h d image answer new = ReadsOpaque d (pitched w h p) image answer new
 Promise (block f) w h d image answer new = ReadsBlock f d image answer new
 Promise alphaHalf w h d image answer new = ReadsAlpha d image answer new
 Promise (channel s c) w h d image answer new = ReadsChannel s d c image answer new
@@ -67,8 +74,10 @@ no-less :
 unfolding Promise verdictOf paints leaves
 no-less (picture f) w h d image answer new o = (o .says, o .leaves)
 no-less strict w h d image answer new o = (o .says, o .leaves)
+no-less opaque w h d image answer new o = (o .says, o .leaves)
 no-less (padded f p) w h d image answer new o = (o .says, o .leaves)
 no-less (paddedStrict p) w h d image answer new o = (o .says, o .leaves)
+no-less (paddedOpaque p) w h d image answer new o = (o .says, o .leaves)
 no-less (block f) w h d image answer new o = (o .says, o .leaves)
 no-less alphaHalf w h d image answer new o = (o .says, o .leaves)
 no-less (channel s c) w h d image answer new o = (o .says, o .leaves)
@@ -81,8 +90,10 @@ no-more :
 unfolding Promise verdictOf paints leaves
 no-more (picture f) w h d image answer new a b = record { says = a; leaves = b }
 no-more strict w h d image answer new a b = record { says = a; leaves = b }
+no-more opaque w h d image answer new a b = record { says = a; leaves = b }
 no-more (padded f p) w h d image answer new a b = record { says = a; leaves = b }
 no-more (paddedStrict p) w h d image answer new a b = record { says = a; leaves = b }
+no-more (paddedOpaque p) w h d image answer new a b = record { says = a; leaves = b }
 no-more (block f) w h d image answer new a b = record { says = a; leaves = b }
 no-more alphaHalf w h d image answer new a b = record { says = a; leaves = b }
 no-more (channel s c) w h d image answer new a b = record { says = a; leaves = b }
@@ -107,15 +118,17 @@ numbers =
     && same (said (OutOfRange 7)) (4 ∷ 7 ∷ [])
     && same (said NoChannel) (5 ∷ [])
     && same (said LongData) (6 ∷ [])
+    && same (said (NotOpaque 7)) (11 ∷ 7 ∷ [])
     && same (said ShortPitch) (12 ∷ [])
 
--- the order in which strict ETC1 tests: no row can tell 2 and 6 apart, which are never both due
+-- the order in which strict ETC1 tests: no row can tell 2 and 6 apart, which are never both due; and that of the opaque-only viewer
 numbersOf : List Check → List ℕ
 numbersOf [] = []
 numbersOf (c ∷ cs) = c .number ∷ numbersOf cs
 
 tested : Bool
 tested = same (numbersOf (strictChecks (sized 1 1) [] [])) (1 ∷ 12 ∷ 2 ∷ 6 ∷ 3 ∷ [])
+    && same (numbersOf (opaqueChecks (sized 1 1) [] [])) (1 ∷ 12 ∷ 2 ∷ 3 ∷ [])
 
 -- the places 0 .. n - 1 at which a test holds
 marked : (ℕ → Bool) → ℕ → List ℕ
@@ -165,8 +178,8 @@ orders =
     && notLess (5 ∷ 3 ∷ 9 ∷ []) (5 ∷ 2 ∷ 1 ∷ [])
     && notLess (5 ∷ 3 ∷ 9 ∷ []) (4 ∷ 2 ∷ 1 ∷ [])
 
-hold : T (numbers && tested && words && orders && places && every (bench ++ recorded ++ table ++ pitches ++ leftovers))
-unfolding numbers numbersOf tested words orders places every bench table pitches leftovers recorded verdictOf paints leaves holds marked needed painted
-    firstOf differential wrapped kindBySums outOfRange tBases tDistance hBases hDistance planarBases planarChannel indexed
+hold : T (numbers && tested && words && orders && places && every (bench ++ recorded ++ table ++ pitches ++ leftovers ++ opaques))
+unfolding numbers numbersOf tested words orders places every bench table pitches leftovers opaques recorded verdictOf paints leaves holds marked needed
+    painted firstOf differential wrapped kindBySums outOfRange tBases tDistance hBases hDistance planarBases planarChannel indexed
     rgbPixel rgba1Pixel etc1Pixel alphaStep alphaByte rgba8Pixel eacValue eacByte redPixel redGreenPixel sizeOf showsOf
 hold = tt

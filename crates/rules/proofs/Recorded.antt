@@ -4,7 +4,7 @@
 -- Assumes nothing.
 use mathlib.Core.Bool.{true, false}
 use mathlib.Core.List.{List, [], _∷_}
-use Rattle.rules.proofs.Rows.{Row, picture, strict, block, alphaHalf, channel, packed, joins, refuses}
+use Rattle.rules.proofs.Rows.{Row, picture, strict, opaque, block, alphaHalf, channel, packed, joins, refuses}
 use Rattle.rules.specs.declared.Format.the-variants.{Etc1, Etc2Rgb, Etc2Rgba1, Etc2Rgba8, EacR, EacRSigned, EacRg, EacRgSigned}
 
 unfoldable pub recorded : List Row
@@ -440,4 +440,37 @@ recorded =
     (0x0625DC48_1DC287AA ∷ 0x9F5EF59B_C6B88F2B ∷ 0xBBB6FA8C_5A36DE2F ∷ 0xC6A5B186_40FE9DCF ∷ 0x8D7A99D5_A6C0BFC7
     ∷ 0xD305987F_224A65BD ∷ [])
     25 (4 ∷ 5 ∷ [])
+    -- opaque: every kind twice
+    ∷ packed (opaque) 32 2
+    (0x5DDA4DDB_F5244A8C ∷ 0x1C8165F3_62799B51 ∷ 0x39F9B9DB_AC3B4BCF ∷ 0x10FD1C7E_54D85CAB ∷ 0x0BECF303_5A0E1DCC
+    ∷ 0xED0C966F_40F614C2 ∷ 0x0D6127BA_2E5429CF ∷ 0xB151409E_CFFC4FED ∷ [])
+    8
+    (0xFF7BFF6B_FF7BFF6B_FF39BD29_FF39BD29_FF604FF9_FF604FF9_FF6C5BFF_FF6C5BFF
+    ∷ 0xFF6723AB_FF8743CB_FF6723AB_FF8743CB_FF207CE3_FF5772C6_FF8E68A8_FFC45E8B
+    ∷ 0xFF14ED59_FF10C844_FF0CA42F_FF087F19_FFFFEAD9_FF62FFFF_FFFFEAD9_FF9D6A59
+    ∷ 0xFF398ED2_FF2277BB_FF398ED2_FF556611_FFF18E7E_FFA34030_FF060000_FFEC8971
+    ∷ 0xFF7BFF6B_FF39BD29_FFC4FFB4_FF39BD29_FFCC8811_FF6655FF_FF604FF9_FF6655FF
+    ∷ 0xFF6723AB_FF8743CB_FF6723AB_FF8743CB_FF1A96D6_FF518CB8_FF88829B_FFBE787D
+    ∷ 0xFF40EE4F_FF3CC93A_FF38A424_FF347F0F_FF008C9D_FF62FFFF_FFFFEAD9_FFFFEAD9
+    ∷ 0xFF398ED2_FF556611_FF2277BB_FF0B60A4_FFC76454_FF791606_FF060000_FFEC8971 ∷ [])
+    1
+    -- opaque: the first of two
+    ∷ refuses (opaque) 16 4
+    (0x6CBAF226_F790A345 ∷ 0x43F5CFED_43B8DAA3 ∷ 0x0DE937A3_027B5A0B ∷ 0x8BF20AF5_99A4767B ∷ [])
+    65 (11 ∷ 1 ∷ [])
+    -- opaque: the last of the picture
+    ∷ refuses (opaque) 8 5
+    (0x6CBAF226_F790A345 ∷ 0x43F5CFEF_43B8DAA3 ∷ 0x0DE937A3_027B5A0B ∷ 0x8BF20AF5_99A4767B ∷ [])
+    41 (11 ∷ 3 ∷ [])
+    -- opaque: only a planar block is clear
+    ∷ refuses (opaque) 12 4
+    (0xC01E1E46_B98827A9 ∷ 0xA79205B0_A71E8880 ∷ 0xF3EB03A3_F17BE98D ∷ [])
+    49 (11 ∷ 1 ∷ [])
+    -- opaque: a clear block behind the picture
+    ∷ packed (opaque) 9 2
+    (0x6CBAF226_F790A345 ∷ 0x43F5CFEF_43B8DAA3 ∷ 0x0DE937A3_027B5A0B ∷ 0x8BF20AF5_99A4767B ∷ [])
+    9
+    (0xFFDB3A51_FFB76970_FF92998E_FF6EC8AD_FFF9FFFF_FF13C89F_FF13C89F_FFF9FFFF_FF2D71A4
+    ∷ 0xFFA93242_FF856160_FF60917F_FF3CC09D_FFF9FFFF_FF004017_FF004017_FF71FFFD_FF2D71A4 ∷ [])
+    1
     ∷ []

@@ -7,12 +7,14 @@ use lib.Dec.{eqb}
 use lib.ListN.{length, replicate}
 use Rattle.rules.specs.declared.Format.{Format}
 
--- a picture of a format, a strict one, both with a pitch, a block of a format, the alpha half alone, and a channel alone
+-- a picture of a format, a strict one, an opaque one, all three with a pitch, a block of a format, the alpha half alone, and a channel alone
 pub data Reader : Type 0 where
   picture : Format → Reader
   strict : Reader
+  opaque : Reader
   padded : Format → ℕ → Reader
   paddedStrict : ℕ → Reader
+  paddedOpaque : ℕ → Reader
   block : Format → Reader
   alphaHalf : Reader
   channel : Bool → ℕ → Reader

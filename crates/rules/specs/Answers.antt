@@ -10,7 +10,7 @@ use Rattle.rules.specs.Places.{needed, blocks}
 use Rattle.rules.specs.declared.Picture.{Picture}
 use Rattle.rules.specs.declared.Answer.{Answer}
 use Rattle.rules.specs.declared.Answer.the-variants.{Done, TooLarge, ShortData, ShortImage, OutOfRange, NoChannel, LongData}
-use Rattle.rules.specs.declared.Answer.the-variants.{CutShort, NoHead, OtherKind, WrongBlocks, ShortPitch}
+use Rattle.rules.specs.declared.Answer.the-variants.{CutShort, NoHead, OtherKind, WrongBlocks, NotOpaque, ShortPitch}
 
 -- the table of refusals: the number of each, and what it "also returns"
 abbrev pub said : Answer → List ℕ
@@ -25,6 +25,7 @@ said CutShort = 7 ∷ []
 said NoHead = 8 ∷ []
 said OtherKind = 9 ∷ []
 said WrongBlocks = 10 ∷ []
+said (NotOpaque n) = 11 ∷ n ∷ []
 said ShortPitch = 12 ∷ []
 
 -- number 0 is "done", and every other is a refusal
@@ -106,7 +107,7 @@ unfoldable pub firstOf : (ℕ → Bool) → ℕ → ℕ
 firstOf test zero = zero
 firstOf test (suc n) = cond (ltb (firstOf test n) n) (firstOf test n) (cond (test n) n (suc n))
 
--- check 4, over its number and the test that a block must not meet: "number of the first such block, from 0"
+-- check 4, and 11, over the number and the test that a block must not meet: "number of the first such block, from 0"
 abbrev pub guarded : ℕ → (ℕ → Bool) → ℕ → List ℕ
 guarded number test n = cond (ltb (firstOf test n) n) (number ∷ firstOf test n ∷ []) (0 ∷ [])
 

@@ -9,7 +9,7 @@ use Rattle.rules.specs.Places.{bytesOf, painted, pictureBy}
 use Rattle.rules.specs.Answers.{Check, verdict, pictureChecks, exactChecks, blockChecks, channelChecks, Outcome}
 use Rattle.rules.specs.Channels.{withAlpha, alphaByte, eacByte, orChannel}
 use Rattle.rules.specs.Formats.{sizeOf, showsOf}
-use Rattle.rules.specs.Guards.{Guard, guardVerdict, inRange}
+use Rattle.rules.specs.Guards.{Guard, guardVerdict, inRange, opaqueOnly}
 use Rattle.rules.specs.declared.Answer.{Answer}
 use Rattle.rules.specs.declared.Format.{Format}
 use Rattle.rules.specs.declared.Picture.{Picture}
@@ -41,6 +41,16 @@ strictVerdict p d image = guardVerdict inRange (strictChecks p d image) p d
 
 abbrev pub ReadsStrict : List ℕ → Picture → List ℕ → Answer → List ℕ → Type 0
 ReadsStrict d p image answer new = ReadsGuarded inRange (strictChecks p d image) d p image answer new
+
+-- RGBA1 for an opaque-only viewer: "Checks 1, 12, 2, 3 come first" (M-109)
+abbrev pub opaqueChecks : Picture → List ℕ → List ℕ → List Check
+opaqueChecks p d image = pictureChecks 8 p (length d) (length image)
+
+abbrev pub opaqueVerdict : Picture → List ℕ → List ℕ → List ℕ
+opaqueVerdict p d image = guardVerdict opaqueOnly (opaqueChecks p d image) p d
+
+abbrev pub ReadsOpaque : List ℕ → Picture → List ℕ → Answer → List ℕ → Type 0
+ReadsOpaque d p image answer new = ReadsGuarded opaqueOnly (opaqueChecks p d image) d p image answer new
 
 -- "A block reader writes elements 0 to 15 only, row by row."
 abbrev pub blockPainted : (ℕ → ℕ) → List ℕ → List ℕ

@@ -40,6 +40,8 @@ pub enum Answer {
     OtherKind,
     // no block record, a second one, or a wrong block length
     WrongBlocks,
+    // of an opaque-only viewer: a block with its opaque bit clear, with the number of the first
+    NotOpaque(usize),
     // of a picture: a pitch below the width
     ShortPitch,
 }

@@ -1,7 +1,7 @@
 -- What the scan of a row comes to, and what the rows that were scanned come to, one after another.
 -- Assumes nothing.
-use mathlib.Core.Path.{_≡_, _∙_, refl, sym, ap}
-use mathlib.Core.Bool.{Bool, true, false}
+use mathlib.Core.Path.{_≡_, _∙_, refl, sym, ap, subst}
+use mathlib.Core.Bool.{Bool, true, false, true≢false}
 use mathlib.Core.Logic.{_⊎_, inl, inr, ⊎-elim}
 use mathlib.Core.List.{List, [], _∷_, _++_}
 use Prim.Native.Nat.{ℕ, suc, _+_, _*_, _<_, _≤_}
@@ -14,42 +14,47 @@ use lib.ListN.{length, take, getD, length-append}
 use lib.Seq.{length-take-le}
 use Rattle.rules.specs.Places.{sized, across, blocks, bytesOf}
 use Rattle.rules.specs.Answers.{said, accepts, firstOf, guarded}
-use Rattle.rules.specs.Colour.{outOfRange}
+use Rattle.rules.specs.Guards.{Guard}
 use Rattle.rules.specs.declared.Answer.{Answer}
-use Rattle.rules.specs.declared.Answer.the-variants.{Done, ShortData, OutOfRange}
+use Rattle.rules.specs.declared.Answer.the-variants.{Done, ShortData}
 use Rattle.laws.proofs.Guards.{finds, finds-none}
 use Rattle.place.proofs.Grid.{wide}
+use Rattle.guard.specs.Viewers.{guardOf}
+use Rattle.guard.specs.declared.Viewer.{Viewer}
+use Rattle.guard.specs.declared.Viewer.the-variants as viewer
+use Rattle.guard.proofs.Scan.{sound}
 use Rattle.textures.specs.Textures.{fileLimit}
-use Rattle.textures.specs.declared.Texture.{Texture}
 use Rattle.strips.specs.Rows.{scanned, firstIn, scannedRow}
-use Rattle.strips.proofs.Strict.{after-row, settled}
-use Rattle.scan.specs.Scan.{isColour, numberOf, ScansRow, Scans, Looked, Judges}
+use Rattle.strips.proofs.Scanned.{after-row, settled}
+use Rattle.textures.specs.declared.Texture.{Texture}
+use Rattle.scan.specs.Scan.{isAsked, viewerOf, leftOver, numberOf, ScansRow, Scans, Looked, Judges}
 
 -- ---- a row
 
-module _ (n j : ℕ) (row : List ℕ) (first : ℕ) (e : first ≡ firstIn n row) where
-  pub refuses : first < n → said (OutOfRange (j * n + first)) ≡ scannedRow n j row
+module _ (g : Guard) (n j : ℕ) (row : List ℕ) (first : ℕ) (e : first ≡ firstIn g n row) where
+  pub refuses : first < n → g .number ∷ (j * n + first) ∷ [] ≡ scannedRow g n j row
   unfolding scannedRow
-  refuses h = ap (λ (z : ℕ). 4 ∷ (j * n + z) ∷ []) e ∙ sym (rw (lt-ltb (firstIn n row) n (omega arith)))
+  refuses h = ap (λ (z : ℕ). g .number ∷ (j * n + z) ∷ []) e ∙ sym (rw (lt-ltb (firstIn g n row) n (omega arith)))
 
-  pub goes-on : n ≤ first → said Done ≡ scannedRow n j row
+  pub goes-on : n ≤ first → said Done ≡ scannedRow g n j row
   unfolding scannedRow
-  goes-on h = sym (rw (le-ltb (firstIn n row) n (omega arith)))
+  goes-on h = sym (rw (le-ltb (firstIn g n row) n (omega arith)))
 
 -- ---- rows one after another
 
--- j rows of n blocks were read, and a strict reader has nothing to say of them
-pub record Clear (n j : ℕ) : Type 0 where
+-- j rows of n blocks were read, and a viewer's reader has nothing to say of them
+pub record Clear (v : Viewer) (n j : ℕ) : Type 0 where
   pub bytes : List ℕ
   pub long : length bytes ≡ j * (n * 8)
-  pub says : scanned bytes (j * n) ≡ 0 ∷ []
+  pub says : scanned (guardOf v) bytes (j * n) ≡ 0 ∷ []
 
-none : scanned [] 0 ≡ 0 ∷ []
+none : (g : Guard) → scanned g [] 0 ≡ 0 ∷ []
 unfolding firstOf
-none = refl
+none g = refl
 
-pub begin : (n : ℕ) → Clear n 0
-begin n = record { bytes = []; long = sym (zero-mul (n * 8)); says = ap (scanned []) (zero-mul n) ∙ none }
+pub begin : (v : Viewer) (n : ℕ) → Clear v n 0
+begin v n =
+    record { bytes = []; long = sym (zero-mul (n * 8)); says = ap (scanned (guardOf v) []) (zero-mul n) ∙ none (guardOf v) }
 
 one-more : (j n : ℕ) → (j + 1) * n ≡ j * n + n
 one-more j n = ap (λ (z : ℕ). z * n) (add-one j) ∙ suc-mul j n
@@ -57,7 +62,10 @@ one-more j n = ap (λ (z : ℕ). z * n) (add-one j) ∙ suc-mul j n
 not-short : (b : ℕ) (l : List ℕ) → said ShortData ≡ b ∷ l → (b ≡ 2 → ⊥) → ⊥
 not-short b l e h = h (sym (ap (λ (z : List ℕ). getD z 0 0) e))
 
-module _ (n j : ℕ) (buffer : List ℕ) (answer : Answer) (roomy : n * 8 ≤ length buffer) (so-far : Clear n j) where
+module _ (v : Viewer) (n j : ℕ) (buffer : List ℕ) (answer : Answer) (roomy : n * 8 ≤ length buffer) (so-far : Clear v n j) where
+  abbrev g : Guard
+  g = guardOf v
+
   abbrev row : List ℕ
   row = take (n * 8) buffer
 
@@ -68,31 +76,31 @@ module _ (n j : ℕ) (buffer : List ℕ) (answer : Answer) (roomy : n * 8 ≤ le
   row-long = length-take-le (n * 8) buffer roomy
 
   -- what the row says is what all blocks so far say
-  all-so-far : said answer ≡ scannedRow n j row → said answer ≡ scanned (d ++ row) (j * n + n)
-  all-so-far e = e ∙ after-row n j d row (so-far .long) row-long (so-far .says)
+  all-so-far : said answer ≡ scannedRow g n j row → said answer ≡ scanned g (d ++ row) (j * n + n)
+  all-so-far e = e ∙ after-row g (sound v .is-refusal) n j d row (so-far .long) row-long (so-far .says)
 
-  pub further : ScansRow n j buffer answer → answer ≡ Done → Clear n (j + 1)
+  pub further : ScansRow v n j buffer answer → answer ≡ Done → Clear v n (j + 1)
   further s e =
       ⊎-elim (λ q. absurd (not-short 0 [] (sym (ap said q) ∙ ap said e) (λ z. omega (arith, z))))
       (λ q.
       record {
         bytes = d ++ row;
         long = length-append d row ∙ omega (arith, so-far .long, row-long, one-more j (n * 8));
-        says = ap (scanned (d ++ row)) (one-more j n) ∙ sym (all-so-far q) ∙ ap said e;
+        says = ap (scanned g (d ++ row)) (one-more j n) ∙ sym (all-so-far q) ∙ ap said e;
       })
       s
 
-  pub stops : (w h : ℕ) → n ≡ across w → j < across h → ScansRow n j buffer answer → accepts (said answer) ≡ false → Scans (sized w h) answer
+  pub stops : (w h : ℕ) → n ≡ across w → j < across h → ScansRow v n j buffer answer → accepts (said answer) ≡ false → Scans v (sized w h) answer
   stops w h e b s r =
       ⊎-elim (λ q. inl q)
       (λ q.
-      let t : said answer ≡ scanned (d ++ row) (j * n + n) = all-so-far q in
+      let t : said answer ≡ scanned g (d ++ row) (j * n + n) = all-so-far q in
       inr
       (record {
         bytes = d ++ row;
         says =
             t
-            ∙ settled (λ i. outOfRange (bytesOf 8 (d ++ row) i)) (j * n + n) (blocks (sized w h)) room (ap accepts (sym t) ∙ r);
+            ∙ settled (λ i. g .bad (bytesOf 8 (d ++ row) i)) (g .number) (j * n + n) (blocks (sized w h)) room (ap accepts (sym t) ∙ r);
       }))
       s
     where
@@ -103,91 +111,110 @@ module _ (n j : ℕ) (buffer : List ℕ) (answer : Answer) (roomy : n * 8 ≤ le
           omega (arith, suc-mul j n)
 
 -- every row was scanned
-pub ends : (w h n rows : ℕ) → n ≡ across w → rows ≡ across h → Clear n rows → Scans (sized w h) Done
-ends w h n rows e f s =
+pub ends : (v : Viewer) (w h n rows : ℕ) → n ≡ across w → rows ≡ across h → Clear v n rows → Scans v (sized w h) Done
+ends v w h n rows e f s =
     let z : rows * n ≡ across w * across h = mul-comm rows n ∙ ap (λ (k : ℕ). k * rows) e ∙ ap (λ (k : ℕ). across w * k) f in
-    inr (record { bytes = s .bytes; says = sym (s .says) ∙ ap (scanned (s .bytes)) z })
+    inr (record { bytes = s .bytes; says = sym (s .says) ∙ ap (scanned (guardOf v) (s .bytes)) z })
 
 -- ---- what is said
 
-named : (test : ℕ → Bool) (n i : ℕ) → 4 ∷ i ∷ [] ≡ guarded 4 test n → i < n
-named test n i e =
-    elim (decLt (firstOf test n) n) [
-      | yes h ↦
-          let g : guarded 4 test n ≡ 4 ∷ firstOf test n ∷ [] = rw (lt-ltb (firstOf test n) n h) in
-          let z : i ≡ firstOf test n = ap (λ (l : List ℕ). getD l 1 0) (e ∙ g) in
-          omega arith
-      | no h ↦
-          let g : guarded 4 test n ≡ 0 ∷ [] = rw (le-ltb (firstOf test n) n (omega (arith, h))) in
-          let z : _≡_ {A = ℕ} 4 0 = ap (λ (l : List ℕ). getD l 0 0) (e ∙ g) in
-          absurd (omega arith)
-    ]
-
--- a block that is named is one of the picture's
-pub placed : (w h i : ℕ) → w ≤ fileLimit → h ≤ fileLimit → Scans (sized w h) (OutOfRange i) → (0 < across w) × (i < 0x1000000)
-placed w h i a b s =
+-- a block that an answer names is one of the picture's
+pub placed : (v : Viewer) (w h k i : ℕ) (answer : Answer) → w ≤ fileLimit → h ≤ fileLimit → said answer ≡ k ∷ i ∷ [] → 2 < k
+    → Scans v (sized w h) answer
+    → (0 < across w) × (i < 0x1000000)
+placed v w h k i answer a b e t s =
     let p : i < across w * across h =
-    ⊎-elim (λ q. absurd (not-short 4 (i ∷ []) (sym (ap said q)) (λ z. omega (arith, z))))
-    (λ q. named (λ k. outOfRange (bytesOf 8 (q .bytes) k)) (across w * across h) i (q .says))
+    ⊎-elim (λ q. absurd (not-short k (i ∷ []) (sym (ap said q) ∙ e) (λ z. omega (arith, z))))
+    (λ q. found (guardOf v .number) (λ m. guardOf v .bad (bytesOf 8 (q .bytes) m)) (across w * across h) k i (sym (q .says) ∙ e) t)
     s in
     let m : across w * across h ≤ 0x1000000 =
     let x : across w ≤ 4096 = omega arith in
     let y : across h ≤ 4096 = omega arith in
     mul-le-mul x y in
     (wide (across w) (across h) i (omega (arith, mul-comm (across w) (across h))), omega arith)
+  where
+    found : (number : ℕ) (test : ℕ → Bool) (n k i : ℕ) → guarded number test n ≡ k ∷ i ∷ [] → 2 < k → i < n
+    found number test n k i e t =
+        elim (decLt (firstOf test n) n) [
+          | yes h ↦
+              let z : firstOf test n ≡ i = ap (λ (l : List ℕ). getD l 1 0) (sym (finds number test n h) ∙ e) in
+              omega arith
+          | no h ↦
+              let z : 0 ≡ k = ap (λ (l : List ℕ). getD l 0 0) (sym (finds-none number test n (omega (arith, h))) ∙ e) in
+              absurd (omega arith)
+        ]
 
--- a picture of which no strict reader is asked is neither accepted nor refused by one
-pub not-asked : (t : Texture) (k r : ℕ) → r ≡ k → (k ≡ 0 → ⊥) → (k ≡ 4 → ⊥) → (k ≡ 6 → ⊥)
-    → (isColour (t .format) ≡ true → t .width ≤ fileLimit → t .height ≤ fileLimit → ⊥)
+-- a picture of which no viewer is asked is neither accepted nor refused by one
+pub not-asked : (t : Texture) (k r : ℕ) → r ≡ k → (k ≡ 0 → ⊥) → (k ≡ 4 → ⊥) → (k ≡ 11 → ⊥) → (k ≡ 6 → ⊥)
+    → (isAsked (t .format) ≡ true → t .width ≤ fileLimit → t .height ≤ fileLimit → ⊥)
     → Judges t r
-not-asked t k r e a b s why =
+not-asked t k r e a b c s why =
     record {
       accepts = λ q. absurd (a (sym e ∙ q));
       names = λ q. absurd (b (sym e ∙ q));
+      names-clear = λ q. absurd (c (sym e ∙ q));
       only-then = λ q. absurd (s (sym e ∙ q));
       then-always = λ f w h l. absurd (why f w h);
     }
 
 -- one with bytes left over is refused with 6
-pub left-over : (t : Texture) (r : ℕ) → r ≡ 6 → t .bytes < t .level → Judges t r
-left-over t r e l =
+pub left-over : (t : Texture) (v : Viewer) (r : ℕ) → r ≡ 6 → v ≡ viewerOf (t .format) → leftOver v t ≡ true → Judges t r
+left-over t v r e f l =
     record {
       accepts = λ q. absurd (omega (arith, e, q));
       names = λ q. absurd (omega (arith, e, q));
-      only-then = λ q. l;
-      then-always = λ f w h m. e;
+      names-clear = λ q. absurd (omega (arith, e, q));
+      only-then = λ q. sym (ap (λ (u : Viewer). leftOver u t) f) ∙ l;
+      then-always = λ a w h m. e;
     }
 
 -- what a scan says is never 6
-not-six : (test : ℕ → Bool) (n : ℕ) (answer : Answer) → said answer ≡ guarded 4 test n → numberOf answer ≡ 6 → ⊥
-not-six test n answer e q =
+not-six : (v : Viewer) → guardOf v .number ≡ 6 → ⊥
+not-six viewer.Etc1 e = omega (arith, e)
+not-six viewer.Opaque e = omega (arith, e)
+
+scan-not-six : (v : Viewer) (test : ℕ → Bool) (n : ℕ) (answer : Answer) → said answer ≡ guarded (guardOf v .number) test n → numberOf answer ≡ 6 → ⊥
+scan-not-six v test n answer e q =
     elim (decLt (firstOf test n) n) [
       | yes h ↦
-          let z : numberOf answer ≡ 4 = ap (λ (l : List ℕ). getD l 0 0) (e ∙ finds 4 test n h) in
-          omega (arith, q)
+          let z : numberOf answer ≡ guardOf v .number = ap (λ (l : List ℕ). getD l 0 0) (e ∙ finds (guardOf v .number) test n h) in
+          not-six v (sym z ∙ q)
       | no h ↦
-          let z : numberOf answer ≡ 0 = ap (λ (l : List ℕ). getD l 0 0) (e ∙ finds-none 4 test n (omega (arith, h))) in
+          let z : numberOf answer ≡ 0 = ap (λ (l : List ℕ). getD l 0 0) (e ∙ finds-none (guardOf v .number) test n (omega (arith, h))) in
           omega (arith, q)
     ]
 
 -- and one that was scanned has its own number
-pub spoken : (t : Texture) (answer : Answer) (r : ℕ) → r ≡ numberOf answer → t .level ≤ t .bytes → Scans (sized (t .width) (t .height)) answer → Judges t r
-spoken t answer r e none s =
-    ⊎-elim
-    (λ q.
-    let short : r ≡ 2 = e ∙ ap numberOf q in
-    record {
-      accepts = λ z. absurd (omega (arith, short, z));
-      names = λ z. absurd (omega (arith, short, z));
-      only-then = λ z. absurd (omega (arith, short, z));
-      then-always = λ f w h l. absurd (omega (arith, none, l));
-    })
-    (λ q.
-    let looked : Looked t r = record { none-left = none; checked = record { answer = answer; is = e; strict = q } } in
-    record {
-      accepts = λ z. looked;
-      names = λ z. looked;
-      only-then = λ z. absurd (not-six _ _ answer (q .says) (sym e ∙ z));
-      then-always = λ f w h l. absurd (omega (arith, none, l));
-    })
-    s
+pub spoken : (t : Texture) (v : Viewer) (answer : Answer) (r : ℕ) → v ≡ viewerOf (t .format) → r ≡ numberOf answer → leftOver v t ≡ false
+    → Scans v (sized (t .width) (t .height)) answer
+    → Judges t r
+spoken t v answer r f e none s = judged
+  where
+    over : leftOver v t ≡ true → ⊥
+    over q = true≢false (sym q ∙ none)
+
+    moved : Looked v t r → Looked (viewerOf (t .format)) t r
+    moved l = subst (λ (w : Viewer). Looked w t r) f l
+
+    judged : Judges t r
+    judged =
+        ⊎-elim
+        (λ q.
+        let short : r ≡ 2 = e ∙ ap numberOf q in
+        record {
+          accepts = λ z. absurd (omega (arith, short, z));
+          names = λ z. absurd (omega (arith, short, z));
+          names-clear = λ z. absurd (omega (arith, short, z));
+          only-then = λ z. absurd (omega (arith, short, z));
+          then-always = λ a w h l. absurd (over (ap (λ (u : Viewer). leftOver u t) f ∙ l));
+        })
+        (λ q.
+        let looked : Looked v t r = record { none-left = none; checked = record { answer = answer; is = e; scanned = q } } in
+        record {
+          accepts = λ z. moved looked;
+          names = λ z. moved looked;
+          names-clear = λ z. moved looked;
+          only-then = λ z. absurd (scan-not-six v _ _ answer (q .says) (sym e ∙ z));
+          then-always = λ a w h l. absurd (over (ap (λ (u : Viewer). leftOver u t) f ∙ l));
+        })
+        s

@@ -4,7 +4,8 @@ use mathlib.Core.Path.{_≡_}
 use mathlib.Core.Bool.{Bool, true, false}
 use mathlib.Core.Logic.{_⊎_}
 use mathlib.Core.List.{List}
-use Prim.Native.Nat.{ℕ, _*_, _<_, _≤_}
+use Prim.Native.Nat.{ℕ, _*_, _≤_}
+use lib.Dec.{ltb}
 use lib.ListN.{take, getD}
 use Rattle.rules.specs.Places.{sized, blocks}
 use Rattle.rules.specs.Answers.{said}
@@ -15,51 +16,71 @@ use Rattle.rules.specs.declared.Format.{Format}
 use Rattle.rules.specs.declared.Format.the-variants.{Etc1, Etc2Rgb, Etc2Rgba1, Etc2Rgba8, EacR, EacRSigned, EacRg, EacRgSigned}
 use Rattle.textures.specs.Textures.{fileLimit}
 use Rattle.textures.specs.declared.Texture.{Texture}
+use Rattle.guard.specs.Viewers.{guardOf}
+use Rattle.guard.specs.declared.Viewer.{Viewer}
+use Rattle.guard.specs.declared.Viewer.the-variants as viewer
 use Rattle.strips.specs.Rows.{scanned, scannedRow}
 
--- the formats whose blocks an ETC1 reader may be handed
-abbrev pub isColour : Format → Bool
-isColour Etc1 = true
-isColour Etc2Rgb = true
-isColour Etc2Rgba1 = false
-isColour Etc2Rgba8 = false
-isColour EacR = false
-isColour EacRSigned = false
-isColour EacRg = false
-isColour EacRgSigned = false
+-- the formats of which an older viewer is asked, and which: one that knows ETC1 alone of ETC1 and RGB, an opaque-only one of RGBA1
+abbrev pub isAsked : Format → Bool
+isAsked Etc1 = true
+isAsked Etc2Rgb = true
+isAsked Etc2Rgba1 = true
+isAsked Etc2Rgba8 = false
+isAsked EacR = false
+isAsked EacRSigned = false
+isAsked EacRg = false
+isAsked EacRgSigned = false
+
+abbrev pub viewerOf : Format → Viewer
+viewerOf Etc1 = viewer.Etc1
+viewerOf Etc2Rgb = viewer.Etc1
+viewerOf Etc2Rgba1 = viewer.Opaque
+viewerOf Etc2Rgba8 = viewer.Etc1
+viewerOf EacR = viewer.Etc1
+viewerOf EacRSigned = viewer.Etc1
+viewerOf EacRg = viewer.Etc1
+viewerOf EacRgSigned = viewer.Etc1
+
+-- whether a level has bytes behind its blocks that its viewer minds: only a strict reader does
+abbrev pub leftOver : Viewer → Texture → Bool
+leftOver viewer.Etc1 t = ltb (t .bytes) (t .level)
+leftOver viewer.Opaque t = false
 
 -- the number of an answer
 abbrev pub numberOf : Answer → ℕ
 numberOf answer = getD (said answer) 0 0
 
 -- a row of n blocks, of which the buffer has the bytes in front, is scanned; or the file ended before it did
-abbrev pub ScansRow : ℕ → ℕ → List ℕ → Answer → Type 0
-ScansRow n j buffer answer = (answer ≡ ShortData) ⊎ (said answer ≡ scannedRow n j (take (n * 8) buffer))
+abbrev pub ScansRow : Viewer → ℕ → ℕ → List ℕ → Answer → Type 0
+ScansRow v n j buffer answer = (answer ≡ ShortData) ⊎ (said answer ≡ scannedRow (guardOf v) n j (take (n * 8) buffer))
 
--- what a strict reader says of all blocks of a picture, from some bytes
-pub record Scanned (p : Picture) (answer : Answer) : Type 0 where
+-- what a viewer's reader says of all blocks of a picture, from some bytes
+pub record Scanned (v : Viewer) (p : Picture) (answer : Answer) : Type 0 where
   pub bytes : List ℕ
-  pub says : said answer ≡ scanned bytes (blocks p)
+  pub says : said answer ≡ scanned (guardOf v) bytes (blocks p)
 
 -- a picture is scanned, or the file ended before it did
-abbrev pub Scans : Picture → Answer → Type 0
-Scans p answer = (answer ≡ ShortData) ⊎ Scanned p answer
+abbrev pub Scans : Viewer → Picture → Answer → Type 0
+Scans v p answer = (answer ≡ ShortData) ⊎ Scanned v p answer
 
--- a number that a strict reader has for a picture, from some bytes
-pub record Checked (p : Picture) (number : ℕ) : Type 0 where
+-- a number that a viewer's reader has for a picture, from some bytes
+pub record Checked (v : Viewer) (p : Picture) (number : ℕ) : Type 0 where
   pub answer : Answer
   pub is : number ≡ numberOf answer
-  pub strict : Scanned p answer
+  pub scanned : Scanned v p answer
 
--- that number, of a level with no byte behind its blocks
-pub record Looked (t : Texture) (number : ℕ) : Type 0 where
-  pub none-left : t .level ≤ t .bytes
-  pub checked : Checked (sized (t .width) (t .height)) number
+-- that number, of a level with no byte behind its blocks that the viewer minds
+pub record Looked (v : Viewer) (t : Texture) (number : ℕ) : Type 0 where
+  pub none-left : leftOver v t ≡ false
+  pub checked : Checked v (sized (t .width) (t .height)) number
 
--- What `--check` answers of a texture: it accepts, or names a block, only as a strict reader does, and only where nothing is left over; and it
--- answers 6 exactly where something is, once the format and the size are such that a strict reader is asked.
+-- What `--check` answers of a texture: it accepts, or names a block, only as the reader of its format's older viewer does, and only where
+-- nothing is left over that this viewer minds; and it answers 6 exactly where something is, once the format and the size are such that
+-- a viewer is asked.
 pub record Judges (t : Texture) (number : ℕ) : Type 0 where
-  pub accepts : number ≡ 0 → Looked t number
-  pub names : number ≡ 4 → Looked t number
-  pub only-then : number ≡ 6 → t .bytes < t .level
-  pub then-always : isColour (t .format) ≡ true → t .width ≤ fileLimit → t .height ≤ fileLimit → t .bytes < t .level → number ≡ 6
+  pub accepts : number ≡ 0 → Looked (viewerOf (t .format)) t number
+  pub names : number ≡ 4 → Looked (viewerOf (t .format)) t number
+  pub names-clear : number ≡ 11 → Looked (viewerOf (t .format)) t number
+  pub only-then : number ≡ 6 → leftOver (viewerOf (t .format)) t ≡ true
+  pub then-always : isAsked (t .format) ≡ true → t .width ≤ fileLimit → t .height ≤ fileLimit → leftOver (viewerOf (t .format)) t ≡ true → number ≡ 6

@@ -1,3 +1,3 @@
 pub mod Bytes
 pub mod Whole
-pub mod Strict
+pub mod Scanned

@@ -8,7 +8,7 @@ use Rattle.rules.specs.Notation.{build}
 use Rattle.rules.specs.Pixel.{Shows}
 use Rattle.rules.specs.Places.{sized, across, bytesOf, pixelAt}
 use Rattle.rules.specs.Answers.{firstOf, guarded}
-use Rattle.rules.specs.Colour.{outOfRange}
+use Rattle.rules.specs.Guards.{Guard}
 use Rattle.rules.specs.declared.Picture.{Picture}
 use Rattle.strips.specs.declared.Corner.{Corner}
 
@@ -37,15 +37,15 @@ joined g (suc n) = joined g n ++ g n
 abbrev pub cornerOf : ℕ → ℕ → Corner
 cornerOf n block = record { column = block % n * 4; row = block / n * 4 }
 
--- what a strict ETC1 reader says of the first n blocks of some bytes, by check 4 alone
-abbrev pub scanned : List ℕ → ℕ → List ℕ
-scanned d n = guarded 4 (λ i. outOfRange (bytesOf 8 d i)) n
+-- what a guard says of the first n blocks of some bytes
+abbrev pub scanned : Guard → List ℕ → ℕ → List ℕ
+scanned g d n = guarded (g .number) (λ i. g .bad (bytesOf 8 d i)) n
 
--- the first block of a row of n that such a reader refuses, or n
-abbrev pub firstIn : ℕ → List ℕ → ℕ
-firstIn n row = firstOf (λ i. outOfRange (bytesOf 8 row i)) n
+-- the first block of a row of n that it refuses, or n
+abbrev pub firstIn : Guard → ℕ → List ℕ → ℕ
+firstIn g n row = firstOf (λ i. g .bad (bytesOf 8 row i)) n
 
 -- what it says after row j of n blocks, from the bytes of that row, where it had nothing to say before: of all blocks so
 -- far, the number of the first that it refuses
-unfoldable pub scannedRow : ℕ → ℕ → List ℕ → List ℕ
-scannedRow n j row = cond (ltb (firstIn n row) n) (4 ∷ (j * n + firstIn n row) ∷ []) (0 ∷ [])
+unfoldable pub scannedRow : Guard → ℕ → ℕ → List ℕ → List ℕ
+scannedRow g n j row = cond (ltb (firstIn g n row) n) (g .number ∷ (j * n + firstIn g n row) ∷ []) (0 ∷ [])

@@ -1,5 +1,5 @@
 // A picture cut into rows of blocks: how many there are, how high each is, and where a block stands. That all rows are the whole, and
-// that the first row which a strict reader refuses names the first block, is in proofs/.
+// that the first row which an older viewer's reader refuses names the first block, is in proofs/.
 ghost use mathlib.Core.Path.{_≡_};
 ghost use Prim.Native.Nat.{_*_, _<_, _≤_};
 ghost use Rattle.rules.specs.Places.{across as acrossOf};

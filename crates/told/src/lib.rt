@@ -1,11 +1,11 @@
-// The picture readers as a caller from C is told of them: the answer's number, and the block that a strict reader names.
+// The picture readers as a caller from C is told of them: the answer's number, and the block that a reader with a guard names.
 use rules::Answer;
 use rules::Format;
 use rules::Picture;
 ghost use mathlib.Core.Path.{_≡_};
 ghost use Rattle.rules.specs.Places.{pitched};
-ghost use Rattle.rules.specs.Readers.{ReadsPicture, ReadsStrict};
-ghost use Rattle.told.specs.Told.{Told, blockOr};
+ghost use Rattle.rules.specs.Readers.{ReadsPicture, ReadsStrict, ReadsOpaque};
+ghost use Rattle.told.specs.Told.{Told, answerNumber, blockOr};
 
 // Reads a picture of any format and pitch.
 pub fn read(
@@ -28,17 +28,33 @@ pub fn read(
     spoken::number(picture::read(f, data, pic, image))
 }
 
-// The strict reader of a picture with any pitch: the block that an answer names is written, and any other answer writes none.
+// The number of an answer. The block that it names is written, and an answer that names none writes none.
+fn handed(answer: Answer, block: &mut usize) -> u32
+    ensures { λ r. ⌜ (r ≡ answerNumber answer) × (now (block .exit) ≡ blockOr answer (now (block .entry))) ⌝ }
+{
+    if spoken::names(answer) {
+        *block = spoken::block_or(answer, 0);
+        return spoken::number(answer);
+    }
+    spoken::number(answer)
+}
+
+// The strict reader of a picture with any pitch, and the block that it names.
 pub fn strict(data: &[u8], pic: Picture, image: &mut [u32], block: &mut usize) -> u32
     ensures { λ r. ⌜ Told
         (λ a. ReadsStrict (now («data» .entry)) pic (now (image .entry)) a (now (image .exit))
         × (now (block .exit) ≡ blockOr a (now (block .entry))))
         r ⌝ }
 {
-    let answer = picture::read_strict(data, pic, image);
-    let Answer::OutOfRange(n) = answer else {
-        return spoken::number(answer);
-    };
-    *block = n;
-    4
+    handed(picture::read_strict(data, pic, image), block)
+}
+
+// The reader of an opaque-only viewer, likewise.
+pub fn opaque(data: &[u8], pic: Picture, image: &mut [u32], block: &mut usize) -> u32
+    ensures { λ r. ⌜ Told
+        (λ a. ReadsOpaque (now («data» .entry)) pic (now (image .entry)) a (now (image .exit))
+        × (now (block .exit) ≡ blockOr a (now (block .entry))))
+        r ⌝ }
+{
+    handed(picture::read_opaque(data, pic, image), block)
 }

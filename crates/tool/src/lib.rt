@@ -1,4 +1,4 @@
-// The tool: a texture file to a PNG, row of blocks by row of blocks, and whether an old reader may show it. What the bytes mean
+// The tool: a texture file to a PNG, row of blocks by row of blocks, and whether an older viewer may show it. What the bytes mean
 // is proved in the crates below; here are the files, the arguments and the words.
 mod args;
 mod source;
@@ -25,7 +25,7 @@ fn info(source: Source) -> u64 {
     0
 }
 
-// Whether a strict ETC1 reader accepts a picture of a file.
+// Whether an older viewer may show a picture of a file.
 fn scanned(fd: i32, t: Texture) -> u64 {
     if !source::seek(fd, t.start) {
         words::refusal(words::NO_FILE);
@@ -34,7 +34,7 @@ fn scanned(fd: i32, t: Texture) -> u64 {
     scan::picture(fd, t)
 }
 
-// `--check FILE`: whether a strict ETC1 reader accepts the picture. That a level is too long is for it to say.
+// `--check FILE`: whether an older viewer may show the picture. That a level is too long is for strict ETC1 to say.
 fn checked(source: Source) -> u64 {
     let told = source.header;
     match told {

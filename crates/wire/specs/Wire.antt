@@ -3,7 +3,7 @@
 use mathlib.Core.Bool.{Bool, cond, _&&_, _||_}
 use mathlib.Core.List.{List, [], _∷_}
 use Prim.Native.Nat.{ℕ, _+_, _*_, _/_, _%_}
-use lib.Dec.{ltb}
+use lib.Dec.{eqb, ltb}
 use lib.ListN.{getD}
 use Rattle.rules.specs.Notation.{build}
 use Rattle.lay.specs.Lays.{laid}
@@ -37,7 +37,8 @@ atMost most n = cond (ltb most n) most n
 
 -- the numbers of the table of readers: pictures, blocks, censuses, and pictures with a pitch
 abbrev pub isReader : ℕ → Bool
-isReader n = ((ltb n 9 || (ltb 15 n && ltb n 27)) || (ltb 31 n && ltb n 34)) || (ltb 39 n && ltb n 49)
+isReader n =
+    (((ltb n 9 || eqb n 13) || (ltb 15 n && ltb n 27)) || (ltb 31 n && ltb n 34)) || ((ltb 39 n && ltb n 49) || eqb n 53)
 
 -- "a reader that is not in the table, or a length above the largest is no case"
 abbrev pub isCase : List ℕ → Bool

@@ -96,10 +96,10 @@ fn at_most(most: usize, n: usize) -> usize
 fn is_reader(number: u32) -> bool
     ensures { λ r. ⌜ r ≡ isReader number ⌝ }
 {
-    let picture = number < 9;
+    let picture = (number < 9) | (number == 13);
     let block = (15 < number) & (number < 27);
     let census = (31 < number) & (number < 34);
-    let pitched = (39 < number) & (number < 49);
+    let pitched = (39 < number) & (number < 49) | (number == 53);
     picture | block | census | pitched
 }
 
@@ -117,10 +117,7 @@ pub fn is_case(head: &[u8; 24]) -> bool
 pub fn block(answer: Answer) -> u32
     ensures { λ r. ⌜ r ≡ getD (said answer) 1 0 % 0x100000000 ⌝ }
 {
-    let Answer::OutOfRange(n) = answer else {
-        return 0;
-    };
-    (n % 0x100000000) as u32
+    (spoken::block_or(answer, 0) % 0x100000000) as u32
 }
 
 // The first eight bytes of an answer: two words, of which the first is below 256.

@@ -1,4 +1,5 @@
 // The tool's words: results on standard output, refusals on standard error.
+use guard::Viewer;
 use libc::STDERR_FILENO;
 use libc::STDOUT_FILENO;
 use rules::Format;
@@ -13,7 +14,7 @@ pub const TOO_LARGE: u64 = 1;
 
 pub const LONG_DATA: u64 = 6;
 
-pub const NO_COLOUR: u64 = 27;
+pub const NO_VIEWER: u64 = 27;
 
 pub const NO_FILE: u64 = 30;
 
@@ -78,7 +79,7 @@ fn own_refusal(number: u64) {
             b"A strict ETC1 reader must not show this picture: its level has more bytes than its blocks need.",
         ),
         27 => complain(
-            b"The picture is no ETC1 or ETC2 RGB picture, so an ETC1 reader has nothing to accept.",
+            b"The picture is no ETC1, ETC2 RGB or RGBA1 picture, so there is no older viewer to ask.",
         ),
         30 => complain(b"The file cannot be opened or measured."),
         31 => complain(b"The PNG cannot be written; nothing is left of it."),
@@ -164,10 +165,18 @@ fn usage() {
     tell(b"unpack FILE OUT.png                        a PKM or KTX 1 file to a PNG\n");
     tell(b"unpack --raw FORMAT WIDTH HEIGHT FILE OUT.png   the same of bare blocks\n");
     tell(
-        b"unpack --check FILE     whether a strict ETC1 reader accepts the picture: it looks at\n",
+        b"unpack --check FILE     whether an older viewer may show the picture. Of ETC1 and RGB: whether\n",
     );
-    tell(b"                        every block of level 0, and at how many bytes that level has\n");
-    tell(b"                        (a PKM file up to its end, a KTX file as many as it tells)\n");
+    tell(
+        b"                        a strict ETC1 reader accepts it, which looks at every block of\n",
+    );
+    tell(
+        b"                        level 0, and at how many bytes that level has (a PKM file up to\n",
+    );
+    tell(
+        b"                        its end, a KTX file as many as it tells). Of RGBA1: whether an\n",
+    );
+    tell(b"                        opaque-only viewer does, by the opaque bit of every block\n");
     tell(b"unpack --info FILE      format, size and blocks\n");
     tell(b"unpack --help           this\n\n");
 }
@@ -180,8 +189,10 @@ pub fn help() {
     );
     tell(b"Results go to standard output, refusals to standard error. The exit status is 0,\n");
     tell(b"or the number of the refusal: 1 too large, 2 too few bytes, 4 a block or 6 too many\n");
-    tell(b"bytes for a strict ETC1 reader, 20 to 27 the file's header, 30 the file, 31 the PNG,\n");
-    tell(b"32 the call.\n");
+    tell(
+        b"bytes for a strict ETC1 reader, 11 a block for an opaque-only viewer, 20 to 27 the file's\n",
+    );
+    tell(b"header, 30 the file, 31 the PNG, 32 the call.\n");
     tell(b"A refusal leaves no PNG behind.\n");
 }
 
@@ -192,21 +203,45 @@ pub fn digest(crc: u32) {
     tell(b"\n");
 }
 
-// That a strict ETC1 reader accepts the picture.
-pub fn accepted() {
-    tell(b"A strict ETC1 reader accepts this picture: no block of it is newer than ETC1.\n");
+// That an older viewer may show the picture.
+pub fn accepted(viewer: Viewer) {
+    match viewer {
+        Viewer::Etc1 => {
+            tell(b"A strict ETC1 reader accepts this picture: no block of it is newer than ETC1.\n")
+        }
+        Viewer::Opaque => tell(
+            b"An opaque-only viewer may show this picture: every block of it is opaque.\n",
+        ),
+    }
 }
 
-// The first block that it does not accept, where n blocks are a row, and the first pixel of that block.
-pub fn refused_block(block: usize, n: usize)
+// Who it is that must not.
+fn who(viewer: Viewer) {
+    match viewer {
+        Viewer::Etc1 => tell(b"A strict ETC1 reader"),
+        Viewer::Opaque => tell(b"An opaque-only viewer"),
+    }
+}
+
+// What is the matter with a block.
+fn fault(viewer: Viewer) {
+    match viewer {
+        Viewer::Etc1 => tell(b", is an ETC2 block.\n"),
+        Viewer::Opaque => tell(b", has its opaque bit clear.\n"),
+    }
+}
+
+// The first block that it must not show, where n blocks are a row, and the first pixel of that block.
+pub fn refused_block(viewer: Viewer, block: usize, n: usize)
     requires { ⌜ (0 < n) × (block < 0x1000000) ⌝ }
 {
     let corner = strips::corner_of(block, n);
-    tell(b"A strict ETC1 reader must not show this picture: block ");
+    who(viewer);
+    tell(b" must not show this picture: block ");
     count(block as u64);
     tell(b", at pixel column ");
     count(corner.column as u64);
     tell(b" and row ");
     count(corner.row as u64);
-    tell(b", is an ETC2 block.\n");
+    fault(viewer);
 }

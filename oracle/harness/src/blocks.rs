@@ -16,7 +16,7 @@ pub enum Fill {
     EveryByte(usize),
     /// EAC: the index bytes 6 and 7 repeat bytes 1 and 0, as in the crate's reading.
     CrateOrder,
-    /// No block with a sum out of range, but for the one that is named, if any.
+    /// No block with a sum out of range, or of RGBA1 with its opaque bit clear, but for the one that is named, if any.
     InRange(Option<usize>),
     /// T and H in each of their modes in its turn, counted on from this number of blocks.
     Modes(usize),
@@ -63,10 +63,18 @@ fn eight(half: Half, fill: Fill, number: usize, random: &mut Random) -> [u8; 8] 
         Fill::Kinds(from) => of_kind(half, from + number, random),
         Fill::Edges => std::array::from_fn(|_| EDGES[random.below(EDGES.len())]),
         Fill::EveryByte(from) => background(half, (from + number) / 4096, random),
+        Fill::InRange(new) if half == Half::Rgba1 => opaque(new != Some(number), number, random),
         Fill::InRange(new) if new == Some(number) => colour(2 + random.below(3), random),
         Fill::InRange(_) => colour(number % 2, random),
         Fill::Modes(from) => of_mode(half, from + number, random),
     }
+}
+
+// Each kind of RGBA1 in its turn, with the opaque bit so.
+fn opaque(set: bool, number: usize, random: &mut Random) -> [u8; 8] {
+    let mut block = colour(1 + number % 4, random);
+    block[3] = block[3] & !2 | (set as u8) << 1;
+    block
 }
 
 // What surrounds the byte that takes every value.
@@ -85,11 +93,7 @@ fn background(half: Half, which: usize, random: &mut Random) -> [u8; 8] {
 fn of_kind(half: Half, number: usize, random: &mut Random) -> [u8; 8] {
     match half {
         Half::Etc1 | Half::Rgb => colour(number % 5, random),
-        Half::Rgba1 => {
-            let mut block = colour(1 + number % 4, random);
-            block[3] = block[3] & !2 | (number / 4 % 2 * 2) as u8;
-            block
-        }
+        Half::Rgba1 => opaque(number / 4 % 2 == 1, number, random),
         Half::Alpha | Half::Eac => channel(number % 8, random),
     }
 }

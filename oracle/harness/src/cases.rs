@@ -5,7 +5,9 @@ use crate::blocks::{bytes, Fill, MODES};
 use crate::pitched;
 use crate::protocol::{Case, MOST_DATA, MOST_IMAGE};
 use crate::random::Random;
-use crate::readers::{block_size, has_channel, has_modes, is_block, is_eac, plain, room, PITCHED, RGBA1, STRICT};
+use crate::readers::{
+    block_size, has_channel, has_modes, is_block, is_eac, is_guarded, plain, room, OPAQUE, PITCHED, RGBA1, STRICT,
+};
 use crate::rules::blocks_across;
 
 #[derive(Clone, Copy)]
@@ -106,7 +108,7 @@ pub fn plan(reader: u32, seed: u64, blocks: usize) -> Vec<Shape> {
         plan.bulk(blocks);
         plan.modes(blocks / 8);
     }
-    if reader == STRICT {
+    if is_guarded(reader) {
         plan.single_byte_pictures();
         // Most pictures of other fills are refused, so there are more of those that pass.
         plan.in_range_pictures(blocks);
@@ -182,7 +184,7 @@ const PITCH_LARGE: [(u32, u32, u32); 9] = [
 /// All shapes for a reader that takes a pitch: every small size with every gap from none to five elements.
 pub fn pitched_plan(reader: u32, seed: u64, blocks: usize) -> Vec<Shape> {
     let mut plan = Plan::new(reader, seed ^ PITCHED as u64);
-    let fill = if reader == STRICT { Fill::InRange(None) } else { Fill::Random };
+    let fill = if is_guarded(reader) { Fill::InRange(None) } else { Fill::Random };
     for (size, gap) in small_sizes().flat_map(|size| (0..=5).map(move |gap| (size, gap))) {
         let (width, height) = size;
         plan.rows_with_gaps(width, height, width + gap, fill);
@@ -300,7 +302,7 @@ impl Plan {
         if is_eac(self.reader) {
             fills.push(Fill::CrateOrder);
         }
-        if self.reader == STRICT {
+        if is_guarded(self.reader) {
             fills.push(Fill::InRange(None));
             fills.push(Fill::InRange(Some(self.random.below(4))));
         }
@@ -378,7 +380,7 @@ impl Plan {
     }
 
     fn short_pictures(&mut self, width: u32, height: u32) {
-        let fill = if self.reader == STRICT { Fill::InRange(None) } else { Fill::Random };
+        let fill = if is_guarded(self.reader) { Fill::InRange(None) } else { Fill::Random };
         for (data, image) in [(-1, 0), (0, -1), (-1, -1), (-1, 7), (7, -1), (-8, 0), (0, -8)] {
             self.picture(width, height, data, image, fill);
         }
@@ -430,7 +432,7 @@ impl Plan {
 
     // Every mode of T and H once, in RGBA1 with the opaque bit clear and with it set.
     fn stored_modes(&mut self) {
-        let rounds = if self.reader == RGBA1 { 2 } else { 1 };
+        let rounds = if matches!(self.reader, RGBA1 | OPAQUE) { 2 } else { 1 };
         if has_modes(self.reader) {
             for round in 0..rounds {
                 self.picture(4 * MODES as u32, 4, 0, 0, Fill::Modes(round * MODES));
@@ -438,7 +440,7 @@ impl Plan {
         }
     }
 
-    // Of a larger picture strict ETC1 shows one block's verdict alone.
+    // Of a larger picture a reader with a guard shows one block's verdict alone.
     fn single_byte_pictures(&mut self) {
         for from in 0..4 * 4096 {
             self.picture(4, 4, 0, 1, Fill::EveryByte(from));

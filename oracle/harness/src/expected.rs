@@ -177,7 +177,7 @@ fn number_of(refusal: &str) -> u32 {
 fn crate_picture(case: &Case, image: &mut [u32]) -> Result<(), &'static str> {
     let decode = match case.reader {
         ETC1 => given::decode_etc1,
-        RGB | STRICT => given::decode_etc2_rgb,
+        RGB | STRICT | OPAQUE => given::decode_etc2_rgb,
         RGBA1 => given::decode_etc2_rgba1,
         RGBA8 => given::decode_etc2_rgba8,
         EACR => given::decode_eacr,

@@ -4,8 +4,8 @@
 
 use crate::expected::{expected as plain_expected, Expected};
 use crate::protocol::{Answer, Case};
-use crate::readers::{block_size, plain, STRICT};
-use crate::rules::{blocks, first_new, has_leftovers, LIMIT};
+use crate::readers::{block_size, plain};
+use crate::rules::{blocks, guarded, has_leftovers, LIMIT};
 
 /// The pitch stands where other readers have a channel.
 pub fn pitch(case: &Case) -> usize {
@@ -38,10 +38,7 @@ pub fn verdict(case: &Case) -> (u32, u32) {
     if case.image.len() < needed(width, height, pitch) {
         return (3, 0);
     }
-    if plain(case.reader) == STRICT {
-        return first_new(case);
-    }
-    (0, 0)
+    guarded(case)
 }
 
 /// The places of the pixels, row by row.

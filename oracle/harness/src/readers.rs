@@ -13,6 +13,8 @@ pub const STRICT: u32 = 8;
 pub const WIDE_EACR: u32 = 9;
 pub const WIDE_EACRG: u32 = 11;
 pub const WIDE_EACRG_SIGNED: u32 = 12;
+/// RGBA1 for an opaque-only viewer.
+pub const OPAQUE: u32 = 13;
 
 pub const BLOCK_ETC1: u32 = 16;
 pub const BLOCK_RGB: u32 = 17;
@@ -33,10 +35,9 @@ pub const CENSUS_RGBA1: u32 = 33;
 /// A picture reader that takes a pitch has its twin's number and so many more.
 pub const PITCHED: u32 = 40;
 
-pub const PICTURES: std::ops::RangeInclusive<u32> = ETC1..=STRICT;
+pub const PICTURES: [u32; 10] = [ETC1, RGB, RGBA1, RGBA8, EACR, EACR_SIGNED, EACRG, EACRG_SIGNED, STRICT, OPAQUE];
 pub const BLOCKS: std::ops::RangeInclusive<u32> = BLOCK_ETC1..=BLOCK_EACRG_SIGNED;
 pub const CENSUSES: std::ops::RangeInclusive<u32> = CENSUS_RGB..=CENSUS_RGBA1;
-pub const PITCHED_PICTURES: std::ops::RangeInclusive<u32> = PITCHED + ETC1..=PITCHED + STRICT;
 
 pub fn name(reader: u32) -> &'static str {
     match plain(reader) {
@@ -50,6 +51,7 @@ pub fn name(reader: u32) -> &'static str {
         EACRG_SIGNED => "eacrg_signed",
         STRICT => "strict etc1",
         WIDE_EACR..=WIDE_EACRG_SIGNED => "eac of eleven bits",
+        OPAQUE => "etc2_rgba1_opaque",
         BLOCK_ETC1 => "etc1_block",
         BLOCK_RGB => "etc2_rgb_block",
         BLOCK_RGBA1 => "etc2_rgba1_block",
@@ -72,7 +74,7 @@ pub fn is_block(reader: u32) -> bool {
 }
 
 pub fn is_pitched(reader: u32) -> bool {
-    PITCHED_PICTURES.contains(&reader)
+    PICTURES.iter().any(|&picture| reader == PITCHED + picture)
 }
 
 /// The twin of a reader that takes a pitch, and any other as it is.
@@ -133,7 +135,7 @@ pub fn half(reader: u32, second: bool) -> Half {
     match reader {
         ETC1 | STRICT | BLOCK_ETC1 => Half::Etc1,
         RGB | BLOCK_RGB | CENSUS_RGB => Half::Rgb,
-        RGBA1 | BLOCK_RGBA1 | CENSUS_RGBA1 => Half::Rgba1,
+        RGBA1 | OPAQUE | BLOCK_RGBA1 | CENSUS_RGBA1 => Half::Rgba1,
         RGBA8 | BLOCK_RGBA8 if second => Half::Rgb,
         RGBA8 | BLOCK_RGBA8 | BLOCK_A8 => Half::Alpha,
         _ => Half::Eac,
@@ -142,7 +144,12 @@ pub fn half(reader: u32, second: bool) -> Half {
 
 /// The readers of pictures that read T and H blocks as such.
 pub fn has_modes(reader: u32) -> bool {
-    matches!(reader, RGB | RGBA1 | RGBA8)
+    matches!(reader, RGB | RGBA1 | RGBA8 | OPAQUE)
+}
+
+/// The readers that refuse a picture for one of its blocks.
+pub fn is_guarded(reader: u32) -> bool {
+    matches!(plain(reader), STRICT | OPAQUE)
 }
 
 pub fn is_signed(reader: u32) -> bool {

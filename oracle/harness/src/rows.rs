@@ -48,7 +48,7 @@ fn of_kinds(kinds: &[usize], random: &mut Random) -> Vec<Block> {
 
 // Each group has numbers of its own, so that a change in one leaves the others as they are.
 fn rows(seed: u64) -> Vec<Row> {
-    let groups = [glance, single, etc1, etc2, alphas, channels, places, strict];
+    let groups = [glance, single, etc1, etc2, alphas, channels, places, strict, opaque];
     let random = |group: usize| Random::new(seed << 8 | group as u64);
     groups.into_iter().enumerate().flat_map(|(at, group)| group(&mut random(at))).collect()
 }
@@ -240,6 +240,26 @@ fn strict(random: &mut Random) -> Vec<Row> {
     ]
 }
 
+fn opaque(random: &mut Random) -> Vec<Row> {
+    let (eight, four) = (of_kinds(&[1, 2, 3, 4, 4, 3, 2, 1], random), of_kinds(&[4, 1, 2, 3], random));
+    let (first, last) = (with_clear(&four, &[1, 3]), with_clear(&four, &[3]));
+    let planar = with_clear(&of_kinds(&[1, 4, 2], random), &[1]);
+    vec![
+        picture("opaque: every kind twice", OPAQUE, (32, 2), &eight),
+        picture("opaque: the first of two", OPAQUE, (16, 4), &first),
+        picture("opaque: the last of the picture", OPAQUE, (8, 5), &last),
+        picture("opaque: only a planar block is clear", OPAQUE, (12, 4), &planar),
+        picture("opaque: a clear block behind the picture", OPAQUE, (9, 2), &last),
+    ]
+}
+
+// The blocks, of which those that are named have their opaque bit clear.
+fn with_clear(blocks: &[Block], clear: &[usize]) -> Vec<Block> {
+    let mut blocks = blocks.to_vec();
+    clear.iter().for_each(|&number| blocks[number][3] &= !2);
+    blocks
+}
+
 pub fn write(options: &crate::Options) -> Result<bool> {
     let rows = rows(options.seed);
     let pairs: Vec<Pair> =
@@ -294,7 +314,7 @@ fn line(case: &Case, due: &Answer) -> String {
     let (width, height) = (case.width, case.height);
     if due.number != 0 {
         let said = match verdict(case) {
-            (4, block) => format!("4 ∷ {block} ∷ []"),
+            (number @ (4 | 11), block) => format!("{number} ∷ {block} ∷ []"),
             (number, _) => format!("{number} ∷ []"),
         };
         let elements = case.image.len();
@@ -336,6 +356,7 @@ fn antt_reader(case: &Case) -> String {
     let format = ["Etc1", "Etc2Rgb", "Etc2Rgba1", "Etc2Rgba8", "EacR", "EacRSigned", "EacRg", "EacRgSigned"];
     match case.reader {
         STRICT => "strict".to_string(),
+        OPAQUE => "opaque".to_string(),
         BLOCK_A8 => "alphaHalf".to_string(),
         BLOCK_EAC => format!("channel false {}", case.channel),
         BLOCK_EAC_SIGNED => format!("channel true {}", case.channel),

@@ -1,8 +1,8 @@
-//! Document 01's table of refusals, and the test behind strict ETC1. Cases that it
+//! Document 01's table of refusals, and the tests behind strict ETC1 and the opaque-only viewer. Cases that it
 //! refuses never reach the crate, which has no such checks or has fewer of them.
 
 use crate::protocol::Case;
-use crate::readers::{block_size, has_channel, is_block, plain, room, STRICT};
+use crate::readers::{block_size, has_channel, is_block, plain, room, OPAQUE, STRICT};
 
 pub const LIMIT: u32 = 65_536;
 
@@ -52,10 +52,7 @@ fn picture_verdict(case: &Case) -> (u32, u32) {
     if case.image.len() < room(case.reader, case.width, case.height) {
         return (3, 0);
     }
-    if case.reader == STRICT {
-        return first_new(case);
-    }
-    (0, 0)
+    guarded(case)
 }
 
 /// Check 6, of strict ETC1 alone: "more bytes than the blocks need" (M-107).
@@ -63,10 +60,18 @@ pub fn has_leftovers(case: &Case) -> bool {
     plain(case.reader) == STRICT && case.data.len() > blocks(case) * block_size(case.reader)
 }
 
-/// Check 4: the first block that an ETC1 reader must not read.
-pub fn first_new(case: &Case) -> (u32, u32) {
-    let new = case.data.chunks_exact(8).take(blocks(case)).position(is_new);
-    new.map_or((0, 0), |block| (4, block as u32))
+/// Checks 4 and 11: the first block that an ETC1 reader must not read, and that an opaque-only viewer must not (M-109).
+pub fn guarded(case: &Case) -> (u32, u32) {
+    match plain(case.reader) {
+        STRICT => first(case, 4, is_new),
+        OPAQUE => first(case, 11, is_clear),
+        _ => (0, 0),
+    }
+}
+
+fn first(case: &Case, number: u32, is_bad: fn(&[u8]) -> bool) -> (u32, u32) {
+    let bad = case.data.chunks_exact(8).take(blocks(case)).position(is_bad);
+    bad.map_or((0, 0), |block| (number, block as u32))
 }
 
 /// A five-bit base plus its signed step that lies outside 0 to 31.
@@ -79,4 +84,9 @@ pub fn is_outside(byte: u8) -> bool {
 /// A block that an ETC1 reader must not read by the ETC1 rule.
 pub fn is_new(block: &[u8]) -> bool {
     block[3] & 2 != 0 && block[..3].iter().any(|&byte| is_outside(byte))
+}
+
+/// A block of RGBA1 whose opaque bit is clear.
+pub fn is_clear(block: &[u8]) -> bool {
+    block[3] & 2 == 0
 }

@@ -10,23 +10,23 @@ use borrow.Author.Needs.{needs}
 use Rattle.scan.proofs.picture.Statement.{statement}
 use Rattle.scan.proofs.picture.Tie as tie
 
-is-colour-requires : tie.Need-is-colour-requires
-is-colour-requires c κs = search needs
+is-asked-requires : tie.Need-is-asked-requires
+is-asked-requires c κs = search needs
 
 refused-requires : tie.Need-refused-requires
 refused-requires c κs = search needs
 
 returns : tie.Need-returns
 returns c =
-    not-asked _ 27 _ (c .refused .ensures) (λ z. omega (arith, z)) (λ z. omega (arith, z)) (λ z. omega (arith, z))
-    (λ f w h. true≢false (sym f ∙ sym (c .before .before .is-colour .ensures) ∙ not-true (c .before .before .is-colour .result) (c .before .if1 .taken)))
+    not-asked _ 27 _ (c .refused .ensures) (λ z. omega (arith, z)) (λ z. omega (arith, z)) (λ z. omega (arith, z)) (λ z. omega (arith, z))
+    (λ f w h. true≢false (sym f ∙ sym (c .before .before .is-asked .ensures) ∙ not-true (c .before .before .is-asked .result) (c .before .if1 .taken)))
 
 refused-requires-2 : tie.Need-refused-requires-2
 refused-requires-2 c κs = search needs
 
 returns-2 : tie.Need-returns-2
 returns-2 c =
-    not-asked _ 1 _ (c .refused2 .ensures) (λ z. omega (arith, z)) (λ z. omega (arith, z)) (λ z. omega (arith, z))
+    not-asked _ 1 _ (c .refused2 .ensures) (λ z. omega (arith, z)) (λ z. omega (arith, z)) (λ z. omega (arith, z)) (λ z. omega (arith, z))
     (λ f w h. omega (arith, w, c .before .if2 .taken))
 
 refused-requires-3 : tie.Need-refused-requires-3
@@ -34,14 +34,22 @@ refused-requires-3 c κs = search needs
 
 returns-3 : tie.Need-returns-3
 returns-3 c =
-    not-asked _ 1 _ (c .refused3 .ensures) (λ z. omega (arith, z)) (λ z. omega (arith, z)) (λ z. omega (arith, z))
+    not-asked _ 1 _ (c .refused3 .ensures) (λ z. omega (arith, z)) (λ z. omega (arith, z)) (λ z. omega (arith, z)) (λ z. omega (arith, z))
     (λ f w h. omega (arith, h, c .before .if3 .taken))
+
+viewer-of-requires : tie.Need-viewer-of-requires
+viewer-of-requires c κs = search needs
+
+left-over-requires : tie.Need-left-over-requires
+left-over-requires c κs = search needs
 
 refused-requires-4 : tie.Need-refused-requires-4
 refused-requires-4 c κs = search needs
 
 returns-4 : tie.Need-returns-4
-returns-4 c = left-over _ _ (c .refused4 .ensures) (c .before .if4 .taken)
+returns-4 c =
+    let l = c .before .before in
+    left-over _ _ _ (c .refused4 .ensures) (l .before .viewer-of .ensures) (sym (l .left-over .ensures) ∙ c .before .if4 .taken)
 
 scan-rows-requires : tie.Need-scan-rows-requires
 scan-rows-requires c κs = search needs
@@ -55,19 +63,22 @@ number-requires c κs = search needs
 returns-5 : tie.Need-returns-5
 returns-5 c =
     let a = c .before .before in
-    spoken _ _ _ (c .number .ensures) (omega (arith, a .before .if4 .left)) (a .scan-rows .ensures)
+    let l = a .before .before in
+    spoken _ _ _ _ (l .before .viewer-of .ensures) (c .number .ensures) (sym (l .left-over .ensures) ∙ a .before .if4 .left) (a .scan-rows .ensures)
 
 pub picture-spec : {M : Type 1} → statement M
 picture-spec =
     tie.close
     (tie.spec
-    is-colour-requires
+    is-asked-requires
     refused-requires
     returns
     refused-requires-2
     returns-2
     refused-requires-3
     returns-3
+    viewer-of-requires
+    left-over-requires
     refused-requires-4
     returns-4
     scan-rows-requires

@@ -1,5 +1,5 @@
--- `scan::scan_rows` meets its contract: whenever the loop's test is reached, a strict reader has nothing to say of the rows that
--- were read.
+-- `scan::scan_rows` meets its contract: whenever the loop's test is reached, the viewer's reader has nothing to say of the rows
+-- that were read.
 -- Assumes nothing.
 use Prim.Native.Nat.{_-_, _≤_}
 use native.Mathlib.Omega.{arith}
@@ -11,10 +11,10 @@ use Rattle.scan.proofs.scan_rows.Statement.{statement}
 use Rattle.scan.proofs.scan_rows.Tie as tie
 
 abbrev Inv-loop : tie.InvT-loop
-Inv-loop fd width height n rows bytes₀ j₀ bytes j = (0x10000 ≤ length bytes) × (j ≤ rows) × Clear n j
+Inv-loop viewer fd width height n rows bytes₀ j₀ bytes j = (0x10000 ≤ length bytes) × (j ≤ rows) × Clear viewer n j
 
 abbrev μ-loop : tie.MeasureT-loop
-μ-loop fd width height n rows bytes₀ j₀ bytes j = rows - j
+μ-loop viewer fd width height n rows bytes₀ j₀ bytes j = rows - j
 
 across-requires : tie.Need-across-requires Inv-loop μ-loop
 across-requires c κs = search needs
@@ -29,7 +29,7 @@ slice-aggregate-bytes : tie.Need-slice-aggregate-bytes Inv-loop μ-loop
 slice-aggregate-bytes c = search needs
 
 loop-holds : tie.Need-loop-holds Inv-loop μ-loop
-loop-holds c = (search needs, search needs, begin _)
+loop-holds c = (search needs, search needs, begin _ _)
 
 scan-row-requires : tie.Need-scan-row-requires Inv-loop μ-loop
 scan-row-requires c κs = search needs
@@ -49,7 +49,7 @@ returns c =
     let k = c .before .before in
     let l = loop k in
     let a = l .before .before .before in
-    stops _ _ _ _ (omega (arith, a .before .across .ensures, l .loop .inv .0)) (l .loop .inv .2) _ _ (a .before .across .ensures .0)
+    stops _ _ _ _ _ (omega (arith, a .before .across .ensures, l .loop .inv .0)) (l .loop .inv .2) _ _ (a .before .across .ensures .0)
     (omega (arith, a .across2 .ensures .0, scan k .before .before .loop-test .taken)) (scan k .scan-row .ensures)
     (refusal (scan k .scan-row .result) (c .before .match .keys2))
 
@@ -64,13 +64,13 @@ loop-again c =
     let k = c .before .before in
     let l = loop k in
     let a = l .before .before .before in
-    (search needs, search needs, further _ _ _ _ (omega (arith, a .before .across .ensures, l .loop .inv .0)) (l .loop .inv .2) (scan k .scan-row .ensures) (c .enum-told .given .1))
+    (search needs, search needs, further _ _ _ _ _ (omega (arith, a .before .across .ensures, l .loop .inv .0)) (l .loop .inv .2) (scan k .scan-row .ensures) (c .enum-told .given .1))
 
 returns-2 : tie.Need-returns-2 Inv-loop μ-loop
 returns-2 c =
     let l = c .before .before in
     let a = l .before .before .before in
-    ends _ _ _ _ (a .before .across .ensures .0) (omega (arith, a .across2 .ensures .0, c .before .loop-test .left, l .loop .inv .1)) (l .loop .inv .2)
+    ends _ _ _ _ _ (a .before .across .ensures .0) (omega (arith, a .across2 .ensures .0, c .before .loop-test .left, l .loop .inv .1)) (l .loop .inv .2)
 
 pub scan-rows-spec : {M : Type 1} → statement M
 scan-rows-spec =

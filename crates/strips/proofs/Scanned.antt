@@ -1,4 +1,4 @@
--- Strict ETC1, row by row: what is said after a row that was read, where nothing was said before it, is what is to be said of
+-- A guard, row by row: what is said after a row that was read, where nothing was said before it, is what is to be said of
 -- all blocks that were read; and a refusal stands, whatever comes after.
 -- Assumes nothing.
 use mathlib.Core.Path.{_≡_, _∙_, sym, ap}
@@ -9,32 +9,20 @@ use native.Mathlib.Omega.{arith}
 use native.Mathlib.Decide.{decLt}
 use native.Mathlib.Nat.{mul-assoc}
 use borrow.Author.Tests.{lt-ltb, le-ltb}
-use lib.ListN.{length, getD}
+use lib.ListN.{length}
 use Rattle.rules.specs.Places.{bytesOf}
 use Rattle.rules.specs.Answers.{firstOf, guarded, accepts}
-use Rattle.rules.specs.Colour.{outOfRange}
+use Rattle.rules.specs.Guards.{Guard}
 use Rattle.laws.proofs.First.{first, only}
+use Rattle.laws.proofs.Guards.{none-bad}
 use Rattle.strips.specs.Rows.{scanned, firstIn, scannedRow}
 use Rattle.strips.proofs.Bytes as bytes
 use Rattle.strips.proofs.Whole.{block}
 
 -- ---- the first place, of any test
 
-zero-four : _≡_ {A = ℕ} 0 4 → ⊥
-zero-four q = omega (arith, q)
-
 module _ (test : ℕ → Bool) where
-  -- where nothing is refused, the test holds nowhere
-  clear : (n : ℕ) → guarded 4 test n ≡ 0 ∷ [] → (k : ℕ) → k < n → test k ≡ false
-  clear n e k h =
-      elim (decLt (firstOf test n) n) [
-        | yes i ↦
-            let g : guarded 4 test n ≡ 4 ∷ firstOf test n ∷ [] = rw (lt-ltb (firstOf test n) n i) in
-            absurd (zero-four (ap (λ (l : List ℕ). getD l 0 0) (sym e ∙ g)))
-        | no i ↦ first test n .none k (omega (arith, i))
-      ]
-
-  -- and the first place of all lies among the places after
+  -- where the test holds at none of the places before, the first of all lies among those after
   later : (a n : ℕ) → ((k : ℕ) → k < a → test k ≡ false) → firstOf test (a + n) ≡ a + firstOf (λ i. test (a + i)) n
   later a n none =
       let f = first (λ i. test (a + i)) n in
@@ -53,8 +41,8 @@ module _ (test : ℕ → Bool) where
       })
 
   -- a refusal stands, however many places follow
-  pub settled : (a b : ℕ) → a ≤ b → accepts (guarded 4 test a) ≡ false → guarded 4 test a ≡ guarded 4 test b
-  settled a b h r =
+  pub settled : (number a b : ℕ) → a ≤ b → accepts (guarded number test a) ≡ false → guarded number test a ≡ guarded number test b
+  settled number a b h r =
       elim (decLt (firstOf test a) a) [
         | yes i ↦
             let f = first test a in
@@ -63,9 +51,9 @@ module _ (test : ℕ → Bool) where
             (record { within = omega arith; found = λ q. f .found i; none = f .none })
             (first test b) in
             rw (lt-ltb (firstOf test a) a i)
-            (ap (λ (z : ℕ). 4 ∷ z ∷ []) e ∙ sym (rw (lt-ltb (firstOf test b) b (omega arith))))
+            (ap (λ (z : ℕ). number ∷ z ∷ []) e ∙ sym (rw (lt-ltb (firstOf test b) b (omega arith))))
         | no i ↦
-            let g : guarded 4 test a ≡ 0 ∷ [] = rw (le-ltb (firstOf test a) a (omega (arith, i))) in
+            let g : guarded number test a ≡ 0 ∷ [] = rw (le-ltb (firstOf test a) a (omega (arith, i))) in
             absurd (true≢false (sym (ap accepts g) ∙ r))
       ]
 
@@ -82,30 +70,30 @@ alike test other n h =
 
 -- ---- rows of n blocks, read one after another
 
-module _ (n j : ℕ) (d row : List ℕ) (before : length d ≡ j * (n * 8)) (long : length row ≡ n * 8) where
+module _ (g : Guard) (is-refusal : 0 < g .number) (n j : ℕ) (d row : List ℕ) (before : length d ≡ j * (n * 8)) (long : length row ≡ n * 8) where
   abbrev test : ℕ → Bool
-  test i = outOfRange (bytesOf 8 (d ++ row) i)
+  test i = g .bad (bytesOf 8 (d ++ row) i)
 
-  place : scanned d (j * n) ≡ 0 ∷ [] → firstOf test (j * n + n) ≡ j * n + firstIn n row
+  place : scanned g d (j * n) ≡ 0 ∷ [] → firstOf test (j * n + n) ≡ j * n + firstIn g n row
   place e =
       let l : j * n * 8 ≤ length d = omega (arith, mul-assoc j n 8) in
       later test (j * n) n
-      (λ k h. ap outOfRange (bytes.kept 8 k (j * n) d row h l) ∙ clear (λ i. outOfRange (bytesOf 8 d i)) (j * n) e k h)
+      (λ k h. ap (g .bad) (bytes.kept 8 k (j * n) d row h l) ∙ none-bad (g .number) (λ i. g .bad (bytesOf 8 d i)) (j * n) is-refusal e k h)
       ∙ ap (λ (z : ℕ). j * n + z)
-      (alike (λ i. test (j * n + i)) (λ i. outOfRange (bytesOf 8 row i)) n
+      (alike (λ i. test (j * n + i)) (λ i. g .bad (bytesOf 8 row i)) n
       (λ i h.
-      ap outOfRange
+      ap (g .bad)
       (sym (block n 8 i j (d ++ row) h) ∙ ap (λ (l : List ℕ). bytesOf 8 l i) (bytes.read (n * 8) j d row before long))))
 
   -- what is said after a row is what is to be said of all blocks so far
-  pub after-row : scanned d (j * n) ≡ 0 ∷ [] → scannedRow n j row ≡ scanned (d ++ row) (j * n + n)
+  pub after-row : scanned g d (j * n) ≡ 0 ∷ [] → scannedRow g n j row ≡ scanned g (d ++ row) (j * n + n)
   unfolding scannedRow
   after-row e =
-      elim (decLt (firstIn n row) n) [
+      elim (decLt (firstIn g n row) n) [
         | yes h ↦
-            rw (lt-ltb (firstIn n row) n h)
-            (ap (λ (z : ℕ). 4 ∷ z ∷ []) (sym (place e)) ∙ sym (rw (lt-ltb (firstOf test (j * n + n)) (j * n + n) (omega (arith, place e)))))
+            rw (lt-ltb (firstIn g n row) n h)
+            (ap (λ (z : ℕ). g .number ∷ z ∷ []) (sym (place e)) ∙ sym (rw (lt-ltb (firstOf test (j * n + n)) (j * n + n) (omega (arith, place e)))))
         | no h ↦
-            rw (le-ltb (firstIn n row) n (omega (arith, h)))
+            rw (le-ltb (firstIn g n row) n (omega (arith, h)))
             (sym (rw (le-ltb (firstOf test (j * n + n)) (j * n + n) (omega (arith, h, place e)))))
       ]
