@@ -10,7 +10,7 @@ use rules::Sheet;
 ghost use mathlib.Core.Path.{_≡_};
 ghost use mathlib.Core.Bool.{true, false};
 ghost use Rattle.rules.specs.Places.{sized, pitched};
-ghost use Rattle.rules.specs.Readers.{ReadsPicture, ReadsStrict, ReadsBlock, ReadsAlpha, ReadsChannel};
+ghost use Rattle.rules.specs.Readers.{ReadsPicture, ReadsStrict, ReadsBlock, ReadsAlpha, ReadsChannel, ReplacesChannel};
 ghost use Rattle.rules.specs.Census.{rgbTests, rgba1Tests};
 ghost use Rattle.rules.specs.Sheets.{ReadsSheet};
 ghost use Rattle.capi.specs.Census.{CountsInto};
@@ -304,6 +304,114 @@ pub extern "C" fn yalivucu_decode_eacrg_signed_pitched(
     etc::number(etc::decode_eacrg_signed_pitched(data, pic, image))
 }
 
+// Reads a BC1 picture without alpha.
+#[no_mangle]
+pub extern "C" fn yalivucu_decode_bc1(
+    data: &[u8],
+    width: usize,
+    height: usize,
+    image: &mut [u32],
+) -> u32
+    ensures { λ r. ⌜ Told
+        (λ a. ReadsPicture Format.Bc1 (now («data» .entry)) (sized width height) (now (image .entry)) a (now (image .exit)))
+        r ⌝ }
+{
+    etc::number(etc::decode_bc1(data, width, height, image))
+}
+
+// The same of a picture with a pitch.
+#[no_mangle]
+pub extern "C" fn yalivucu_decode_bc1_pitched(
+    data: &[u8],
+    width: usize,
+    height: usize,
+    pitch: usize,
+    image: &mut [u32],
+) -> u32
+    ensures { λ r. ⌜ Told
+        (λ a. ReadsPicture Format.Bc1 (now («data» .entry)) (pitched width height pitch) (now (image .entry)) a (now (image .exit)))
+        r ⌝ }
+{
+    let pic = Picture {
+        width: width,
+        height: height,
+        pitch: pitch,
+    };
+    etc::number(etc::decode_bc1_pitched(data, pic, image))
+}
+
+// Reads a BC1 picture with one bit of alpha.
+#[no_mangle]
+pub extern "C" fn yalivucu_decode_bc1a(
+    data: &[u8],
+    width: usize,
+    height: usize,
+    image: &mut [u32],
+) -> u32
+    ensures { λ r. ⌜ Told
+        (λ a. ReadsPicture Format.Bc1Alpha (now («data» .entry)) (sized width height) (now (image .entry)) a (now (image .exit)))
+        r ⌝ }
+{
+    etc::number(etc::decode_bc1a(data, width, height, image))
+}
+
+// The same of a picture with a pitch.
+#[no_mangle]
+pub extern "C" fn yalivucu_decode_bc1a_pitched(
+    data: &[u8],
+    width: usize,
+    height: usize,
+    pitch: usize,
+    image: &mut [u32],
+) -> u32
+    ensures { λ r. ⌜ Told
+        (λ a. ReadsPicture Format.Bc1Alpha (now («data» .entry)) (pitched width height pitch) (now (image .entry)) a (now (image .exit)))
+        r ⌝ }
+{
+    let pic = Picture {
+        width: width,
+        height: height,
+        pitch: pitch,
+    };
+    etc::number(etc::decode_bc1a_pitched(data, pic, image))
+}
+
+// Reads a BC3 picture.
+#[no_mangle]
+pub extern "C" fn yalivucu_decode_bc3(
+    data: &[u8],
+    width: usize,
+    height: usize,
+    image: &mut [u32],
+) -> u32
+    ensures { λ r. ⌜ Told
+        (λ a. ReadsPicture Format.Bc3 (now («data» .entry)) (sized width height) (now (image .entry)) a (now (image .exit)))
+        r ⌝ }
+{
+    etc::number(etc::decode_bc3(data, width, height, image))
+}
+
+// The same of a picture with a pitch.
+#[no_mangle]
+pub extern "C" fn yalivucu_decode_bc3_pitched(
+    data: &[u8],
+    width: usize,
+    height: usize,
+    pitch: usize,
+    image: &mut [u32],
+) -> u32
+    ensures { λ r. ⌜ Told
+        (λ a. ReadsPicture Format.Bc3 (now («data» .entry)) (pitched width height pitch) (now (image .entry)) a (now (image .exit)))
+        r ⌝ }
+{
+    let pic = Picture {
+        width: width,
+        height: height,
+        pitch: pitch,
+    };
+    etc::number(etc::decode_bc3_pitched(data, pic, image))
+}
+
 // The strict reader of a picture with any pitch: the block that an answer names is written, and any other answer writes none.
 fn strict(data: &[u8], pic: Picture, image: &mut [u32], block: &mut usize) -> u32
     ensures { λ r. ⌜ Told
@@ -429,6 +537,30 @@ pub extern "C" fn yalivucu_decode_eacrg_signed_block(data: &[u8], out: &mut [u32
     etc::number(etc::decode_eacrg_signed_block(data, out))
 }
 
+// Reads a BC1 block of 8 bytes without alpha into the elements 0 to 15.
+#[no_mangle]
+pub extern "C" fn yalivucu_decode_bc1_block(data: &[u8], out: &mut [u32]) -> u32
+    ensures { λ r. ⌜ Told (λ a. ReadsBlock Format.Bc1 (now («data» .entry)) (now (out .entry)) a (now (out .exit))) r ⌝ }
+{
+    etc::number(etc::decode_bc1_block(data, out))
+}
+
+// Reads a BC1 block of 8 bytes with one bit of alpha into the elements 0 to 15.
+#[no_mangle]
+pub extern "C" fn yalivucu_decode_bc1a_block(data: &[u8], out: &mut [u32]) -> u32
+    ensures { λ r. ⌜ Told (λ a. ReadsBlock Format.Bc1Alpha (now («data» .entry)) (now (out .entry)) a (now (out .exit))) r ⌝ }
+{
+    etc::number(etc::decode_bc1a_block(data, out))
+}
+
+// Reads a BC3 block of 16 bytes into the elements 0 to 15.
+#[no_mangle]
+pub extern "C" fn yalivucu_decode_bc3_block(data: &[u8], out: &mut [u32]) -> u32
+    ensures { λ r. ⌜ Told (λ a. ReadsBlock Format.Bc3 (now («data» .entry)) (now (out .entry)) a (now (out .exit))) r ⌝ }
+{
+    etc::number(etc::decode_bc3_block(data, out))
+}
+
 // Reads an alpha half of 8 bytes into the top bytes of the elements 0 to 15, and keeps the rest of them.
 #[no_mangle]
 pub extern "C" fn yalivucu_decode_etc2_a8_block(data: &[u8], out: &mut [u32]) -> u32
@@ -455,6 +587,15 @@ pub extern "C" fn yalivucu_decode_eac_signed_block(
     ensures { λ r. ⌜ Told (λ a. ReadsChannel true (now («data» .entry)) channel (now (out .entry)) a (now (out .exit))) r ⌝ }
 {
     etc::number(etc::decode_eac_signed_block(data, channel, out))
+}
+
+// Reads the alpha half of a BC3 block, 8 bytes, into channel 0 blue, 1 green, 2 red or 3 alpha of the elements 0 to 15, in place of the
+// byte that stood there.
+#[no_mangle]
+pub extern "C" fn yalivucu_decode_bc3_alpha(data: &[u8], channel: usize, out: &mut [u32]) -> u32
+    ensures { λ r. ⌜ Told (λ a. ReplacesChannel (now («data» .entry)) channel (now (out .entry)) a (now (out .exit))) r ⌝ }
+{
+    etc::number(etc::decode_bc3_alpha(data, channel, out))
 }
 
 // Counts the blocks of each kind of an ETC2 RGB picture: individual, differential, T, H, planar.

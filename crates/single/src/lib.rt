@@ -44,9 +44,30 @@ pub fn read_alpha(data: &[u8], image: &mut [u32]) -> Answer
     Answer::Done
 }
 
+// What a single channel is read from.
+pub enum Joined {
+    // a byte of EAC, joined by OR
+    Eac,
+    EacSigned,
+    // the alpha half of BC3, in place of what stood there
+    Bc3Alpha,
+}
+
+// The pixels with the byte of each joined to one channel.
+fn onto(j: Joined, d: &[u8], channel: usize, px: [u32; 16]) -> [u32; 16]
+    requires { ⌜ (8 ≤ length (now d)) × (channel < 4) ⌝ }
+    ensures { λ r. ⌜ r ≡ build 16 (λ k. joinOf j channel (getD px k 0) (byteOf j (now (d .entry)) (k % 4) (k / 4))) ⌝ }
+{
+    match j {
+        Joined::Eac => eac::eac_onto(d, false, channel, px),
+        Joined::EacSigned => eac::eac_onto(d, true, channel, px),
+        Joined::Bc3Alpha => bc3::alpha_onto(d, channel, px),
+    }
+}
+
 // Reads a single channel, 0 blue, 1 green, 2 red or 3 alpha, onto what stood there.
-pub fn read_channel(signed: bool, data: &[u8], channel: usize, image: &mut [u32]) -> Answer
-    ensures { λ r. ⌜ ReadsChannel signed (now («data» .entry)) channel (now (image .entry)) r (now (image .exit)) ⌝ }
+pub fn read_channel(j: Joined, data: &[u8], channel: usize, image: &mut [u32]) -> Answer
+    ensures { λ r. ⌜ JoinsChannel (joinOf j) (byteOf j) (now («data» .entry)) channel (now (image .entry)) r (now (image .exit)) ⌝ }
 {
     if 3 < channel {
         return Answer::NoChannel;
@@ -56,6 +77,6 @@ pub fn read_channel(signed: bool, data: &[u8], channel: usize, image: &mut [u32]
         return answer;
     };
     let stood = place::first_sixteen(image);
-    place::place_block(eac::eac_onto(data, signed, channel, stood), image);
+    place::place_block(onto(j, data, channel, stood), image);
     Answer::Done
 }
