@@ -1,13 +1,13 @@
 -- The pixels of a BC3 block: what a turn reads of its alphas, and what the two picks of a turn make.
 -- Assumes nothing.
-use mathlib.Core.Path.{_≡_, _∙_, sym, ap}
+use mathlib.Core.Path.{_≡_, _∙_, sym, ap, subst}
 use mathlib.Core.Bool.{true, false}
 use mathlib.Core.List.{List, [], _∷_}
-use Prim.Native.Nat.{ℕ, _+_, _*_, _/_, _%_, _^_, _<_}
+use Prim.Native.Nat.{ℕ, zero, suc, _+_, _*_, _/_, _%_, _^_, _<_, _≤_}
 use native.Mathlib.Omega.{arith}
 use lib.ListN.{getD, drop}
 use lib.Pow.{shr-shr}
-use Rattle.rules.specs.Notation.{build}
+use Rattle.rules.specs.Notation.{from, build}
 use Rattle.rules.specs.Places.{tile}
 use Rattle.rules.specs.Desktop.{halfWord, paletteIn, colourIndex, alphasIn, alphaIndexIn, bc1Pixel, bc3Alpha, bc3Pixel, replaced}
 use Rattle.laws.proofs.Between.{alphas-small}
@@ -38,6 +38,15 @@ alpha-at d set w l k s e f =
     ∙ ap (λ (v : ℕ). getD (alphasIn v) (alphaIndexIn v k) 0) e
     ∙ alpha-of d k
 
+-- a list of numbers that are at most m, and 0 past its end
+from-le : (f : ℕ → ℕ) (m : ℕ) → ((k : ℕ) → f k ≤ m) → (i n k : ℕ) → getD (from f i n) k 0 ≤ m
+from-le f m h i zero k = omega arith
+from-le f m h i (suc n) zero = h i
+from-le f m h i (suc n) (suc k) = from-le f m h (suc i) n k
+
+pub at-most : (f : ℕ → ℕ) (m n : ℕ) (l : List ℕ) → l ≡ build n f → ((k : ℕ) → f k ≤ m) → (k : ℕ) → getD l k 0 ≤ m
+at-most f m n l e h k = subst (λ (b : List ℕ). getD b k 0 ≤ m) (sym e) (from-le f m h 0 n k)
+
 -- a top byte and a colour without one make the colour with its top byte replaced
 join : (p b : ℕ) → Word p → b < 256 → b * 0x1000000 + p % 0x1000000 ≡ replaced 3 p b
 join p b h k = omega arith
@@ -59,7 +68,6 @@ shown d a w tops hues ea ew et eh =
         ∙ getD-build (λ (i : ℕ). getD (paletteIn true false w) i 0 % 0x1000000) 0 4 (colourIndex w k) (omega arith)
 
     pixel : (k : ℕ) → getD tops (alphaIndexIn a k) 0 + getD hues (colourIndex w k) 0 ≡ bc3Pixel d (k % 4) (k / 4)
-    unfolding bc3Pixel bc1Pixel
     pixel k =
         rw (top k, hue k)
         (join (getD (paletteIn true false w) (colourIndex w k) 0) (getD (alphasIn a) (alphaIndexIn a k) 0)
