@@ -63,7 +63,7 @@ build_harness() { # FOLDER OF THE CRATE
     cp "$top/oracle/harness/Cargo.toml" "$build/"
     cp -R "$top/oracle/harness/src" "$build/src"
     cp "$top/oracle/harness/given/lib.rs" "$build/given/"
-    for part in color.rs macros.rs etc.rs etc; do
+    for part in color.rs macros.rs etc.rs etc bcn; do
         ln -s "$files/$part" "$build/given/$part"
     done
     registry=$(dpkg -L librust-paste-dev | grep '/registry$')
@@ -73,8 +73,11 @@ build_harness() { # FOLDER OF THE CRATE
     harness=$build/target/release/oracle
 }
 
-# Builds the two programs that make Mesa and Android's libETC1 speak the protocol.
+# Builds the programs that make Mesa, Android's libETC1 and libsquish speak the protocol. Mesa's other
+# driver, llvmpipe, rounds the thirds, fifths and sevenths of S3TC otherwise.
 build_decoders() {
+    GALLIUM_DRIVER=softpipe
+    export GALLIUM_DRIVER
     install_packages gcc libc6-dev libegl1 libegl-mesa0 libgles2 libgl1-mesa-dri libegl-dev libgles-dev \
         android-libetc1-dev
     gcc -O2 -o "$room/mesa" "$top/oracle/mesa.c" -lEGL -lGLESv2 -lm || die "mesa.c does not build"

@@ -75,20 +75,23 @@ pub fn of_seconds(mesa: &str, android: &str, program: &str) -> Result<bool> {
 }
 
 /// What the crate does where only document 01 refuses. It accepts a side above 65,536, and an
-/// alpha half of two bytes with multiplier 0 over any image. Else it stops the whole program on
-/// bytes, elements or a channel that it indexes past.
+/// alpha half of two bytes with multiplier 0 over any image, and it puts a BC3 alpha half into as many
+/// elements as there are. Else it stops the whole program on bytes, elements or a channel that it
+/// indexes past, or that it shifts too far by.
 pub fn crate_has_no_such_refusal() -> bool {
     let hook = take_hook();
     set_hook(Box::new(|_| ()));
     let short = BLOCKS.into_iter().all(|reader| {
         let size = block_size(reader);
-        stops(&refused(reader, 0, size - 1, 16)) && stops(&refused(reader, 0, size, 15))
+        let few = reader == BLOCK_BC3_ALPHA || stops(&refused(reader, 0, size, 15));
+        stops(&refused(reader, 0, size - 1, 16)) && few
     });
-    let channels = [BLOCK_EAC, BLOCK_EAC_SIGNED].into_iter().all(|reader| stops(&refused(reader, 4, 8, 16)));
+    let channels = [BLOCK_EAC, BLOCK_EAC_SIGNED, BLOCK_BC3_ALPHA].into_iter().all(|reader| stops(&refused(reader, 4, 8, 16)));
     set_hook(hook);
     let wide = Case { width: 65_537, ..refused(ETC1, 0, 0, 0) };
     let alpha = Case { data: vec![0x80, 0], ..refused(BLOCK_A8, 0, 2, 1) };
-    let accepts = crate_answer(&wide).number == 0 && crate_answer(&alpha).image == [0x8000_0000];
+    let desktop = crate_answer(&refused(BLOCK_BC3_ALPHA, 3, 8, 1)).image == [0x1000_0000];
+    let accepts = crate_answer(&wide).number == 0 && crate_answer(&alpha).image == [0x8000_0000] && desktop;
     let so = short && channels && accepts;
     println!("{:<34} {}", "the crate, where only 01 refuses", if so { "as DIFFERENCES.md says" } else { "otherwise" });
     so

@@ -87,7 +87,7 @@ fn compare(options: &Options) -> Result<bool> {
     same &= examples::of_crate(&options.program)?;
     same &= examples::crate_has_no_such_refusal();
     same &= census::by_hand(&options.program)?;
-    for reader in readers::PICTURES.chain(readers::BLOCKS).chain(readers::CENSUSES) {
+    for reader in readers::PICTURES.into_iter().chain(readers::BLOCKS).chain(readers::CENSUSES) {
         let shapes = cases::plan(reader, options.seed, options.blocks);
         same &= compare_reader(readers::name(reader).to_string(), shapes, options)?;
     }

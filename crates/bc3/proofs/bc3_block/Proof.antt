@@ -48,8 +48,7 @@ below a h = omega arith
 both-requires : tie.Need-both-requires
 both-requires c κs =
     let t = c .before .before in
-    let a = t .before .alphas-in in
-    (
+    let a = t .before .alphas-in in (
       at-most (λ k. getD (a .result) k 0 * 0x1000000) 0xFF000000 8 (t .tops .result) (t .tops .ensures) (λ k. omega (arith, a .ensures .1 k)),
       λ k. below _ (at-most (λ k. getD (c .before .palette-in .result) k 0 % 0x1000000) 0xFFFFFF 4 (c .hues .result) (c .hues .ensures) (λ k. omega arith) k),
     )
