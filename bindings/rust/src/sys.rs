@@ -36,6 +36,9 @@ extern "C" {
         yalivucu_decode_eacr_signed_pitched
         yalivucu_decode_eacrg_pitched
         yalivucu_decode_eacrg_signed_pitched
+        yalivucu_decode_bc1_pitched
+        yalivucu_decode_bc1a_pitched
+        yalivucu_decode_bc3_pitched
     }
     declared_block! {
         yalivucu_decode_etc1_block
@@ -46,11 +49,15 @@ extern "C" {
         yalivucu_decode_eacr_signed_block
         yalivucu_decode_eacrg_block
         yalivucu_decode_eacrg_signed_block
+        yalivucu_decode_bc1_block
+        yalivucu_decode_bc1a_block
+        yalivucu_decode_bc3_block
         yalivucu_decode_etc2_a8_block
     }
     declared_channel! {
         yalivucu_decode_eac_block
         yalivucu_decode_eac_signed_block
+        yalivucu_decode_bc3_alpha
     }
     declared_census! {
         yalivucu_census_etc2_rgb

@@ -12,3 +12,4 @@ pub mod Encoded
 pub mod Back
 pub mod Skipped
 pub mod Lowest
+pub mod Desktop
