@@ -2,20 +2,19 @@
 -- refusals and the own tile are those of Pictures.antt and Blocks.antt, which speak of any format.
 -- Assumes nothing.
 use mathlib.Core.Path.{_≡_, _∙_, refl, ap}
-use mathlib.Core.Bool.{Bool, true, false, cond}
+use mathlib.Core.Bool.{Bool, true, false}
 use mathlib.Core.List.{List, [], _∷_}
 use mathlib.Core.Logic.{_⊎_, inl, inr}
 use Prim.Native.Nat.{ℕ, zero, suc, _+_, _*_, _/_, _%_, _^_, _<_, _≤_}
-use native.Mathlib.Nat.{div-add-mod', mod-lt, mul-comm}
+use native.Mathlib.Nat.{div-add-mod', mod-lt}
 use native.Mathlib.Omega.{arith}
 use borrow.Author.Tests.{lt-ltb}
-use lib.Dec.{eqb, ltb}
-use lib.ListN.{length, getD, drop}
+use lib.ListN.{getD, drop}
 use Rattle.rules.specs.Notation.{bits}
 use Rattle.rules.specs.Pixel.{word, alphaOf}
-use Rattle.rules.specs.Answers.{said, left, judged, accepts}
-use Rattle.rules.specs.Desktop.{halfWord, rgb565, mix, opaque, mixture, palette, paletteIn, hasFour, colourIndex, bc1Pixel, bc3Alpha, bc3Pixel, replaced}
-use Rattle.rules.specs.Readers.{ReplacesChannel, channelVerdict}
+use Rattle.rules.specs.Answers.{said, left}
+use Rattle.rules.specs.Desktop.{halfWord, rgb565, mix, opaque, mixture, palette, hasFour, colourIndex, bc1Pixel, bc3Alpha, bc3Pixel, replaced}
+use Rattle.rules.specs.Readers.{channelVerdict, replacedPainted, ReplacesChannel}
 use Rattle.rules.specs.declared.Answer.{Answer}
 
 -- "Divisions by 2, 3, 5 and 7 round down": a mixture is the whole part of the exact fraction (m * a + n * b) / (m + n)
@@ -96,7 +95,7 @@ one-bit-of-alpha d x y =
 pub a-channel-above-3-is-refused-with-5 : (d image : List ℕ) (channel : ℕ) (a : Answer) (new : List ℕ) → 3 < channel → ReplacesChannel d channel image a new → (said a ≡ 5 ∷ []) × (new ≡ image)
 a-channel-above-3-is-refused-with-5 d image channel a new h p =
     let e : channelVerdict channel d image ≡ 5 ∷ [] = rw (lt-ltb 3 channel h) in
-    (p .says ∙ e, p .leaves ∙ ap (λ (v : List ℕ). left v _ image) e)
+    (p .says ∙ e, p .leaves ∙ ap (λ (v : List ℕ). left v (replacedPainted d channel image) image) e)
 
 -- and in place of a channel's byte it puts its own, and keeps the others
 pub the-byte-is-replaced : (channel p b : ℕ) → channel < 4 → b < 256 → replaced channel p b / 256 ^ channel % 256 ≡ b
