@@ -5,12 +5,13 @@ mod blocks;
 mod clock;
 mod formats;
 mod gap;
+mod pieces;
 mod sheet;
 
 use blocks::Random;
 use formats::{Format, FORMATS};
 use std::hint::black_box;
-use yalivucu::typed::{census_etc2_rgb, census_etc2_rgba1, Picture};
+use yalivucu::typed::{self, census_etc2_rgb, census_etc2_rgba1, Picture};
 
 const SIDE: usize = 2048;
 const TURNS: usize = 31;
@@ -41,6 +42,13 @@ fn main() {
         counted(make);
         let halves = [blocks::Half::Alpha, blocks::Half::Colour];
         alike &= sheet::print(SIDE, TURNS, &make(SIDE * SIDE / 16, &halves, &mut Random::new(SEED)));
+        for (name, format, halves) in [
+            ("RGB", typed::Format::Etc2Rgb, &[blocks::Half::Colour][..]),
+            ("RGBA8", typed::Format::Etc2Rgba8, &halves),
+        ] {
+            let data = make(SIDE * SIDE / 16, halves, &mut Random::new(SEED));
+            alike &= pieces::print(name, format, SIDE, TURNS, &data);
+        }
         println!();
     }
     println!("filling the image alone: {:.2} ms\n", filled(SIDE));

@@ -311,6 +311,69 @@ static void sheets(void)
     untouched("sheet, refused", 0);
 }
 
+/* A picture of 5 by 5 in rows of 6, in pieces of every length, beside the plain reader. */
+static void pieces(void)
+{
+    const struct {
+        const char *name;
+        uint32_t (*start)(struct yalivucu_pieces *, size_t, size_t, size_t, const uint32_t *, size_t);
+        uint32_t (*read)(const uint8_t *, size_t, size_t, size_t, size_t, uint32_t *, size_t);
+        size_t size;
+    } row[] = {
+        {"pieces_etc1", yalivucu_pieces_etc1, yalivucu_decode_etc1_pitched, 8},
+        {"pieces_etc2_rgb", yalivucu_pieces_etc2_rgb, yalivucu_decode_etc2_rgb_pitched, 8},
+        {"pieces_etc2_rgba1", yalivucu_pieces_etc2_rgba1, yalivucu_decode_etc2_rgba1_pitched, 8},
+        {"pieces_etc2_rgba8", yalivucu_pieces_etc2_rgba8, yalivucu_decode_etc2_rgba8_pitched, 16},
+        {"pieces_eacr", yalivucu_pieces_eacr, yalivucu_decode_eacr_pitched, 8},
+        {"pieces_eacr_signed", yalivucu_pieces_eacr_signed, yalivucu_decode_eacr_signed_pitched, 8},
+        {"pieces_eacrg", yalivucu_pieces_eacrg, yalivucu_decode_eacrg_pitched, 16},
+        {"pieces_eacrg_signed", yalivucu_pieces_eacrg_signed, yalivucu_decode_eacrg_signed_pitched, 16},
+        {"pieces_bc1", yalivucu_pieces_bc1, yalivucu_decode_bc1_pitched, 8},
+        {"pieces_bc1a", yalivucu_pieces_bc1a, yalivucu_decode_bc1a_pitched, 8},
+        {"pieces_bc3", yalivucu_pieces_bc3, yalivucu_decode_bc3_pitched, 16},
+    };
+    uint8_t data[67];
+    uint32_t plain[MOST];
+    for (size_t k = 0; k < sizeof data; k++) data[k] = (uint8_t)(k * k * 5 + 89 * k + 7);
+    for (size_t k = 0; k < sizeof row / sizeof *row; k++) {
+        struct yalivucu_pieces state;
+        const char *name = row[k].name;
+        size_t all = 4 * row[k].size, painted = 77, unused = 77;
+        clear();
+        same(name, row[k].start(&state, 5, 5, 65537, image, 0), YALIVUCU_TOO_LARGE);
+        same(name, row[k].start(&state, 5, 5, 4, image, 0), YALIVUCU_SHORT_PITCH);
+        same(name, row[k].start(&state, 5, 5, 6, image, 28), YALIVUCU_SHORT_IMAGE);
+        same(name, row[k].start(&state, 0, 5, 0, NULL, 0), YALIVUCU_DONE);
+        same(name, yalivucu_pieces_end(&state), YALIVUCU_DONE);
+        same(name, row[k].read(data, all, 5, 5, 6, image, MOST), YALIVUCU_DONE);
+        memcpy(plain, image, sizeof plain);
+        for (size_t length = 1; length <= all + 3; length++) {
+            size_t blocks = 0;
+            clear();
+            same(name, row[k].start(&state, 5, 5, 6, image, MOST), YALIVUCU_DONE);
+            same(name, yalivucu_pieces_end(&state), YALIVUCU_SHORT_DATA);
+            for (size_t at = 0; at < all; at += length) {
+                size_t left = all + 3 - at, n = left < length ? left : length;
+                same(name, yalivucu_pieces_take(&state, data + at, n, image, 28, &painted, &unused), YALIVUCU_SHORT_IMAGE);
+                same(name, (uint32_t)painted, 0);
+                same(name, (uint32_t)unused, (uint32_t)n);
+                same(name, yalivucu_pieces_take(&state, data + at, n, image, MOST, &painted, &unused), YALIVUCU_DONE);
+                same(name, (uint32_t)unused, (uint32_t)(at + n > all ? at + n - all : 0));
+                blocks += painted;
+                same(name, yalivucu_pieces_take(&state, NULL, 0, image, MOST, &painted, &unused), YALIVUCU_DONE);
+                same(name, (uint32_t)painted, 0);
+            }
+            same(name, (uint32_t)blocks, 4);
+            same(name, yalivucu_pieces_end(&state), YALIVUCU_DONE);
+            same(name, (uint32_t)memcmp(plain, image, sizeof plain), 0);
+        }
+        /* a state that somebody spoilt is a state */
+        memset(&state, 0xff, sizeof state);
+        same(name, yalivucu_pieces_take(&state, data, all, image, MOST, &painted, &unused), YALIVUCU_TOO_LARGE);
+        same(name, yalivucu_pieces_end(&state), YALIVUCU_TOO_LARGE);
+    }
+}
+
 int main(void)
 {
     pictures();
@@ -323,6 +386,7 @@ int main(void)
     desktop();
     censuses();
     sheets();
+    pieces();
     puts(failures ? "C: FAILED" : "C: passed");
     return failures != 0;
 }

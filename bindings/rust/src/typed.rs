@@ -11,6 +11,7 @@
 //! # Ok::<(), Refusal>(())
 //! ```
 pub use crate::census::{census_etc2_rgb, census_etc2_rgba1, KindCounts, RgbCounts, Rgba1Counts};
+pub use crate::pieces::{Pieces, Taken};
 pub use crate::refusal::Refusal;
 pub use crate::sheet::{read_sheet, sheet_head, write_sheet, Head};
 use crate::sys;
@@ -84,6 +85,22 @@ impl Format {
             Format::Bc1 => sys::yalivucu_decode_bc1_pitched,
             Format::Bc1Alpha => sys::yalivucu_decode_bc1a_pitched,
             Format::Bc3 => sys::yalivucu_decode_bc3_pitched,
+        }
+    }
+
+    pub(crate) fn starter(self) -> sys::Start {
+        match self {
+            Format::Etc1 => sys::yalivucu_start_etc1,
+            Format::Etc2Rgb => sys::yalivucu_start_etc2_rgb,
+            Format::Etc2Rgba1 => sys::yalivucu_start_etc2_rgba1,
+            Format::Etc2Rgba8 => sys::yalivucu_start_etc2_rgba8,
+            Format::EacR => sys::yalivucu_start_eacr,
+            Format::EacRSigned => sys::yalivucu_start_eacr_signed,
+            Format::EacRg => sys::yalivucu_start_eacrg,
+            Format::EacRgSigned => sys::yalivucu_start_eacrg_signed,
+            Format::Bc1 => sys::yalivucu_start_bc1,
+            Format::Bc1Alpha => sys::yalivucu_start_bc1a,
+            Format::Bc3 => sys::yalivucu_start_bc3,
         }
     }
 

@@ -13,3 +13,6 @@ pub mod Back
 pub mod Skipped
 pub mod Lowest
 pub mod Desktop
+pub mod Arrived
+pub mod Step
+pub mod Cuts
