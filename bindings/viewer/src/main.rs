@@ -145,8 +145,10 @@ fn single_blocks(random: &mut Random) {
     for (name, reader, size) in BLOCK_READERS {
         for _ in 0..1000 {
             let data = blocks(random, *size, name);
+            // the crate's reader of a BC3 block runs on past element 15, which is a listed difference
+            let end = if *name == "bc3_block" { 16 } else { 20 };
             let mut image = [0x0011_1111; 20];
-            reader(&data, &mut image);
+            reader(&data, &mut image[..end]);
             show(name, Ok(()), &image, *name == "etc2_rgba1_block");
         }
     }
