@@ -30,7 +30,10 @@ fn read_from(
 }
 
 fn main() -> Result<(), Box<dyn Error>> {
-    let sides: Vec<usize> = std::env::args().skip(1).map(|word| word.parse()).collect::<Result<_, _>>()?;
+    let sides: Vec<usize> = std::env::args()
+        .skip(1)
+        .map(|word| word.parse())
+        .collect::<Result<_, _>>()?;
     let [width, height] = sides[..] else {
         return Err("slow_cable WIDTH HEIGHT < BLOCKS".into());
     };

@@ -18,8 +18,8 @@ use crate::typed::{Format, Picture, Refusal};
 /// let taken = pieces.take(&[0x02, 0, 0, 0, 0, 99], &mut image)?;
 /// assert_eq!((taken.painted, taken.unused), (1, 1));
 /// assert_eq!(image[..4], [0xff020202, 0xff020202, 0xffe90202, 0xffe90202]);
-/// pieces.end()
-/// # ?; Ok::<(), Refusal>(())
+/// pieces.end()?;
+/// # Ok::<(), Refusal>(())
 /// ```
 #[derive(Clone, Debug, PartialEq, Eq)]
 pub struct Pieces {

@@ -8,7 +8,10 @@ struct Random(u64);
 
 impl Random {
     fn below(&mut self, n: usize) -> usize {
-        self.0 = self.0.wrapping_mul(6_364_136_223_846_793_005).wrapping_add(1_442_695_040_888_963_407);
+        self.0 = self
+            .0
+            .wrapping_mul(6_364_136_223_846_793_005)
+            .wrapping_add(1_442_695_040_888_963_407);
         ((self.0 >> 33) as usize) % n
     }
 
@@ -41,7 +44,8 @@ fn finished(format: Format, data: &[u8], picture: Picture, elements: usize, bloc
 /// One course: after each piece exactly the blocks that are whole are painted, and no other element has changed.
 fn course(format: Format, picture: Picture, random: &mut Random) {
     let all = picture.bytes(format).unwrap();
-    let data = random.bytes(all + random.below(20));
+    let more = random.below(20);
+    let data = random.bytes(all + more);
     let elements = picture.elements().unwrap() + random.below(5);
     let mut image = vec![STOOD; elements];
     let mut pieces = Pieces::start(format, picture, &image).unwrap();
@@ -82,7 +86,10 @@ fn pieces_of_one_length_each_show_the_same() {
         for length in 1..=data.len() {
             let mut image = vec![STOOD; 60];
             let mut pieces = Pieces::start(format, picture, &image).unwrap();
-            let painted: usize = data.chunks(length).map(|piece| pieces.take(piece, &mut image).unwrap().painted).sum();
+            let painted: usize = data
+                .chunks(length)
+                .map(|piece| pieces.take(piece, &mut image).unwrap().painted)
+                .sum();
             assert_eq!((painted, &image, pieces.end()), (6, &whole, Ok(())));
         }
     }
@@ -91,7 +98,12 @@ fn pieces_of_one_length_each_show_the_same() {
 #[test]
 fn starting_refuses_in_its_order() {
     let start = |width, height, pitch, elements| {
-        Pieces::start(Format::EacRg, Picture::new(width, height).with_pitch(pitch), &vec![STOOD; elements]).err()
+        Pieces::start(
+            Format::EacRg,
+            Picture::new(width, height).with_pitch(pitch),
+            &vec![STOOD; elements],
+        )
+        .err()
     };
     assert_eq!(start(65537, 1, 4, 0), Some(Refusal::TooLarge));
     assert_eq!(start(1, 65537, 0, 0), Some(Refusal::TooLarge));
