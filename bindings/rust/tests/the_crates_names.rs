@@ -54,11 +54,9 @@ const BLOCKS: [(Block, usize); 12] = [
     (decode_bc3_block, 16),
 ];
 
-const CHANNELS: [Channel; 3] = [
-    decode_eac_block,
-    decode_eac_signed_block,
-    |data, channel, out| decode_bc3_alpha(data, out, channel),
-];
+const CHANNELS: [Channel; 3] = [decode_eac_block, decode_eac_signed_block, |data, channel, out| {
+    decode_bc3_alpha(data, out, channel)
+}];
 
 #[test]
 fn the_texts_of_refusals() {

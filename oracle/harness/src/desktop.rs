@@ -38,7 +38,8 @@ fn list(folder: &str) -> Result<Vec<String>> {
 pub fn compare(options: &crate::Options) -> Result<bool> {
     let mut same = true;
     for path in list(&options.desktop)? {
-        let dds = parse(&std::fs::read(&path)?).ok_or_else(|| Error::other(format!("{path} is no DDS file of BC1 or BC3")))?;
+        let dds = parse(&std::fs::read(&path)?)
+            .ok_or_else(|| Error::other(format!("{path} is no DDS file of BC1 or BC3")))?;
         for &reader in dds.readers {
             for (program, label) in [(&options.mesa, "Mesa"), (&options.squish, "squish")] {
                 if label == "squish" && reader == BC1 {

@@ -109,7 +109,8 @@ pub fn crate_has_no_such_refusal() -> bool {
         let few = reader == BLOCK_BC3_ALPHA || stops(&refused(reader, 0, size, 15));
         stops(&refused(reader, 0, size - 1, 16)) && few
     });
-    let channels = [BLOCK_EAC, BLOCK_EAC_SIGNED, BLOCK_BC3_ALPHA].into_iter().all(|reader| stops(&refused(reader, 4, 8, 16)));
+    let channels =
+        [BLOCK_EAC, BLOCK_EAC_SIGNED, BLOCK_BC3_ALPHA].into_iter().all(|reader| stops(&refused(reader, 4, 8, 16)));
     set_hook(hook);
     let wide = Case { width: 65_537, ..refused(ETC1, 0, 0, 0) };
     let alpha = Case { data: vec![0x80, 0], ..refused(BLOCK_A8, 0, 2, 1) };
