@@ -15,13 +15,16 @@ use Rattle.rules.specs.Colour.{differential, wrapped, kindBySums, outOfR
 use Rattle.rules.specs.Modes.{tBases, tDistance, hBases, notLess, hDistance, planarBases, planarChannel, indexed}
 use Rattle.rules.specs.Modes.{rgbPixel, rgba1Pixel, etc1Pixel}
 use Rattle.rules.specs.Channels.{alphaStep, alphaByte, rgba8Pixel, eacValue, eacByte, redPixel, redGreenPixel}
+use Rattle.numbers.specs.Numbers.{little}
+use Rattle.rules.specs.Desktop.{bc1Pixel, bc3Alpha, bc3Pixel}
 use Rattle.rules.specs.Formats.{sizeOf, showsOf}
 use Rattle.rules.specs.Readers.{pictureOf, pictureVerdict, ReadsPicture, strictVerdict, ReadsStrict}
 use Rattle.rules.specs.Readers.{blockVerdict, blockPainted, ReadsBlock, alphaPainted, ReadsAlpha, channelVerdict, channelPainted, ReadsChannel}
+use Rattle.rules.specs.Readers.{replacedPainted, ReplacesChannel}
 use Rattle.rules.specs.declared.Answer.{Answer}
 use Rattle.rules.specs.declared.Answer.the-variants.{Done, TooLarge, ShortData, ShortImage, OutOfRange, NoChannel, ShortPitch}
 use Rattle.rules.specs.declared.Format.the-variants.{Etc2Rgb}
-use Rattle.rules.proofs.Rows.{Reader, picture, strict, padded, paddedStrict, block, alphaHalf, channel, Row, caseOf, bytes, same}
+use Rattle.rules.proofs.Rows.{Reader, picture, strict, padded, paddedStrict, block, alphaHalf, channel, alphaInto, Row, caseOf, bytes, same}
 use Rattle.rules.proofs.Specimens.{rows, columns, bench, table}
 use Rattle.rules.proofs.Pitches.{pitches}
 use Rattle.rules.proofs.Recorded.{recorded}
@@ -35,6 +38,7 @@ verdictOf (paddedStrict p) w h d image = strictVerdict (pitched w h p) d image
 verdictOf (block f) w h d image = blockVerdict (sizeOf f) d image
 verdictOf alphaHalf w h d image = blockVerdict 8 d image
 verdictOf (channel s c) w h d image = channelVerdict c d image
+verdictOf (alphaInto c) w h d image = channelVerdict c d image
 
 paints : Reader → ℕ → ℕ → List ℕ → List ℕ → List ℕ
 paints (picture f) w h d image = pictureOf f (sized w h) d image
@@ -44,6 +48,7 @@ paints (paddedStrict p) w h d image = pictureOf Etc2Rgb (pitched w h p) d image
 paints (block f) w h d image = blockPainted (λ k. showsOf f d (k % 4) (k / 4)) image
 paints alphaHalf w h d image = alphaPainted d image
 paints (channel s c) w h d image = channelPainted s d c image
+paints (alphaInto c) w h d image = replacedPainted d c image
 
 leaves : Reader → ℕ → ℕ → List ℕ → List ℕ → List ℕ
 leaves reader w h d image = left (verdictOf reader w h d image) (paints reader w h d image) image
@@ -57,6 +62,7 @@ Promise (paddedStrict p) w h d image answer new = ReadsStrict d (pitched w h p) 
 Promise (block f) w h d image answer new = ReadsBlock f d image answer new
 Promise alphaHalf w h d image answer new = ReadsAlpha d image answer new
 Promise (channel s c) w h d image answer new = ReadsChannel s d c image answer new
+Promise (alphaInto c) w h d image answer new = ReplacesChannel d c image answer new
 
 no-less :
     (reader : Reader) (w h : ℕ) (d image : List ℕ) (answer : Answer) (new : List ℕ)
@@ -70,6 +76,7 @@ no-less (paddedStrict p) w h d image answer new o = (o .says, o .leaves)
 no-less (block f) w h d image answer new o = (o .says, o .leaves)
 no-less alphaHalf w h d image answer new o = (o .says, o .leaves)
 no-less (channel s c) w h d image answer new o = (o .says, o .leaves)
+no-less (alphaInto c) w h d image answer new o = (o .says, o .leaves)
 
 no-more :
     (reader : Reader) (w h : ℕ) (d image : List ℕ) (answer : Answer) (new : List ℕ)
@@ -84,6 +91,7 @@ no-more (paddedStrict p) w h d image answer new a b = record { says = a; leaves 
 no-more (block f) w h d image answer new a b = record { says = a; leaves = b }
 no-more alphaHalf w h d image answer new a b = record { says = a; leaves = b }
 no-more (channel s c) w h d image answer new a b = record { says = a; leaves = b }
+no-more (alphaInto c) w h d image answer new a b = record { says = a; leaves = b }
 
 holds : Row → Bool
 holds row =
@@ -158,4 +166,5 @@ hold : T (numbers && words && orders && places && every (bench ++ recorded ++ ta
 unfolding numbers words orders places every bench table pitches recorded verdictOf paints leaves holds marked needed painted
     firstOf differential wrapped kindBySums outOfRange tBases tDistance hBases hDistance planarBases planarChannel indexed
     rgbPixel rgba1Pixel etc1Pixel alphaStep alphaByte rgba8Pixel eacValue eacByte redPixel redGreenPixel sizeOf showsOf
+    little bc1Pixel bc3Alpha bc3Pixel
 hold = tt

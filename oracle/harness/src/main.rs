@@ -5,6 +5,7 @@
 mod blocks;
 mod cases;
 mod census;
+mod desktop;
 mod examples;
 mod expected;
 mod pictures;
@@ -32,7 +33,10 @@ pub struct Options {
     /// Programs that speak the protocol, and the folder of published pictures.
     mesa: String,
     android: String,
+    squish: String,
     pictures: String,
+    /// The folder of pictures that nvcompress wrote.
+    desktop: String,
     program: String,
     /// What the stored list says of itself, and the folder that it goes to.
     about: String,
@@ -50,7 +54,9 @@ fn options(words: &[String]) -> Options {
         eleven: words.iter().any(|word| word == "--eleven"),
         mesa: text("--mesa"),
         android: text("--android"),
+        squish: text("--squish"),
         pictures: text("--pictures"),
+        desktop: text("--desktop"),
         program: text("--program"),
         about: text("--about"),
         folder: text("--folder"),
@@ -87,7 +93,7 @@ fn compare(options: &Options) -> Result<bool> {
     same &= examples::of_crate(&options.program)?;
     same &= examples::crate_has_no_such_refusal();
     same &= census::by_hand(&options.program)?;
-    for reader in readers::PICTURES.chain(readers::BLOCKS).chain(readers::CENSUSES) {
+    for reader in readers::PICTURES.into_iter().chain(readers::BLOCKS).chain(readers::CENSUSES) {
         let shapes = cases::plan(reader, options.seed, options.blocks);
         same &= compare_reader(readers::name(reader).to_string(), shapes, options)?;
     }
@@ -122,6 +128,8 @@ fn second(options: &Options) -> Result<bool> {
     same &= second::android(options)?;
     same &= second::mesa(options)?;
     same &= second::every_base(options)?;
+    same &= second::squish(options)?;
+    same &= desktop::compare(options)?;
     same &= second::with_a_pitch(options)?;
     Ok(same)
 }
