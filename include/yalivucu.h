@@ -28,13 +28,15 @@
  *      the census has counts.
  *   4  refused by yalivucu_decode_etc1_strict alone: a block's base plus step is out of range.
  *   5  refused: the channel is above 3.
+ *   6  refused by yalivucu_decode_etc1_strict alone: there are more bytes than the blocks need. Every
+ *      other reader ignores what follows its blocks.
  *   7  refused, of a sheet: a record is cut short, or there are no bytes at all.
  *   8  refused: the first record is not of kind 1, not 9 bytes long, or its format is above 7;
  *      of the writer: the format is above 7.
  *   9  refused: a record of another kind, a second one of kind 1 included.
  *  10  refused: no record of blocks, a second one, or blocks that are not of the exact length.
  *  12  refused: the pitch is below the width.
- * Pictures test 1, 12, 2, 3, 4 in that order, blocks 5, 2, 3, censuses 1, 2, 3. A sheet is walked
+ * Pictures test 1, 12, 2, 6, 3, 4 in that order, blocks 5, 2, 3, censuses 1, 2, 3. A sheet is walked
  * front to back and the first fault is the answer, 3 last; the writer tests 8, 1, 10, 3. A refusal
  * touches no element. Pictures in pieces have an order of their own, below, and their last answer,
  * 2, leaves what is painted.
@@ -63,6 +65,7 @@ enum yalivucu_answer {
     YALIVUCU_SHORT_IMAGE = 3,
     YALIVUCU_OUT_OF_RANGE = 4,
     YALIVUCU_NO_CHANNEL = 5,
+    YALIVUCU_LONG_DATA = 6,
     YALIVUCU_CUT_SHORT = 7,
     YALIVUCU_NO_HEAD = 8,
     YALIVUCU_OTHER_KIND = 9,
@@ -99,8 +102,8 @@ uint32_t yalivucu_decode_bc1_pitched(const uint8_t *data, size_t data_len, size_
 uint32_t yalivucu_decode_bc1a_pitched(const uint8_t *data, size_t data_len, size_t width, size_t height, size_t pitch, uint32_t *image, size_t image_len);
 uint32_t yalivucu_decode_bc3_pitched(const uint8_t *data, size_t data_len, size_t width, size_t height, size_t pitch, uint32_t *image, size_t image_len);
 
-/* An ETC1 picture, in blocks of 8 bytes, that holds no block out of range: what it accepts, an
- * ETC2 decoder shows alike. With answer 4, *block is the number of the first such block, from 0,
+/* An ETC1 picture, in blocks of 8 bytes, that holds no block out of range and has no byte behind its
+ * blocks: what it accepts, an ETC2 decoder shows alike. With answer 4, *block is the number of the first such block, from 0,
  * left to right and then down; with any other answer *block is not written. block is not NULL
  * and points into neither data nor image. */
 uint32_t yalivucu_decode_etc1_strict(const uint8_t *data, size_t data_len, size_t width, size_t height, uint32_t *image, size_t image_len, size_t *block);

@@ -63,6 +63,43 @@ def changed(data, at, new):
     return data[:at] + new + data[at + len(new):]
 
 
+def size_of(ktx):
+    """The size of level 0 that a file tells, where there is no key and value data."""
+    return struct.unpack("<I", ktx[64:68])[0]
+
+
+def levels():
+    """Files whose level has more bytes than its blocks need, or has not, with what --check answers and what else does."""
+    pkm = open(os.path.join(TOP, "examples", "old.pkm"), "rb").read()
+    ktx = open(os.path.join(TOP, "examples", "kinds.ktx"), "rb").read()
+    etc1 = changed(ktx, 28, struct.pack("<I", 0x8D64))
+    twice = changed(etc1, 64, struct.pack("<I", 2 * size_of(ktx)))
+    yield "PKM and a byte", pkm + b"\0", 6, 0
+    yield "PKM and a block", pkm + bytes(8), 6, 0
+    yield "PKM and as many bytes again", pkm + pkm[16:], 6, 0
+    yield "PKM short by a byte", pkm[:-1], 2, 2
+    yield "KTX and other levels", ktx + bytes(100), 4, 0
+    yield "RGBA8 that is called ETC1", twice + ktx[68:], 6, 24
+    yield "RGBA8 that is called ETC1, cut", twice, 6, 24
+    yield "the same of another format", changed(twice, 28, struct.pack("<I", 0x9270)), 27, 24
+    yield "a level told to be shorter", changed(etc1, 64, struct.pack("<I", size_of(ktx) - 1)), 24, 24
+
+
+def leftovers(room):
+    path, out = os.path.join(room, "level"), os.path.join(room, "level.png")
+    for what, data, strict, plain in levels():
+        with open(path, "wb") as f:
+            f.write(data)
+        status, said, sentence = unpack("--check", path)
+        note(status == strict, "%s: --check says %d, not %d" % (what, status, strict))
+        note((said if strict in (0, 4) else sentence).strip().endswith("."), what + ": no sentence")
+        note(strict != 6 or "more bytes than its blocks need" in sentence, what + ": another sentence")
+        status, _, _ = unpack("--force", path, out)
+        note(status == plain, "%s: status %d, not %d" % (what, status, plain))
+    _, said, _ = unpack("--help")
+    note("how many bytes that level has" in said, "--help does not say what --check looks at")
+
+
 def bad_files():
     ktx = open(os.path.join(TOP, "examples", "kinds.ktx"), "rb").read()
     big = open(os.path.join(TOP, "examples", "glow.ktx"), "rb").read()
@@ -81,6 +118,7 @@ def bad_files():
     yield "KTX of DXT1", changed(ktx, 28, struct.pack(le, 0x83F0)), 23
     yield "padded width that lies", changed(pkm, 8, b"\0\x24"), 24
     yield "level size that lies", changed(ktx, 64, struct.pack(le, 511)), 24
+    yield "a level told to be twice as long", changed(ktx, 64, struct.pack(le, 2 * size_of(ktx))), 24
     yield "a volume", changed(ktx, 44, struct.pack(le, 2)), 25
     yield "an array", changed(ktx, 48, struct.pack(le, 5)), 25
     yield "a cube", changed(big, 52, struct.pack(be, 6)), 25
@@ -138,6 +176,7 @@ def main():
     with tempfile.TemporaryDirectory() as room:
         examples(room)
         refusals(room)
+        leftovers(room)
     try_files.cases()
     try_build.cases()
     print("%d passed, %d failed" % (COUNT[True], COUNT[False]))

@@ -113,7 +113,9 @@ static void strict_pitched(void)
     memcpy(data + 8, TWO, 8);
     clear();
     same("strict pitched, short", yalivucu_decode_etc1_strict_pitched(data, 16, 5, 1, 4, image, 8, &block), YALIVUCU_SHORT_PITCH);
-    same("strict pitched, accepted", yalivucu_decode_etc1_strict_pitched(data, 16, 4, 2, 6, image, 10, &block), YALIVUCU_DONE);
+    same("strict pitched, left over", yalivucu_decode_etc1_strict_pitched(data, 16, 4, 2, 6, image, 10, &block), YALIVUCU_LONG_DATA);
+    untouched("strict pitched, left over", 0);
+    same("strict pitched, accepted", yalivucu_decode_etc1_strict_pitched(data, 8, 4, 2, 6, image, 10, &block), YALIVUCU_DONE);
     same("strict pitched, block kept", (uint32_t)block, 77);
     for (int at = 0; at < 10; at++) same("strict pitched", image[at], at % 6 < 4 ? 0xff020202 : STOOD);
     clear();
@@ -151,6 +153,10 @@ static void strict(void)
     memcpy(data + 8, TWO, 8);
     clear();
     same("strict, short", yalivucu_decode_etc1_strict(data, 15, 5, 1, image, 5, &block), YALIVUCU_SHORT_DATA);
+    same("strict, one byte left over", yalivucu_decode_etc1_strict(data, 9, 4, 1, image, 4, &block), YALIVUCU_LONG_DATA);
+    same("strict, as many left over", yalivucu_decode_etc1_strict(data, 16, 4, 1, image, 3, &block), YALIVUCU_LONG_DATA);
+    same("strict, no blocks, left over", yalivucu_decode_etc1_strict(data, 1, 0, 4, image, 0, &block), YALIVUCU_LONG_DATA);
+    untouched("strict, left over", 0);
     same("strict, accepted", yalivucu_decode_etc1_strict(data, 8, 4, 1, image, 4, &block), YALIVUCU_DONE);
     same("strict, block kept", (uint32_t)block, 77);
     same("strict, painted", image[3], 0xff020202);

@@ -20,6 +20,8 @@ pub enum Refusal {
     },
     /// Refusal 5: the channel is above 3.
     NoChannel,
+    /// Refusal 6, of the strict reader alone: there are more bytes than the blocks need.
+    LongData,
     /// Refusal 7, of a sheet: a record is cut short, or there are no bytes at all.
     CutShort,
     /// Refusal 8, of a sheet: the first record is no head, or the format has no number.
@@ -46,6 +48,7 @@ impl Refusal {
             Refusal::ShortImage => 3,
             Refusal::OutOfRange { .. } => 4,
             Refusal::NoChannel => 5,
+            Refusal::LongData => 6,
             Refusal::CutShort => 7,
             Refusal::NoHead => 8,
             Refusal::OtherKind => 9,
@@ -63,6 +66,7 @@ impl Refusal {
             Refusal::ShortImage => "Image buffer is too small!",
             Refusal::OutOfRange { .. } => "An ETC1 block has a sum out of range!",
             Refusal::NoChannel => "The channel is above 3!",
+            Refusal::LongData => "There are more bytes than the blocks need!",
             Refusal::CutShort => "A record of the sheet is cut short, or there is none!",
             Refusal::NoHead => "The sheet has no head, or its format has no number!",
             Refusal::OtherKind => "The sheet has a record of an unknown kind!",
@@ -81,6 +85,7 @@ impl Refusal {
             3 => Err(Refusal::ShortImage),
             4 => Err(Refusal::OutOfRange { block }),
             5 => Err(Refusal::NoChannel),
+            6 => Err(Refusal::LongData),
             7 => Err(Refusal::CutShort),
             8 => Err(Refusal::NoHead),
             9 => Err(Refusal::OtherKind),
@@ -106,6 +111,7 @@ impl fmt::Display for Refusal {
                 "Refusal {number}: an ETC1 block has a sum out of range, the first of them block {block}."
             ),
             Refusal::NoChannel => write!(f, "Refusal {number}: the channel is above 3."),
+            Refusal::LongData => write!(f, "Refusal {number}: there are more bytes than the blocks need."),
             Refusal::CutShort => write!(
                 f,
                 "Refusal {number}: a record of the sheet is cut short, or there is none."

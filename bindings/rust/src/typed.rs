@@ -216,13 +216,13 @@ pub fn read(format: Format, data: &[u8], picture: Picture, image: &mut [u32]) ->
     Refusal::answered(number, 0)
 }
 
-/// Reads an ETC1 picture that holds no block out of range, and refuses any other with
-/// [`Refusal::OutOfRange`] and the number of the first such block. What it accepts, an ETC2
-/// decoder shows alike.
+/// Reads an ETC1 picture that holds no block out of range and has no byte behind its blocks. Any
+/// other it refuses: with [`Refusal::LongData`], or with [`Refusal::OutOfRange`] and the number of the
+/// first such block. What it accepts, an ETC2 decoder shows alike.
 ///
 /// Refuses with [`Refusal::TooLarge`], [`Refusal::ShortPitch`], [`Refusal::ShortData`],
-/// [`Refusal::ShortImage`] or [`Refusal::OutOfRange`], tested in that order, and then `image` is as
-/// it was.
+/// [`Refusal::LongData`], [`Refusal::ShortImage`] or [`Refusal::OutOfRange`], tested in that order, and
+/// then `image` is as it was.
 ///
 /// ```
 /// use yalivucu::typed::{read_strict, Picture, Refusal};

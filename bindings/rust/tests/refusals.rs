@@ -22,6 +22,14 @@ impl Reader {
         }
     }
 
+    /// What is answered where there are more bytes than the blocks need and nothing else is wrong.
+    fn leftovers(self) -> Result<(), Refusal> {
+        match self {
+            Reader::Plain(_) => Ok(()),
+            Reader::Strict => Err(Refusal::LongData),
+        }
+    }
+
     /// Reads with so many bytes and elements, and sees that pixels and nothing else changed: no gap, and
     /// in a refusal no element.
     fn read(self, bytes: usize, width: usize, height: usize, elements: usize) -> Result<(), Refusal> {
@@ -58,7 +66,8 @@ fn every_size_of_data_and_image() {
                 let bytes = width.div_ceil(4) * height.div_ceil(4) * reader.block_size();
                 let pixels = width * height;
                 assert_eq!(reader.read(bytes, width, height, pixels), Ok(()));
-                assert_eq!(reader.read(bytes + 5, width, height, pixels + 5), Ok(()));
+                assert_eq!(reader.read(bytes, width, height, pixels + 5), Ok(()));
+                assert_eq!(reader.read(bytes + 5, width, height, pixels + 5), reader.leftovers());
                 if pixels > 0 {
                     assert_eq!(
                         reader.read(bytes - 1, width, height, pixels - 1),
@@ -80,7 +89,8 @@ fn every_small_size_with_a_gap() {
             let elements = Picture::new(width, height).with_pitch(pitch).elements().unwrap();
             let read = |bytes, elements| reader.read_pitched(bytes, width, height, pitch, elements);
             assert_eq!(read(bytes, elements), Ok(()));
-            assert_eq!(read(bytes + 5, elements + 2 * pitch), Ok(()));
+            assert_eq!(read(bytes, elements + 2 * pitch), Ok(()));
+            assert_eq!(read(bytes + 5, elements + 2 * pitch), reader.leftovers());
             if elements > 0 {
                 assert_eq!(read(bytes - 1, elements - 1), Err(Refusal::ShortData));
                 assert_eq!(read(bytes, elements - 1), Err(Refusal::ShortImage));
@@ -175,6 +185,24 @@ fn strict_names_the_first_block() {
 }
 
 #[test]
+fn strict_leaves_nothing_over() {
+    // a block in range, and a second one that is not
+    let mut data = [0; 16];
+    data[8..12].copy_from_slice(&[0x04, 0, 0, 0x02]);
+    let mut image = [STOOD; 16];
+    for more in [1, 7, 8] {
+        let refused = read_strict(&data[..8 + more], Picture::new(4, 4), &mut image);
+        assert_eq!(refused, Err(Refusal::LongData));
+        let refused = read_strict(&data[..8 + more], Picture::new(4, 4), &mut image[..15]);
+        assert_eq!(refused, Err(Refusal::LongData));
+    }
+    assert_eq!(read_strict(&data[..1], Picture::new(0, 4), &mut image), Err(Refusal::LongData));
+    assert_eq!(image, [STOOD; 16]);
+    assert_eq!(read(Format::Etc1, &data, Picture::new(4, 4), &mut image), Ok(()));
+    assert_eq!(read_strict(&data[..8], Picture::new(4, 4), &mut image), Ok(()));
+}
+
+#[test]
 fn refusals_say_what_is_wrong() {
     let told = |refusal: Refusal| refusal.to_string();
     assert_eq!(
@@ -194,6 +222,10 @@ fn refusals_say_what_is_wrong() {
         "Refusal 4: an ETC1 block has a sum out of range, the first of them block 7."
     );
     assert_eq!(told(Refusal::NoChannel), "Refusal 5: the channel is above 3.");
+    assert_eq!(
+        told(Refusal::LongData),
+        "Refusal 6: there are more bytes than the blocks need."
+    );
     assert_eq!(told(Refusal::ShortPitch), "Refusal 12: the pitch is below the width.");
 }
 

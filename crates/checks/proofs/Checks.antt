@@ -1,14 +1,15 @@
--- A check that fails and one that passes, and what holds where every check of a picture passes.
+-- A check that fails and one that passes, and what holds where every check of a picture passes, with an exact length or without.
 -- Assumes nothing.
 use mathlib.Core.Path.{_≡_, _∙_, refl, sym, ap}
 use mathlib.Core.Bool.{Bool, true, false, cond, _||_, true≢false}
 use mathlib.Core.List.{List, [], _∷_}
 use Prim.Native.Nat.{ℕ, _*_, _≤_}
 use native.Mathlib.Nat.{mul-le-mul}
+use native.Mathlib.Omega.{arith}
 use borrow.Author.Tests.{ltb-false}
 use lib.Dec.{ltb}
 use Rattle.rules.specs.Places.{needed, blocks}
-use Rattle.rules.specs.Answers.{said, accepts, limit, tooLarge, overLimit, Check, judged, pictureChecks, left, Outcome}
+use Rattle.rules.specs.Answers.{said, accepts, limit, tooLarge, overLimit, Check, judged, pictureChecks, exactChecks, left, Outcome}
 use Rattle.rules.specs.declared.Answer.{Answer}
 use Rattle.rules.specs.declared.Picture.{Picture}
 use Rattle.laws.proofs.Judged as judged-laws
@@ -49,20 +50,42 @@ within-limit pic e =
     (w .0, w .1, ltb-false limit (pic .pitch) (t .1))
 
 module _ (s : ℕ) (pic : Picture) (bytes elements : ℕ) (then : List ℕ) where
-  -- where the verdict accepts, whatever was checked then
-  pub passed : accepts (judged (pictureChecks s pic bytes elements) then) ≡ true → Passed s pic bytes elements
-  passed e =
-      let k = judged-laws.passed (pictureChecks s pic bytes elements) then tt e in
-      let t = within-limit pic (k .first) in
+  -- where none of the four fails
+  all : overLimit pic ≡ false → ltb (pic .pitch) (pic .width) ≡ false → ltb bytes (blocks pic * s) ≡ false → ltb elements (needed pic) ≡ false → Passed s pic bytes elements
+  all sides pitch short image =
+      let t = within-limit pic sides in
       record {
         narrow = t .0;
         low = t .1;
         close = t .2;
-        fits = ltb-false (pic .pitch) (pic .width) (k .rest .first);
-        enough = ltb-false bytes (blocks pic * s) (k .rest .rest .first);
-        roomy = ltb-false elements (needed pic) (k .rest .rest .rest .first);
+        fits = ltb-false (pic .pitch) (pic .width) pitch;
+        enough = ltb-false bytes (blocks pic * s) short;
+        roomy = ltb-false elements (needed pic) image;
       }
+
+  -- where the verdict accepts, whatever was checked then
+  pub passed : accepts (judged (pictureChecks s pic bytes elements) then) ≡ true → Passed s pic bytes elements
+  passed e =
+      let k = judged-laws.passed (pictureChecks s pic bytes elements) then tt e in
+      all (k .first) (k .rest .first) (k .rest .rest .first) (k .rest .rest .rest .first)
 
   -- and so where an answer does, that says it
   pub passed-by : (a : Answer) → said a ≡ judged (pictureChecks s pic bytes elements) then → accepts (said a) ≡ true → Passed s pic bytes elements
   passed-by a e h = passed (sym (ap accepts e) ∙ h)
+
+  -- the same with an exact length: the bytes are as many as the blocks need
+  module _ (e : accepts (judged (exactChecks s pic bytes elements) then) ≡ true) where
+    clear : judged-laws.Clear (exactChecks s pic bytes elements)
+    clear = judged-laws.passed (exactChecks s pic bytes elements) then tt e
+
+    pub passed-exactly : Passed s pic bytes elements
+    passed-exactly = all (clear .first) (clear .rest .first) (clear .rest .rest .first) (clear .rest .rest .rest .rest .first)
+
+    pub exact-length : bytes ≡ blocks pic * s
+    exact-length =
+        let least = ltb-false bytes (blocks pic * s) (clear .rest .rest .first) in
+        let most = ltb-false (blocks pic * s) bytes (clear .rest .rest .rest .first) in
+        omega arith
+
+  pub passed-exactly-by : (a : Answer) → said a ≡ judged (exactChecks s pic bytes elements) then → accepts (said a) ≡ true → Passed s pic bytes elements
+  passed-exactly-by a e h = passed-exactly (sym (ap accepts e) ∙ h)

@@ -7,8 +7,9 @@ ghost use mathlib.Core.Path.{_≡_};
 ghost use Prim.Native.Nat.{_*_, _<_, _≤_};
 ghost use lib.Dec.{ltb};
 ghost use Rattle.rules.specs.Places.{across as acrossOf, needed, blocks};
-ghost use Rattle.rules.specs.Answers.{said, limit, tooLarge, overLimit, pictureChecks, verdict};
+ghost use Rattle.rules.specs.Answers.{said, limit, tooLarge, overLimit, pictureChecks, exactChecks, verdict};
 ghost use Rattle.rules.specs.Formats.{sizeOf};
+ghost use Rattle.checks.specs.Passed.{checksOf};
 
 // The number of bytes of a block.
 pub fn size(f: Format) -> usize
@@ -77,6 +78,14 @@ pub fn short_data(size: usize, pic: Picture, bytes: usize) -> bool
     bytes < blocks_of(pic) * size
 }
 
+// Check 6: more bytes than the blocks of a picture have, which is not too large.
+pub fn long_data(size: usize, pic: Picture, bytes: usize) -> bool
+    requires { ⌜ (size ≤ 16) × (pic .width ≤ limit) × (pic .height ≤ limit) ⌝ }
+    ensures { λ r. ⌜ r ≡ ltb (blocks pic * size) bytes ⌝ }
+{
+    blocks_of(pic) * size < bytes
+}
+
 // The image elements that a picture needs, which is not too large: its rows but the last by their pitch, and the last by its width.
 pub fn elements_of(pic: Picture) -> usize
     requires { ⌜ (pic .width ≤ limit) × (pic .height ≤ limit) × (pic .pitch ≤ limit) ⌝ }
@@ -99,10 +108,11 @@ pub fn short_image(pic: Picture, elements: usize) -> bool
     elements < elements_of(pic)
 }
 
-// The checks that all picture readers share, of any block size up to 16, whatever the numbers.
-pub fn verify(size: usize, pic: Picture, bytes: usize, elements: usize) -> Answer
+// The checks that all picture readers share, of any block size up to 16, whatever the numbers; and where the length must be exact, 6
+// among them.
+fn verify_as(exact: bool, size: usize, pic: Picture, bytes: usize, elements: usize) -> Answer
     requires { ⌜ size ≤ 16 ⌝ }
-    ensures { λ r. ⌜ said r ≡ verdict (pictureChecks size pic bytes elements) ⌝ }
+    ensures { λ r. ⌜ said r ≡ verdict (checksOf exact size pic bytes elements) ⌝ }
 {
     let large = over_limit(pic);
     let narrow = short_pitch(pic);
@@ -110,6 +120,7 @@ pub fn verify(size: usize, pic: Picture, bytes: usize, elements: usize) -> Answe
         return Answer::TooLarge;
     }
     let lacks_data = short_data(size, pic, bytes);
+    let has_more = exact & long_data(size, pic, bytes);
     let lacks_room = short_image(pic, elements);
     if narrow {
         return Answer::ShortPitch;
@@ -117,8 +128,27 @@ pub fn verify(size: usize, pic: Picture, bytes: usize, elements: usize) -> Answe
     if lacks_data {
         return Answer::ShortData;
     }
+    if has_more {
+        return Answer::LongData;
+    }
     if lacks_room {
         return Answer::ShortImage;
     }
     Answer::Done
+}
+
+// The checks of a reader that ignores what follows the blocks.
+pub fn verify(size: usize, pic: Picture, bytes: usize, elements: usize) -> Answer
+    requires { ⌜ size ≤ 16 ⌝ }
+    ensures { λ r. ⌜ said r ≡ verdict (pictureChecks size pic bytes elements) ⌝ }
+{
+    verify_as(false, size, pic, bytes, elements)
+}
+
+// The checks of a reader that wants an exact length.
+pub fn verify_exact(size: usize, pic: Picture, bytes: usize, elements: usize) -> Answer
+    requires { ⌜ size ≤ 16 ⌝ }
+    ensures { λ r. ⌜ said r ≡ verdict (exactChecks size pic bytes elements) ⌝ }
+{
+    verify_as(true, size, pic, bytes, elements)
 }

@@ -13,7 +13,7 @@ use lib.ListN.{length, getD, take, drop, length-take, length-drop}
 use lib.Seq.{take-append-le, drop-append-le}
 use Rattle.rules.specs.Pixel.{Shows}
 use Rattle.rules.specs.Places.{inside, inTile, needed, blocks, blockAt, bytesOf, column, row, pixelAt, pictureBy, Alike, Beside}
-use Rattle.rules.specs.Answers.{refusal, limitCheck, pitchCheck, imageCheck, pictureChecks, judged}
+use Rattle.rules.specs.Answers.{refusal, limitCheck, pitchCheck, dataCheck, imageCheck, pictureChecks, exactChecks, judged}
 use Rattle.rules.specs.declared.Picture.{Picture}
 use Rattle.laws.proofs.Paint.{length-painted, getD-painted, painted-same}
 use Rattle.paint.proofs.Blocks.{block-in, room}
@@ -81,6 +81,12 @@ module _ (s : ℕ) (pic : Picture) (d e : List ℕ) where
     verdict-alike p elements then then' q =
         ap (λ (t : Bool). judged (limitCheck pic ∷ pitchCheck pic ∷ refusal 2 t ∷ imageCheck (needed pic) elements ∷ []) then) (enough-either p)
         ∙ ap (judged (pictureChecks s pic (length e) elements)) q
+
+-- where nothing is left over, a reader that wants an exact length says what any other does
+pub none-left : (s : ℕ) (pic : Picture) (bytes elements : ℕ) (then : List ℕ) → bytes ≤ blocks pic * s → judged (exactChecks s pic bytes elements) then ≡ judged (pictureChecks s pic bytes elements) then
+none-left s pic bytes elements then h =
+    ap (λ (t : Bool). judged (limitCheck pic ∷ pitchCheck pic ∷ dataCheck (blocks pic * s) bytes ∷ refusal 6 t ∷ imageCheck (needed pic) elements ∷ []) then)
+    (le-ltb (blocks pic * s) bytes h)
 
 -- bytes put behind the last block change no block
 pub behind : (s : ℕ) (pic : Picture) (d more : List ℕ) → blocks pic * s ≤ length d → Alike s pic d (d ++ more)

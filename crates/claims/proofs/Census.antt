@@ -186,7 +186,7 @@ pub the-census-takes-no-pitch : (tests : List Test) (d : List ℕ) (p : Picture)
 the-census-takes-no-pitch tests d p = refl
 
 -- "Where its checks 1 to 3 pass, strict ETC1 answers 4 exactly when the T, H and planar counts are not all 0", which M-104 has
--- "include that check 12 passes"
+-- "include that check 12 passes", and M-107 "an exact data length"
 module _ (d : List ℕ) (p : Picture) (old : List ℕ) (ok : 0 ∷ [] ≡ verdict (strictChecks p d old)) where
   -- there the census counts
   pub the-census-counts-there : (r : RgbCensus) → CountsRgb d p r → accepts (rgbSaid r) ≡ true

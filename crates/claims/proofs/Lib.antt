@@ -5,6 +5,7 @@ pub mod Pictures
 pub mod Settled
 pub mod Guarded
 pub mod Strict
+pub mod Leftovers
 pub mod Blocks
 pub mod Census
 pub mod Sheets

@@ -1,6 +1,6 @@
 -- With a pitch equal to the width, every promise is the one that stood before M-104: answer and image are those of document 01, written out
 -- here by width and height alone. The limit in refusal 1 is higher, and of sides within the old one no answer changed. So what was shown of
--- a width and a height, and whoever calls by them, stays settled.
+-- a width and a height, and whoever calls by them, stays settled. Of strict ETC1 it is said where nothing is left over (M-107).
 -- Assumes nothing.
 use mathlib.Core.Path.{_≡_, _∙_, refl, sym, ap}
 use mathlib.Core.Bool.{Bool, true, false, _||_}
@@ -12,7 +12,7 @@ use lib.Dec.{ltb}
 use lib.ListN.{length}
 use Rattle.rules.specs.Pixel.{Shows}
 use Rattle.rules.specs.Places.{sized, needed, across, bytesOf, pixelAt, painted}
-use Rattle.rules.specs.Answers.{limit, Check, refusal, judged, verdict, left, dataCheck, imageCheck, pictureChecks, guarded, Outcome}
+use Rattle.rules.specs.Answers.{limit, Check, refusal, judged, verdict, left, dataCheck, imageCheck, pictureChecks, exactChecks, guarded, Outcome}
 use Rattle.rules.specs.Colour.{outOfRange}
 use Rattle.rules.specs.Formats.{sizeOf, showsOf}
 use Rattle.rules.specs.Readers.{pictureOf, ReadsPicture, ReadsStrict}
@@ -20,6 +20,7 @@ use Rattle.rules.specs.declared.Answer.{Answer}
 use Rattle.rules.specs.declared.Format.{Format}
 use Rattle.rules.specs.declared.Format.the-variants.{Etc2Rgb}
 use Rattle.place.proofs.Plain.{needed-plain, painted-plain}
+use Rattle.claims.proofs.Alike.{none-left}
 
 -- ---- document 01, by width and height
 
@@ -111,16 +112,18 @@ module _ (d : List ℕ) (w h : ℕ) (image : List ℕ) (a : Answer) (new : List 
       pub as-before-within-the-old-limit : ReadsBefore 16384 f d w h image a new → ReadsPicture f d (sized w h) image a new
       as-before-within-the-old-limit p = as-before-without-a-pitch (moved _ _ _ _ image new a (sym same-verdict) refl p)
 
-  -- the promise of strict ETC1, both ways
-  strict-checks-as-before : (then : List ℕ) → judged (pictureChecks 8 (sized w h) (length d) (length image)) then ≡ judged (checksBefore limit 8 w h (length d) (length image)) then
-  strict-checks-as-before then = checks-as-before 8 w h (length d) (length image) then
+  -- the promise of strict ETC1, both ways, of bytes that are no more than the blocks need
+  module _ (few : length d ≤ across w * across h * 8) where
+    strict-checks-as-before : (then : List ℕ) → judged (exactChecks 8 (sized w h) (length d) (length image)) then ≡ judged (checksBefore limit 8 w h (length d) (length image)) then
+    strict-checks-as-before then =
+        none-left 8 (sized w h) (length d) (length image) then few ∙ checks-as-before 8 w h (length d) (length image) then
 
-  pub strict-without-a-pitch-as-before : ReadsStrict d (sized w h) image a new → StrictBefore limit d w h image a new
-  unfolding sizeOf
-  strict-without-a-pitch-as-before =
-      moved _ _ _ _ image new a (strict-checks-as-before (guarded 4 (λ n. outOfRange (bytesOf 8 d n)) (across w * across h))) (picture-as-before Etc2Rgb w h d image)
+    pub strict-without-a-pitch-as-before : ReadsStrict d (sized w h) image a new → StrictBefore limit d w h image a new
+    unfolding sizeOf
+    strict-without-a-pitch-as-before =
+        moved _ _ _ _ image new a (strict-checks-as-before (guarded 4 (λ n. outOfRange (bytesOf 8 d n)) (across w * across h))) (picture-as-before Etc2Rgb w h d image)
 
-  pub strict-as-before-without-a-pitch : StrictBefore limit d w h image a new → ReadsStrict d (sized w h) image a new
-  unfolding sizeOf
-  strict-as-before-without-a-pitch =
-      moved _ _ _ _ image new a (sym (strict-checks-as-before (guarded 4 (λ n. outOfRange (bytesOf 8 d n)) (across w * across h)))) (sym (picture-as-before Etc2Rgb w h d image))
+    pub strict-as-before-without-a-pitch : StrictBefore limit d w h image a new → ReadsStrict d (sized w h) image a new
+    unfolding sizeOf
+    strict-as-before-without-a-pitch =
+        moved _ _ _ _ image new a (sym (strict-checks-as-before (guarded 4 (λ n. outOfRange (bytesOf 8 d n)) (across w * across h)))) (sym (picture-as-before Etc2Rgb w h d image))

@@ -9,7 +9,7 @@ use native.Mathlib.Omega.{arith}
 use lib.Dec.{ltb}
 use lib.ListN.{length, getD}
 use Rattle.rules.specs.Places.{element, inside, needed, blocks, blockOf, blockAt, bytesOf, column, row, pixelAt, Alike, Beside}
-use Rattle.rules.specs.Answers.{said, accepts, overLimit, verdict, guarded}
+use Rattle.rules.specs.Answers.{said, accepts, overLimit, judged, exactChecks, verdict, guarded}
 use Rattle.rules.specs.Colour.{outOfRange}
 use Rattle.rules.specs.Formats.{sizeOf, showsOf}
 use Rattle.rules.specs.Guards.{inRange}
@@ -23,9 +23,9 @@ use Rattle.laws.proofs.Guards.{strict-sound, finds-none}
 use Rattle.laws.proofs.Paint.{getD-painted}
 use Rattle.laws.proofs.Range.{agree}
 use Rattle.place.proofs.Grid.{beyond, in-gap, roomy}
-use Rattle.checks.proofs.Checks.{passed-by}
+use Rattle.checks.proofs.Checks.{passed-exactly-by}
 use Rattle.claims.proofs.Outcomes.{Same, an-acceptance-paints}
-use Rattle.claims.proofs.Alike.{OnlyInTile, verdict-alike}
+use Rattle.claims.proofs.Alike.{OnlyInTile, none-left}
 use Rattle.claims.proofs.Guarded as guarded-claims
 use Rattle.claims.proofs.Pictures.{Empty, no-blocks, empty-passes, only-its-own-pixels, each-accepted-pixel, an-empty-picture, own-tile, only-blocks-are-read}
 
@@ -40,7 +40,7 @@ Refused = guarded-claims.Refused inRange strict-sound OutOfRange (λ n. refl)
 abbrev pub Accepted : List ℕ → Picture → List ℕ → Answer → List ℕ → Type 0
 Accepted = guarded-claims.Accepted inRange strict-sound OutOfRange (λ n. refl)
 
--- "For sizes and lengths that pass the checks", check 12 included (M-104)
+-- "For sizes and lengths that pass the checks", check 12 included (M-104), and "an exact data length" (M-107)
 module _ (d : List ℕ) (pic : Picture) (image : List ℕ) (a : Answer) (new : List ℕ) (p : ReadsStrict d pic image a new) (ok : 0 ∷ [] ≡ verdict (strictChecks pic d image)) where
   -- "refuses exactly when some block ..": where there is one, it refuses, "and it names the first such block"; nothing changes
   pub strict-refuses-and-names-the-first : (n : ℕ) → n < blocks pic → bad d n ≡ true → Refused d pic image a new
@@ -87,7 +87,7 @@ module _ (d : List ℕ) (pic : Picture) (image : List ℕ) where
     pub every-pixel-of-a-strict-picture : (x y : ℕ) → x < pic .width → y < pic .height → getD new (element pic x y) 0 ≡ showsOf Etc2Rgb (bytesOf 8 d (blockOf pic x y)) (x % 4) (y % 4)
     unfolding sizeOf
     every-pixel-of-a-strict-picture =
-        let k = passed-by 8 pic (length d) (length image) (guarded 4 (bad d) (blocks pic)) Done (p .says) refl in
+        let k = passed-exactly-by 8 pic (length d) (length image) (guarded 4 (bad d) (blocks pic)) Done (p .says) refl in
         each-accepted-pixel (showsOf Etc2Rgb) 8 pic image (strictVerdict pic d image) d Done new p refl (roomy pic (length image) (k .fits) (k .roomy))
 
     -- and one that differs from it in block n alone differs at most in that block's clipped tile
@@ -109,17 +109,21 @@ module _ (d : List ℕ) (pic : Picture) (image : List ℕ) where
     strict-keeps-the-gaps x y i j h =
         only-its-own-pixels (showsOf Etc2Rgb) 8 pic image (strictVerdict pic d image) d a new p (element pic x y) h (in-gap pic x y i j)
 
-    -- width 0 or height 0, the other and a pitch no less than the width at most 65,536, is accepted and changes nothing
-    pub strict-changes-nothing-of-an-empty-picture : Empty pic → overLimit pic ≡ false → pic .width ≤ pic .pitch → Same a Done new image
+    -- width 0 or height 0, the other and a pitch no less than the width at most 65,536, and no bytes: accepted, and nothing changes
+    pub strict-changes-nothing-of-an-empty-picture : Empty pic → overLimit pic ≡ false → pic .width ≤ pic .pitch → length d ≡ 0 → Same a Done new image
     unfolding sizeOf
-    strict-changes-nothing-of-an-empty-picture e t i =
+    strict-changes-nothing-of-an-empty-picture e t i z =
+        let then = guarded 4 (bad d) (blocks pic) in
         an-empty-picture (showsOf Etc2Rgb) 8 pic image (strictVerdict pic d image) d a new p e
-        (empty-passes 8 pic d image (guarded 4 (bad d) (blocks pic)) e t i ∙ finds-none 4 (bad d) (blocks pic) (omega (arith, no-blocks pic e)))
+        (none-left 8 pic (length d) (length image) then (omega (arith, z))
+        ∙ empty-passes 8 pic d image then e t i
+        ∙ finds-none 4 (bad d) (blocks pic) (omega (arith, no-blocks pic e)))
 
-    -- inputs that agree on the blocks of the picture have one outcome
-    pub strict-reads-no-data-beyond-the-last-block : (e : List ℕ) (b : Answer) (new' : List ℕ) → Alike 8 pic d e → ReadsStrict e pic image b new' → Same a b new new'
+    -- inputs of one length that agree on the blocks of the picture have one outcome
+    pub strict-reads-no-data-beyond-the-last-block : (e : List ℕ) (b : Answer) (new' : List ℕ) → length d ≡ length e → Alike 8 pic d e → ReadsStrict e pic image b new' → Same a b new new'
     unfolding sizeOf
-    strict-reads-no-data-beyond-the-last-block e b new' same q =
+    strict-reads-no-data-beyond-the-last-block e b new' long same q =
         only-blocks-are-read (showsOf Etc2Rgb) 8 pic image (strictVerdict pic d image) (strictVerdict pic e image) d e a b new new' p q same
-        (verdict-alike 8 pic d e same (omega arith) (length image) (guarded 4 (bad d) (blocks pic)) (guarded 4 (bad e) (blocks pic))
-        (ap (λ (n : ℕ). cond (ltb n (blocks pic)) (4 ∷ n ∷ []) (0 ∷ [])) (first-alike (bad d) (bad e) (blocks pic) (λ n l. ap outOfRange (same n l)))))
+        (ap (λ (n : ℕ). judged (exactChecks 8 pic n (length image)) (guarded 4 (bad d) (blocks pic))) long
+        ∙ ap (λ (n : ℕ). judged (exactChecks 8 pic (length e) (length image)) (cond (ltb n (blocks pic)) (4 ∷ n ∷ []) (0 ∷ [])))
+        (first-alike (bad d) (bad e) (blocks pic) (λ n l. ap outOfRange (same n l))))

@@ -1,10 +1,10 @@
 // The public list of src/etc.rs: eleven block readers, eight picture readers and strict ETC1, each of these nine with a twin that takes
 // the description with its pitch; two censuses; the readers and the writer of sheets; and the reader of a picture in pieces. None asks
 // anything of its caller. Each promises the answer and every element of what it is lent afterwards, for all inputs; what that is,
-// crates/rules/specs/Readers.antt, Census.antt, Sheets.antt and Pieces.antt say for all of them. Refusals: 1 width, height or pitch above 65,536 (of a sheet: width or height above
-// 16,384); 12 a pitch below the width; 2 too few bytes; 3 too few elements, or too little room for a sheet; 4 a block out of range, with
-// its number (strict only); 5 a channel above 3; of sheets, 7 a record cut short, 8 no head, 9 another kind, 10 not exactly the blocks. A
-// refusal changes nothing.
+// crates/rules/specs/Readers.antt, Census.antt, Sheets.antt and Pieces.antt say for all of them. Refusals: 1 width, height or pitch above
+// 65,536 (of a sheet: width or height above 16,384); 12 a pitch below the width; 2 too few bytes; 6 too many (strict only); 3 too few
+// elements, or too little room for a sheet; 4 a block out of range, with its number (strict only); 5 a channel above 3; of sheets, 7 a
+// record cut short, 8 no head, 9 another kind, 10 not exactly the blocks. A refusal changes nothing.
 use rules::Answer;
 use rules::Format;
 use rules::Picture;
@@ -201,8 +201,8 @@ pub fn decode_bc3_pitched(data: &[u8], pic: Picture, image: &mut [u32]) -> Answe
     picture::read(Format::Bc3, data, pic, image)
 }
 
-// Reads an ETC1 picture that holds no block out of range, and refuses any other with the number of the first such block. Each
-// pixel that it paints is the one that the ETC2 RGB rule gives.
+// Reads an ETC1 picture that holds no block out of range and has no bytes behind its blocks; it refuses any other, where a block is out
+// of range with the number of the first such block. Each pixel that it paints is the one that the ETC2 RGB rule gives.
 pub fn decode_etc1_strict(data: &[u8], width: usize, height: usize, image: &mut [u32]) -> Answer
     ensures { λ r. ⌜ ReadsStrict (now («data» .entry)) (sized width height) (now (image .entry)) r (now (image .exit)) ⌝ }
 {

@@ -9,9 +9,10 @@ use Rattle.numbers.specs.Numbers.{little, big}
 use Rattle.textures.specs.Textures.{oldPkm, newPkm, glFormat, laidOut}
 use Rattle.textures.specs.declared.Known.{Known}
 use Rattle.textures.specs.declared.Known.the-variants.{As, Not}
+use Rattle.textures.specs.declared.Texture.{Texture}
 use Rattle.textures.specs.declared.Header.{Header}
 use Rattle.textures.specs.declared.Header.the-variants.{Holds, TooLarge, ShortData, Cut, NoTexture}
-use Rattle.textures.specs.declared.Header.the-variants.{NoVersion, NoFormat, SizesDisagree, NotFlat, NoPixels}
+use Rattle.textures.specs.declared.Header.the-variants.{NoVersion, NoFormat, SizesDisagree, LongLevel, NotFlat, NoPixels}
 
 -- a side, made up to whole blocks
 abbrev pub padded : ℕ → ℕ
@@ -49,12 +50,18 @@ leastFirst d = eqb (big 4 12 d) 0x01020304
 unfoldable pub levelAt : List ℕ → ℕ
 levelAt d = cond (ltb (length d) 64) 0 (64 + word32 (greatestFirst d) d 60)
 
+-- the same picture in a level of n bytes
+abbrev pub inLevel : Texture → ℕ → Texture
+inLevel t n =
+    record { format = t .format; width = t .width; height = t .height; start = t .start; bytes = t .bytes; level = n }
+
 -- a picture that is laid out well, held to the size of level 0 as the file tells it in four bytes
 unfoldable pub sizeTold : Bool → List ℕ → Header → Header
 sizeTold order level (Holds t) =
     cond (ltb (length level) 4) Cut
-    (cond (not (eqb (word32 order level 0) (t .bytes))) SizesDisagree
-    (Holds t))
+    (cond (ltb (word32 order level 0) (t .bytes)) SizesDisagree
+    (cond (ltb (t .bytes) (word32 order level 0)) (LongLevel (inLevel t (word32 order level 0)))
+    (Holds (inLevel t (word32 order level 0)))))
 sizeTold order level TooLarge = TooLarge
 sizeTold order level ShortData = ShortData
 sizeTold order level Cut = Cut
@@ -62,6 +69,7 @@ sizeTold order level NoTexture = NoTexture
 sizeTold order level NoVersion = NoVersion
 sizeTold order level NoFormat = NoFormat
 sizeTold order level SizesDisagree = SizesDisagree
+sizeTold order level (LongLevel t) = LongLevel t
 sizeTold order level NotFlat = NotFlat
 sizeTold order level NoPixels = NoPixels
 

@@ -82,10 +82,23 @@ fn size_told(order: bool, level: &[u8], header: Header) -> Header
     if level.len() < 4 {
         return Header::Cut;
     }
-    if word(order, level, 0) != t.bytes {
+    let told = word(order, level, 0);
+    if told < t.bytes {
         return Header::SizesDisagree;
     }
-    header
+    let f = t.format;
+    let held = Texture {
+        format: f,
+        width: t.width,
+        height: t.height,
+        start: t.start,
+        bytes: t.bytes,
+        level: told,
+    };
+    if t.bytes < told {
+        return Header::LongLevel(held);
+    }
+    Header::Holds(held)
 }
 
 // Whether a KTX header speaks of one picture.

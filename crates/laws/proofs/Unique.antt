@@ -13,7 +13,7 @@ use denote.Enum.Declared
 use Rattle.rules.specs.Notation.{build}
 use Rattle.rules.specs.Answers.{said, accepts, Outcome}
 use Rattle.rules.specs.declared.Answer.{Answer}
-use Rattle.rules.specs.declared.Answer.the-variants.{Done, TooLarge, ShortData, ShortImage, OutOfRange, NoChannel, CutShort, NoHead, OtherKind, WrongBlocks, ShortPitch}
+use Rattle.rules.specs.declared.Answer.the-variants.{Done, TooLarge, ShortData, ShortImage, OutOfRange, NoChannel, LongData, CutShort, NoHead, OtherKind, WrongBlocks, ShortPitch}
 use Rattle.rules.proofs.Answer.{the-type}
 
 -- every answer, with the value that some of them return
@@ -25,6 +25,7 @@ answers =
     ∷ (λ n. ShortImage)
     ∷ (λ n. OutOfRange n)
     ∷ (λ n. NoChannel)
+    ∷ (λ n. LongData)
     ∷ (λ n. CutShort)
     ∷ (λ n. NoHead)
     ∷ (λ n. OtherKind)
@@ -47,6 +48,7 @@ answered ShortData = refl
 answered ShortImage = refl
 answered (OutOfRange n) = refl
 answered NoChannel = refl
+answered LongData = refl
 answered CutShort = refl
 answered NoHead = refl
 answered OtherKind = refl

@@ -6,7 +6,7 @@ use rules::Picture;
 ghost use mathlib.Core.Path.{_≡_};
 ghost use mathlib.Core.Bool.{true};
 ghost use lib.ListN.{length};
-ghost use Rattle.rules.specs.Answers.{said, accepts, pictureChecks};
+ghost use Rattle.rules.specs.Answers.{said, accepts, exactChecks};
 ghost use Rattle.rules.specs.Formats.{sizeOf};
 ghost use Rattle.rules.specs.Guards.{inRange, guardVerdict};
 ghost use Rattle.rules.specs.Readers.{pictureOf, ReadsPicture, ReadsStrict};
@@ -49,17 +49,17 @@ pub fn read(f: Format, data: &[u8], pic: Picture, image: &mut [u32]) -> Answer
 
 // The answer of the strict reader: the checks, then every block, before one is painted.
 fn strict_answer(d: &[u8], pic: Picture, elements: usize) -> Answer
-    ensures { λ r. ⌜ said r ≡ guardVerdict inRange (pictureChecks 8 pic (length (now (d .entry))) elements) pic (now (d .entry)) ⌝ }
+    ensures { λ r. ⌜ said r ≡ guardVerdict inRange (exactChecks 8 pic (length (now (d .entry))) elements) pic (now (d .entry)) ⌝ }
 {
-    let answer = checks::verify(8, pic, d.len(), elements);
+    let answer = checks::verify_exact(8, pic, d.len(), elements);
     let Answer::Done = answer else {
         return answer;
     };
     guard::out_of_range(d, checks::blocks_of(pic))
 }
 
-// Reads an ETC1 picture, or refuses it for a sum out of range and names the first such block: the answer and every element
-// of the image, for all inputs.
+// Reads an ETC1 picture, or refuses it for bytes left over, or for a sum out of range and names the first such block: the answer and
+// every element of the image, for all inputs.
 pub fn read_strict(data: &[u8], pic: Picture, image: &mut [u32]) -> Answer
     ensures { λ r. ⌜ ReadsStrict (now («data» .entry)) pic (now (image .entry)) r (now (image .exit)) ⌝ }
 {

@@ -123,27 +123,29 @@ fn largest() {
     empty(4, 4294967296, 4294967296);
 }
 
-// A long picture over fresh bytes: the answer, and how many elements changed.
-fn long(reader: usize, pic: Picture)
+// A long picture over n fresh bytes: the answer, and how many elements changed.
+fn long(reader: usize, pic: Picture, n: usize)
     requires { ⌜ reader < 12 ⌝ }
 {
     let mut data = [0u8; 262144];
     let mut image = [0x11111111u32; 65544];
     samples::fill(&mut data, reader, reader == 8);
     printing::say(b" ");
-    printing::say_answer(read(reader, &data, pic, &mut image));
+    printing::say_answer(part(reader, &data, n, pic, &mut image, 65544));
     printing::say(b"/");
     printing::say_number(printing::changed(&image, 0));
 }
 
-fn long_of(width: usize, height: usize, pitch: usize) {
+// The same with each reader, and enough for each; strict ETC1 refuses what is left over, so it is asked once more with n bytes.
+fn long_of(width: usize, height: usize, pitch: usize, n: usize) {
     let pic = pitched(width, height, pitch);
     say_size(pic);
     let mut reader: usize = 0;
     while reader < 12 {
-        long(reader, pic);
+        long(reader, pic, 262144);
         reader += 1;
     }
+    long(8, pic, n);
     printing::say(b"\n");
 }
 
@@ -219,14 +221,18 @@ fn short_data(reader: usize, pic: Picture, data: &[u8], n: usize, image: &mut [u
     printing::say_answer(part(reader, data, n - 1, pic, image, m));
 }
 
-fn short_image(reader: usize, pic: Picture, data: &[u8], image: &mut [u32], m: usize) {
+fn short_image(reader: usize, pic: Picture, data: &[u8], n: usize, image: &mut [u32], m: usize) {
     if m == 0 {
         printing::say(b" -");
         return;
     }
     printing::say(b" ");
-    let n = data.len();
     printing::say_answer(part(reader, data, n, pic, image, m - 1));
+}
+
+// The bytes that a reader is lent: those of its blocks where it wants them exactly, and else as many as there are, which it ignores.
+fn lent(reader: usize, n: usize) -> usize {
+    if reader == 8 { n } else { 144 }
 }
 
 // The elements that a picture needs.
@@ -248,22 +254,26 @@ fn fresh_case(reader: usize, width: usize, height: usize, gap: usize)
     requires { ⌜ (reader < 12) × (width < 10) × (height < 10) × (gap < 6) ⌝ }
 {
     let pic = pitched(width, height, width + gap);
+    let elements = elements_of(pic);
     let mut data = [0u8; 144];
     let mut painted = [0x11111111u32; 84];
     let mut image = [0x11111111u32; 128];
     samples::fill(&mut data, reader * 100 + width * 10 + height, reader == 8);
-    read(reader, &data, pitched(width, height, width), &mut painted);
-    short_pitch(reader, pic, &data, &mut image);
-    short_data(
+    let needed = samples::bytes_of(reader, width, height);
+    let n = lent(reader, needed);
+    part(
         reader,
-        pic,
         &data,
-        samples::bytes_of(reader, width, height),
-        &mut image,
+        n,
+        pitched(width, height, width),
+        &mut painted,
+        84,
     );
-    short_image(reader, pic, &data, &mut image, elements_of(pic));
+    short_pitch(reader, pic, &data, &mut image);
+    short_data(reader, pic, &data, needed, &mut image);
+    short_image(reader, pic, &data, n, &mut image, elements);
     printing::say(b" ");
-    printing::say_answer(read(reader, &data, pic, &mut image));
+    printing::say_answer(part(reader, &data, n, pic, &mut image, 128));
     printing::say(b"/");
     printing::say_number(wrong(&image, &painted, pic));
     printing::say(b", ");
@@ -310,9 +320,9 @@ fn widths(reader: usize)
 
 fn main() {
     largest();
-    long_of(65536, 1, 65536);
-    long_of(1, 65536, 1);
-    long_of(4, 2, 65536);
+    long_of(65536, 1, 65536, 131072);
+    long_of(1, 65536, 1, 131072);
+    long_of(4, 2, 65536, 8);
     let mut reader: usize = 0;
     while reader < 12 {
         widths(reader);

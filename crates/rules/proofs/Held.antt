@@ -1,5 +1,6 @@
 -- The test of all specimens, which antt computes over the very definitions that the readers promise; and that these are what
--- they promise. Document 01's rows are in Specimens.antt, those of M-104 in Pitches.antt, those of other decoders in Recorded.antt.
+-- they promise. Document 01's rows are in Specimens.antt, those of M-104 in Pitches.antt, those of M-107 in
+-- Leftovers.antt, those of other decoders in Recorded.antt.
 -- Assumes nothing.
 use mathlib.Core.Bool.{Bool, true, false, cond, not, _&&_}
 use mathlib.Core.List.{List, [], _∷_, _++_}
@@ -10,7 +11,7 @@ use lib.IntN.{pos}
 use Rattle.rules.specs.Notation.{minus, modulo}
 use Rattle.rules.specs.Pixel.{alphaOf, redOf, greenOf, blueOf}
 use Rattle.rules.specs.Places.{sized, pitched, element, needed, inside, bytesOf, bytesFrom, inTile, tile, pixelAt, painted}
-use Rattle.rules.specs.Answers.{said, left, firstOf}
+use Rattle.rules.specs.Answers.{said, Check, left, firstOf}
 use Rattle.rules.specs.Colour.{differential, wrapped, kindBySums, outOfRange}
 use Rattle.rules.specs.Modes.{tBases, tDistance, hBases, notLess, hDistance, planarBases, planarChannel, indexed}
 use Rattle.rules.specs.Modes.{rgbPixel, rgba1Pixel, etc1Pixel}
@@ -18,15 +19,16 @@ use Rattle.rules.specs.Channels.{alphaStep, alphaByte, rgba8Pixel, eacVa
 use Rattle.numbers.specs.Numbers.{little}
 use Rattle.rules.specs.Desktop.{bc1Pixel, bc3Alpha, bc3Pixel}
 use Rattle.rules.specs.Formats.{sizeOf, showsOf}
-use Rattle.rules.specs.Readers.{pictureOf, pictureVerdict, ReadsPicture, strictVerdict, ReadsStrict}
+use Rattle.rules.specs.Readers.{pictureOf, pictureVerdict, ReadsPicture, strictChecks, strictVerdict, ReadsStrict}
 use Rattle.rules.specs.Readers.{blockVerdict, blockPainted, ReadsBlock, alphaPainted, ReadsAlpha, channelVerdict, channelPainted, ReadsChannel}
 use Rattle.rules.specs.Readers.{replacedPainted, ReplacesChannel}
 use Rattle.rules.specs.declared.Answer.{Answer}
-use Rattle.rules.specs.declared.Answer.the-variants.{Done, TooLarge, ShortData, ShortImage, OutOfRange, NoChannel, ShortPitch}
+use Rattle.rules.specs.declared.Answer.the-variants.{Done, TooLarge, ShortData, ShortImage, OutOfRange, NoChannel, LongData, ShortPitch}
 use Rattle.rules.specs.declared.Format.the-variants.{Etc2Rgb}
 use Rattle.rules.proofs.Rows.{Reader, picture, strict, padded, paddedStrict, block, alphaHalf, channel, alphaInto, Row, caseOf, bytes, same}
 use Rattle.rules.proofs.Specimens.{rows, columns, bench, table}
 use Rattle.rules.proofs.Pitches.{pitches}
+use Rattle.rules.proofs.Leftovers.{leftovers}
 use Rattle.rules.proofs.Recorded.{recorded}
 
 -- what a reader says of the bytes and the image that it is lent, and what it would paint
@@ -112,7 +114,16 @@ numbers =
     && same (said ShortImage) (3 ∷ [])
     && same (said (OutOfRange 7)) (4 ∷ 7 ∷ [])
     && same (said NoChannel) (5 ∷ [])
+    && same (said LongData) (6 ∷ [])
     && same (said ShortPitch) (12 ∷ [])
+
+-- the order in which strict ETC1 tests: no row can tell 2 and 6 apart, which are never both due
+numbersOf : List Check → List ℕ
+numbersOf [] = []
+numbersOf (c ∷ cs) = c .number ∷ numbersOf cs
+
+tested : Bool
+tested = same (numbersOf (strictChecks (sized 1 1) [] [])) (1 ∷ 12 ∷ 2 ∷ 6 ∷ 3 ∷ [])
 
 -- the places 0 .. n - 1 at which a test holds
 marked : (ℕ → Bool) → ℕ → List ℕ
@@ -162,8 +173,8 @@ orders =
     && notLess (5 ∷ 3 ∷ 9 ∷ []) (5 ∷ 2 ∷ 1 ∷ [])
     && notLess (5 ∷ 3 ∷ 9 ∷ []) (4 ∷ 2 ∷ 1 ∷ [])
 
-hold : T (numbers && words && orders && places && every (bench ++ recorded ++ table ++ pitches))
-unfolding numbers words orders places every bench table pitches recorded verdictOf paints leaves holds marked needed painted
+hold : T (numbers && tested && words && orders && places && every (bench ++ recorded ++ table ++ pitches ++ leftovers))
+unfolding numbers numbersOf tested words orders places every bench table pitches leftovers recorded verdictOf paints leaves holds marked needed painted
     firstOf differential wrapped kindBySums outOfRange tBases tDistance hBases hDistance planarBases planarChannel indexed
     rgbPixel rgba1Pixel etc1Pixel alphaStep alphaByte rgba8Pixel eacValue eacByte redPixel redGreenPixel sizeOf showsOf
     little bc1Pixel bc3Alpha bc3Pixel

@@ -29,8 +29,9 @@ pictures =
     (nine ++ nine ++ nine ++ nine ++ (replicate 4 0xFF020202 ++ (0xFF860202 ∷ []))) 0
     ∷ shows (padded Etc2Rgb 7) 4 2 (0x000004020000003F ∷ []) (replicate 4 0xFF000000 ++ replicate 3 0x11111111 ++ replicate 4 0xFF000040) 1
     ∷ shows (paddedStrict 6) 4 2 (0xF800000200000000 ∷ []) (replicate 4 0xFFFF0202 ++ gap ++ replicate 4 0xFFFF0202) 0
-    -- the gap is no pixel of a fifth column: a second block, were there one, would be refused
-    ∷ shows (paddedStrict 5) 4 1 (0xF800000200000000 ∷ 0x0400000200000000 ∷ []) (replicate 4 0xFFFF0202) 1
+    -- the gap is no pixel of a fifth column: a second block is left over, and was not asked for
+    ∷ refuses (paddedStrict 5) 4 1 (0xF800000200000000 ∷ 0x0400000200000000 ∷ []) 4 (6 ∷ [])
+    ∷ shows (paddedStrict 5) 4 1 (0xF800000200000000 ∷ []) (replicate 4 0xFFFF0202) 1
     ∷ refuses (paddedStrict 7) 5 1 (0xF800000200000000 ∷ 0x0400000200000000 ∷ []) 5 (4 ∷ 1 ∷ [])
     ∷ []
 

@@ -401,17 +401,25 @@ recorded =
     49 (4 ∷ 1 ∷ [])
     -- strict: the last of the picture
     ∷ refuses (strict) 9 4
-    (0xF49ADF21_10D4928B ∷ 0xE68FF12F_7FDA2430 ∷ 0x8E9315F7_249F266F ∷ 0xFA7653AE_EE3D6DAC ∷ [])
+    (0xF49ADF21_10D4928B ∷ 0xE68FF12F_7FDA2430 ∷ 0x8E9315F7_249F266F ∷ [])
     37 (4 ∷ 2 ∷ [])
-    -- strict: out of range behind the picture
-    ∷ packed (strict) 8 4
+    -- strict: a block left over behind an accepted picture
+    ∷ refuses (strict) 8 4
     (0x455D70B6_243BEAE0 ∷ 0xA4E35DED_EC25260B ∷ 0x1CC6CBCE_9130D8BA ∷ [])
+    33 (6 ∷ [])
+    -- strict: the same picture without it
+    ∷ packed (strict) 8 4
+    (0x455D70B6_243BEAE0 ∷ 0xA4E35DED_EC25260B ∷ [])
     8
     (0xFF2A425B_FF2A425B_FF415A8B_FF415A8B_FF003700_FFD9FF84_FFD9FF84_FFD9FF84
     ∷ 0xFF2A425B_FF000A23_FF7992C3_FF000023_FFFFFFFF_FF7BBF26_FFFFFFFF_FF003700
     ∷ 0xFF5A728B_FF92AAC3_FF112A5B_FF7992C3_FF3726D0_FF5140EA_FF1A09B3_FF3726D0
     ∷ 0xFF2A425B_FF92AAC3_FF7992C3_FF7992C3_FF6E5DFF_FF5140EA_FF3726D0_FF3726D0 ∷ [])
     1
+    -- strict: a block left over behind a refused picture
+    ∷ refuses (strict) 9 4
+    (0xF49ADF21_10D4928B ∷ 0xE68FF12F_7FDA2430 ∷ 0x8E9315F7_249F266F ∷ 0xFA7653AE_EE3D6DAC ∷ [])
+    37 (6 ∷ [])
     -- strict: individual, whatever the sums are
     ∷ packed (strict) 12 2
     (0xF3A1C55C_82B30D8A ∷ 0xB807D411_38EA9BEA ∷ 0xEC8FFAB1_B962F96E ∷ [])

@@ -9,7 +9,7 @@ use lib.ListN.{getD}
 use Rattle.rules.specs.Places.{needed, blocks}
 use Rattle.rules.specs.declared.Picture.{Picture}
 use Rattle.rules.specs.declared.Answer.{Answer}
-use Rattle.rules.specs.declared.Answer.the-variants.{Done, TooLarge, ShortData, ShortImage, OutOfRange, NoChannel}
+use Rattle.rules.specs.declared.Answer.the-variants.{Done, TooLarge, ShortData, ShortImage, OutOfRange, NoChannel, LongData}
 use Rattle.rules.specs.declared.Answer.the-variants.{CutShort, NoHead, OtherKind, WrongBlocks, ShortPitch}
 
 -- the table of refusals: the number of each, and what it "also returns"
@@ -20,6 +20,7 @@ said ShortData = 2 ∷ []
 said ShortImage = 3 ∷ []
 said (OutOfRange n) = 4 ∷ n ∷ []
 said NoChannel = 5 ∷ []
+said LongData = 6 ∷ []
 said CutShort = 7 ∷ []
 said NoHead = 8 ∷ []
 said OtherKind = 9 ∷ []
@@ -81,6 +82,20 @@ channelCheck channel = refusal 5 (ltb 3 channel)
 abbrev pub pictureChecks : ℕ → Picture → ℕ → ℕ → List Check
 pictureChecks s p bytes elements =
     limitCheck p ∷ pitchCheck p ∷ dataCheck (blocks p * s) bytes ∷ imageCheck (needed p) elements ∷ []
+
+-- "the strict reader refuses with 6 when there are more bytes than the blocks need" (M-107)
+abbrev pub leftoverCheck : ℕ → ℕ → Check
+leftoverCheck needed bytes = refusal 6 (ltb needed bytes)
+
+-- those four, and 6, "tested after 2 and before 3" (M-107): of a reader that wants "an exact data length"
+abbrev pub exactChecks : ℕ → Picture → ℕ → ℕ → List Check
+exactChecks s p bytes elements =
+    limitCheck p
+    ∷ pitchCheck p
+    ∷ dataCheck (blocks p * s) bytes
+    ∷ leftoverCheck (blocks p * s) bytes
+    ∷ imageCheck (needed p) elements
+    ∷ []
 
 -- the verdict of a reader that has nothing more to check
 abbrev pub verdict : List Check → List ℕ

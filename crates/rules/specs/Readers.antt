@@ -7,7 +7,7 @@ use lib.Dec.{ltb}
 use lib.ListN.{length, getD}
 use Rattle.rules.specs.Pixel.{Shows}
 use Rattle.rules.specs.Places.{bytesOf, painted, pictureBy}
-use Rattle.rules.specs.Answers.{Check, verdict, pictureChecks, blockChecks, channelChecks, Outcome}
+use Rattle.rules.specs.Answers.{Check, verdict, pictureChecks, exactChecks, blockChecks, channelChecks, Outcome}
 use Rattle.rules.specs.Channels.{withAlpha, alphaByte, eacByte, orChannel}
 use Rattle.rules.specs.Desktop.{bc3Alpha, replaced}
 use Rattle.rules.specs.Formats.{sizeOf, showsOf}
@@ -34,9 +34,9 @@ abbrev pub ReadsGuarded : Guard → List Check → List ℕ → Picture → List
 ReadsGuarded g checks d p image answer new =
     Outcome (guardVerdict g checks p d) (pictureOf (g .shown) p d image) answer image new
 
--- strict ETC1, "1, 2, 3, 4 in that order", with 12 after 1 (M-104)
+-- strict ETC1, "1, 2, 3, 4 in that order", with 12 after 1 (M-104) and 6 after 2 (M-107)
 abbrev pub strictChecks : Picture → List ℕ → List ℕ → List Check
-strictChecks p d image = pictureChecks 8 p (length d) (length image)
+strictChecks p d image = exactChecks 8 p (length d) (length image)
 
 abbrev pub strictVerdict : Picture → List ℕ → List ℕ → List ℕ
 strictVerdict p d image = guardVerdict inRange (strictChecks p d image) p d

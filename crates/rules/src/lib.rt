@@ -33,6 +33,8 @@ pub enum Answer {
     // with the number of the first such block
     OutOfRange(usize),
     NoChannel,
+    // of a strict reader: more bytes than the blocks need
+    LongData,
     // of a sheet: a record is cut short, or there are no bytes at all
     CutShort,
     // the first record is no head

@@ -1,7 +1,7 @@
 -- What the scan of a row comes to, and what the rows that were scanned come to, one after another.
 -- Assumes nothing.
 use mathlib.Core.Path.{_≡_, _∙_, refl, sym, ap}
-use mathlib.Core.Bool.{Bool, false}
+use mathlib.Core.Bool.{Bool, true, false}
 use mathlib.Core.Logic.{_⊎_, inl, inr, ⊎-elim}
 use mathlib.Core.List.{List, [], _∷_, _++_}
 use Prim.Native.Nat.{ℕ, suc, _+_, _*_, _<_, _≤_}
@@ -15,14 +15,15 @@ use lib.Seq.{length-take-le}
 use Rattle.rules.specs.Places.{sized, across, blocks, bytesOf}
 use Rattle.rules.specs.Answers.{said, accepts, firstOf, guarded}
 use Rattle.rules.specs.Colour.{outOfRange}
-use Rattle.rules.specs.declared.Picture.{Picture}
 use Rattle.rules.specs.declared.Answer.{Answer}
 use Rattle.rules.specs.declared.Answer.the-variants.{Done, ShortData, OutOfRange}
+use Rattle.laws.proofs.Guards.{finds, finds-none}
 use Rattle.place.proofs.Grid.{wide}
 use Rattle.textures.specs.Textures.{fileLimit}
+use Rattle.textures.specs.declared.Texture.{Texture}
 use Rattle.strips.specs.Rows.{scanned, firstIn, scannedRow}
 use Rattle.strips.proofs.Strict.{after-row, settled}
-use Rattle.scan.specs.Scan.{numberOf, ScansRow, Scans, Checked}
+use Rattle.scan.specs.Scan.{isColour, numberOf, ScansRow, Scans, Looked, Judges}
 
 -- ---- a row
 
@@ -135,13 +136,58 @@ placed w h i a b s =
     mul-le-mul x y in
     (wide (across w) (across h) i (omega (arith, mul-comm (across w) (across h))), omega arith)
 
--- a picture that was not scanned is neither accepted nor refused
-pub not-scanned : (p : Picture) (k r : ℕ) → r ≡ k → (k ≡ 0 → ⊥) → (k ≡ 4 → ⊥) → (r ≡ 0 → Checked p r) × (r ≡ 4 → Checked p r)
-not-scanned p k r e a b = (λ q. absurd (a (sym e ∙ q)), λ q. absurd (b (sym e ∙ q)))
+-- a picture of which no strict reader is asked is neither accepted nor refused by one
+pub not-asked : (t : Texture) (k r : ℕ) → r ≡ k → (k ≡ 0 → ⊥) → (k ≡ 4 → ⊥) → (k ≡ 6 → ⊥)
+    → (isColour (t .format) ≡ true → t .width ≤ fileLimit → t .height ≤ fileLimit → ⊥)
+    → Judges t r
+not-asked t k r e a b s why =
+    record {
+      accepts = λ q. absurd (a (sym e ∙ q));
+      names = λ q. absurd (b (sym e ∙ q));
+      only-then = λ q. absurd (s (sym e ∙ q));
+      then-always = λ f w h l. absurd (why f w h);
+    }
+
+-- one with bytes left over is refused with 6
+pub left-over : (t : Texture) (r : ℕ) → r ≡ 6 → t .bytes < t .level → Judges t r
+left-over t r e l =
+    record {
+      accepts = λ q. absurd (omega (arith, e, q));
+      names = λ q. absurd (omega (arith, e, q));
+      only-then = λ q. l;
+      then-always = λ f w h m. e;
+    }
+
+-- what a scan says is never 6
+not-six : (test : ℕ → Bool) (n : ℕ) (answer : Answer) → said answer ≡ guarded 4 test n → numberOf answer ≡ 6 → ⊥
+not-six test n answer e q =
+    elim (decLt (firstOf test n) n) [
+      | yes h ↦
+          let z : numberOf answer ≡ 4 = ap (λ (l : List ℕ). getD l 0 0) (e ∙ finds 4 test n h) in
+          omega (arith, q)
+      | no h ↦
+          let z : numberOf answer ≡ 0 = ap (λ (l : List ℕ). getD l 0 0) (e ∙ finds-none 4 test n (omega (arith, h))) in
+          omega (arith, q)
+    ]
 
 -- and one that was scanned has its own number
-pub spoken : (p : Picture) (answer : Answer) (r : ℕ) → r ≡ numberOf answer → Scans p answer → (r ≡ 0 → Checked p r) × (r ≡ 4 → Checked p r)
-spoken p answer r e s =
-    ⊎-elim (λ q. not-scanned p 2 r (e ∙ ap numberOf q) (λ z. omega (arith, z)) (λ z. omega (arith, z)))
-    (λ q. (λ z. record { answer = answer; is = e; strict = q }, λ z. record { answer = answer; is = e; strict = q }))
+pub spoken : (t : Texture) (answer : Answer) (r : ℕ) → r ≡ numberOf answer → t .level ≤ t .bytes → Scans (sized (t .width) (t .height)) answer → Judges t r
+spoken t answer r e none s =
+    ⊎-elim
+    (λ q.
+    let short : r ≡ 2 = e ∙ ap numberOf q in
+    record {
+      accepts = λ z. absurd (omega (arith, short, z));
+      names = λ z. absurd (omega (arith, short, z));
+      only-then = λ z. absurd (omega (arith, short, z));
+      then-always = λ f w h l. absurd (omega (arith, none, l));
+    })
+    (λ q.
+    let looked : Looked t r = record { none-left = none; checked = record { answer = answer; is = e; strict = q } } in
+    record {
+      accepts = λ z. looked;
+      names = λ z. looked;
+      only-then = λ z. absurd (not-six _ _ answer (q .says) (sym e ∙ z));
+      then-always = λ f w h l. absurd (omega (arith, none, l));
+    })
     s

@@ -4,15 +4,17 @@ use mathlib.Core.Path.{_≡_}
 use mathlib.Core.Bool.{Bool, true, false}
 use mathlib.Core.Logic.{_⊎_}
 use mathlib.Core.List.{List}
-use Prim.Native.Nat.{ℕ, _*_}
+use Prim.Native.Nat.{ℕ, _*_, _<_, _≤_}
 use lib.ListN.{take, getD}
-use Rattle.rules.specs.Places.{blocks}
+use Rattle.rules.specs.Places.{sized, blocks}
 use Rattle.rules.specs.Answers.{said}
 use Rattle.rules.specs.declared.Picture.{Picture}
 use Rattle.rules.specs.declared.Answer.{Answer}
 use Rattle.rules.specs.declared.Answer.the-variants.{ShortData}
 use Rattle.rules.specs.declared.Format.{Format}
 use Rattle.rules.specs.declared.Format.the-variants.{Etc1, Etc2Rgb, Etc2Rgba1, Etc2Rgba8, EacR, EacRSigned, EacRg, EacRgSigned, Bc1, Bc1Alpha, Bc3}
+use Rattle.textures.specs.Textures.{fileLimit}
+use Rattle.textures.specs.declared.Texture.{Texture}
 use Rattle.strips.specs.Rows.{scanned, scannedRow}
 
 -- the formats whose blocks an ETC1 reader may be handed
@@ -51,3 +53,16 @@ pub record Checked (p : Picture) (number : ℕ) : Type 0 where
   pub answer : Answer
   pub is : number ≡ numberOf answer
   pub strict : Scanned p answer
+
+-- that number, of a level with no byte behind its blocks
+pub record Looked (t : Texture) (number : ℕ) : Type 0 where
+  pub none-left : t .level ≤ t .bytes
+  pub checked : Checked (sized (t .width) (t .height)) number
+
+-- What `--check` answers of a texture: it accepts, or names a block, only as a strict reader does, and only where nothing is left over; and it
+-- answers 6 exactly where something is, once the format and the size are such that a strict reader is asked.
+pub record Judges (t : Texture) (number : ℕ) : Type 0 where
+  pub accepts : number ≡ 0 → Looked t number
+  pub names : number ≡ 4 → Looked t number
+  pub only-then : number ≡ 6 → t .bytes < t .level
+  pub then-always : isColour (t .format) ≡ true → t .width ≤ fileLimit → t .height ≤ fileLimit → t .bytes < t .level → number ≡ 6

@@ -1,5 +1,6 @@
-// Whether a strict ETC1 reader accepts a picture, row of blocks by row of blocks. What is said follows from the bytes of each
-// row by functions whose contracts are equations; reading them and writing the words is all that no contract speaks of.
+// Whether a strict ETC1 reader accepts a picture: its level has no bytes left over, and then its blocks, row of blocks by row of blocks.
+// What is said follows from the bytes of each row by functions whose contracts are equations; reading them and writing the words is all
+// that no contract speaks of.
 use rules::Answer;
 use rules::Format;
 use textures::Texture;
@@ -10,7 +11,7 @@ ghost use Rattle.rules.specs.Places.{sized};
 ghost use Rattle.rules.specs.Answers.{said};
 ghost use Rattle.textures.specs.Textures.{fileLimit};
 ghost use Rattle.strips.specs.Rows.{scannedRow};
-ghost use Rattle.scan.specs.Scan.{isColour, numberOf, ScansRow, Scans, Checked};
+ghost use Rattle.scan.specs.Scan.{isColour, numberOf, ScansRow, Scans, Judges};
 
 // What a strict reader says of all blocks up to row j of n blocks, from the bytes of that row, where it had nothing to say
 // before.
@@ -106,7 +107,7 @@ fn refused(number: u64) -> u64
 // Says whether a strict ETC1 reader accepts the picture of a file whose next byte is that of its first block, and answers the
 // number of that.
 pub fn picture(fd: i32, t: Texture) -> u64
-    ensures { λ r. ⌜ ((r ≡ 0 → Checked (sized (t .width) (t .height)) r) × (r ≡ 4 → Checked (sized (t .width) (t .height)) r)) ⌝ }
+    ensures { λ r. ⌜ Judges t r ⌝ }
 {
     let f = t.format;
     if !is_colour(f) {
@@ -117,6 +118,9 @@ pub fn picture(fd: i32, t: Texture) -> u64
     }
     if 16384 < t.height {
         return refused(words::TOO_LARGE);
+    }
+    if t.bytes < t.level {
+        return refused(words::LONG_DATA);
     }
     let answer = scan_rows(fd, t.width, t.height);
     say(answer, t.width, t.height);

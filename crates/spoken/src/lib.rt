@@ -15,6 +15,7 @@ pub fn number(answer: Answer) -> u32
         Answer::ShortImage => 3,
         Answer::OutOfRange(_) => 4,
         Answer::NoChannel => 5,
+        Answer::LongData => 6,
         Answer::CutShort => 7,
         Answer::NoHead => 8,
         Answer::OtherKind => 9,

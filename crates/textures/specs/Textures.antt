@@ -2,7 +2,7 @@
 -- Assumes nothing.
 use mathlib.Core.Bool.{cond}
 use mathlib.Core.List.{List, [], _∷_}
-use Prim.Native.Nat.{ℕ, _+_, _*_}
+use Prim.Native.Nat.{ℕ, _+_, _-_, _*_}
 use lib.Dec.{eqb, ltb}
 use Rattle.rules.specs.Places.{sized, blocks}
 use Rattle.rules.specs.Answers.{tooLarge}
@@ -13,7 +13,7 @@ use Rattle.textures.specs.declared.Known.{Known}
 use Rattle.textures.specs.declared.Known.the-variants.{As, Not}
 use Rattle.textures.specs.declared.Header.{Header}
 use Rattle.textures.specs.declared.Header.the-variants.{Holds, TooLarge, ShortData, Cut, NoTexture}
-use Rattle.textures.specs.declared.Header.the-variants.{NoVersion, NoFormat, SizesDisagree, NotFlat, NoPixels}
+use Rattle.textures.specs.declared.Header.the-variants.{NoVersion, NoFormat, SizesDisagree, LongLevel, NotFlat, NoPixels}
 
 -- the number of each answer: document 01's where it has one, and from 20 on for files
 abbrev pub numberOf : Header → ℕ
@@ -25,6 +25,7 @@ numberOf NoTexture = 21
 numberOf NoVersion = 22
 numberOf NoFormat = 23
 numberOf SizesDisagree = 24
+numberOf (LongLevel t) = 24
 numberOf NotFlat = 25
 numberOf NoPixels = 26
 
@@ -96,11 +97,11 @@ bytesFor f w h = blocks (sized w h) * sizeOf f
 abbrev pub fileLimit : ℕ
 fileLimit = 16384
 
--- a picture of format f, w by h pixels, whose blocks start at byte start of a file of so many bytes
+-- a picture of format f, w by h pixels, whose blocks start at byte start of a file of so many bytes; its level goes to the file's end
 unfoldable pub laidOut : Format → ℕ → ℕ → ℕ → ℕ → Header
 laidOut f w h start len =
     cond (eqb w 0) NoPixels
     (cond (eqb h 0) NoPixels
     (cond (tooLarge fileLimit (sized w h)) TooLarge
     (cond (ltb len (start + bytesFor f w h)) ShortData
-    (Holds (record { format = f; width = w; height = h; start = start; bytes = bytesFor f w h })))))
+    (Holds (record { format = f; width = w; height = h; start = start; bytes = bytesFor f w h; level = len - start })))))

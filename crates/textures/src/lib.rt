@@ -11,13 +11,15 @@ pub enum Known {
     Not,
 }
 
-// What a file holds: a picture of this format and size, whose blocks start at this byte and are so many bytes.
+// What a file holds: a picture of this format and size, whose blocks start at this byte and are so many bytes, in a level of so many
+// bytes from there on.
 pub struct Texture {
     pub format: Format,
     pub width: usize,
     pub height: usize,
     pub start: usize,
     pub bytes: usize,
+    pub level: usize,
 }
 
 // What a header tells. The number of each refusal is `numberOf`, in specs/Textures.antt.
@@ -37,6 +39,8 @@ pub enum Header {
     NoFormat,
     // sizes that contradict each other
     SizesDisagree,
+    // the same, where the level is told to have more bytes than the blocks need
+    LongLevel(Texture),
     // a volume, an array or the faces of a cube
     NotFlat,
     // a side of 0, which a PNG cannot have
@@ -120,12 +124,14 @@ pub fn laid_out(f: Format, width: usize, height: usize, start: usize, len: usize
     if len < start + bytes {
         return Header::ShortData;
     }
+    let level = len - start;
     Header::Holds(Texture {
         format: f,
         width: width,
         height: height,
         start: start,
         bytes: bytes,
+        level: level,
     })
 }
 

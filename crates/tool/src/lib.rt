@@ -6,6 +6,7 @@ mod source;
 use call::Asked;
 use source::Source;
 use textures::Header;
+use textures::Texture;
 
 // Says what a header tells against a picture, and the number of that.
 fn refused(header: Header) -> u64 {
@@ -24,17 +25,23 @@ fn info(source: Source) -> u64 {
     0
 }
 
-// `--check FILE`: whether a strict ETC1 reader accepts the picture.
-fn checked(source: Source) -> u64 {
-    let told = source.header;
-    let Header::Holds(t) = told else {
-        return refused(told);
-    };
-    if !source::seek(source.fd, t.start) {
+// Whether a strict ETC1 reader accepts a picture of a file.
+fn scanned(fd: i32, t: Texture) -> u64 {
+    if !source::seek(fd, t.start) {
         words::refusal(words::NO_FILE);
         return words::NO_FILE;
     }
-    scan::picture(source.fd, t)
+    scan::picture(fd, t)
+}
+
+// `--check FILE`: whether a strict ETC1 reader accepts the picture. That a level is too long is for it to say.
+fn checked(source: Source) -> u64 {
+    let told = source.header;
+    match told {
+        Header::Holds(t) => scanned(source.fd, t),
+        Header::LongLevel(t) => scanned(source.fd, t),
+        _ => refused(told),
+    }
 }
 
 // Writes the picture of a source to the PNG that an argument names.

@@ -11,6 +11,8 @@ ghost use Rattle.textures.specs.Textures.{numberOf};
 // The refusals of the tool that no header tells: a number stands here and beside its sentence, in `own_refusal`, and nowhere else.
 pub const TOO_LARGE: u64 = 1;
 
+pub const LONG_DATA: u64 = 6;
+
 pub const NO_COLOUR: u64 = 27;
 
 pub const NO_FILE: u64 = 30;
@@ -32,6 +34,7 @@ pub fn number_of(header: Header) -> u64
         Header::NoVersion => 22,
         Header::NoFormat => 23,
         Header::SizesDisagree => 24,
+        Header::LongLevel(_) => 24,
         Header::NotFlat => 25,
         Header::NoPixels => 26,
     }
@@ -71,6 +74,9 @@ fn own_refusal(number: u64) {
     match number {
         1 => complain(b"The picture is wider or higher than 16,384 pixels."),
         2 => complain(b"The file has fewer bytes than its blocks need."),
+        6 => complain(
+            b"A strict ETC1 reader must not show this picture: its level has more bytes than its blocks need.",
+        ),
         27 => complain(
             b"The picture is no ETC1 or ETC2 RGB picture, so an ETC1 reader has nothing to accept.",
         ),
@@ -160,7 +166,11 @@ pub fn progress(row: usize, rows: usize) {
 fn usage() {
     tell(b"unpack FILE OUT.png                        a PKM or KTX 1 file to a PNG\n");
     tell(b"unpack --raw FORMAT WIDTH HEIGHT FILE OUT.png   the same of bare blocks\n");
-    tell(b"unpack --check FILE     whether a strict ETC1 reader accepts the picture\n");
+    tell(
+        b"unpack --check FILE     whether a strict ETC1 reader accepts the picture: it looks at\n",
+    );
+    tell(b"                        every block of level 0, and at how many bytes that level has\n");
+    tell(b"                        (a PKM file up to its end, a KTX file as many as it tells)\n");
     tell(b"unpack --info FILE      format, size and blocks\n");
     tell(b"unpack --help           this\n\n");
 }
@@ -172,8 +182,9 @@ pub fn help() {
         b"FORMAT is etc1, etc2-rgb, etc2-rgba1, etc2-rgba8, eac-r, eac-r-signed,\neac-rg or eac-rg-signed.\n\n",
     );
     tell(b"Results go to standard output, refusals to standard error. The exit status is 0,\n");
-    tell(b"or the number of the refusal: 1 too large, 2 too few bytes, 4 not for a strict\n");
-    tell(b"ETC1 reader, 20 to 27 the file's header, 30 the file, 31 the PNG, 32 the call.\n");
+    tell(b"or the number of the refusal: 1 too large, 2 too few bytes, 4 a block or 6 too many\n");
+    tell(b"bytes for a strict ETC1 reader, 20 to 27 the file's header, 30 the file, 31 the PNG,\n");
+    tell(b"32 the call.\n");
     tell(b"A refusal leaves no PNG behind.\n");
 }
 

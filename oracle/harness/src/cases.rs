@@ -110,6 +110,9 @@ pub fn plan(reader: u32, seed: u64, blocks: usize) -> Vec<Shape> {
         plan.single_byte_pictures();
         // Most pictures of other fills are refused, so there are more of those that pass.
         plan.in_range_pictures(blocks);
+        for (width, height) in small_sizes().chain(LARGE) {
+            plan.leftovers(width, height, None);
+        }
     }
     plan.shapes
 }
@@ -186,6 +189,7 @@ pub fn pitched_plan(reader: u32, seed: u64, blocks: usize) -> Vec<Shape> {
         if gap < width {
             plan.gapped(width, height, width - 1 - gap, 0, 9, fill);
         }
+        plan.leftovers(width, height, Some(width + gap));
     }
     for (width, height, pitch) in PITCH_LARGE {
         plan.rows_with_gaps(width, height, pitch, fill);
@@ -228,6 +232,9 @@ pub fn stored_pitched_plan(reader: u32, seed: u64) -> Vec<Shape> {
     for (width, height, pitch) in PITCH_LIMITS {
         plan.add((width, height), (8, 2), pitch, Fill::Random);
     }
+    for (width, height) in STORED {
+        plan.leftovers(width, height, Some(width + 2));
+    }
     plan.with_a_pitch()
 }
 
@@ -253,6 +260,9 @@ pub fn stored_plan(reader: u32, seed: u64) -> Vec<Shape> {
         plan.add(size, (8, 2), 0, Fill::Random);
     }
     plan.stored_modes();
+    for (width, height) in STORED {
+        plan.leftovers(width, height, None);
+    }
     plan.shapes
 }
 
@@ -303,10 +313,15 @@ impl Plan {
         self.shapes.push(Shape { reader: self.reader, channel, width, height, data, image, fill, seed });
     }
 
+    // How far the data of a picture differ from the length needed: strict ETC1 refuses what is left over, so it has `leftovers`.
+    fn length(&self, needed: usize, data: isize) -> usize {
+        needed.saturating_add_signed(if self.reader == STRICT { data.min(0) } else { data })
+    }
+
     // A picture whose lengths differ by so much from the ones needed.
     fn picture(&mut self, width: u32, height: u32, data: isize, image: isize, fill: Fill) {
         let (bytes, elements) = needed(self.reader, width, height);
-        let lengths = (bytes.saturating_add_signed(data), elements.saturating_add_signed(image));
+        let lengths = (self.length(bytes, data), elements.saturating_add_signed(image));
         self.add((width, height), lengths, 0, fill);
     }
 
@@ -314,8 +329,23 @@ impl Plan {
     fn gapped(&mut self, width: u32, height: u32, pitch: u32, data: isize, image: isize, fill: Fill) {
         let bytes = needed(self.reader, width, height).0;
         let elements = pitched::needed(width, height, pitch);
-        let lengths = (bytes.saturating_add_signed(data), elements.saturating_add_signed(image));
+        let lengths = (self.length(bytes, data), elements.saturating_add_signed(image));
         self.add((width, height), lengths, pitch, fill);
+    }
+
+    // Strict ETC1 with bytes behind its blocks: one, a block of them, and as many again, as in a file of 16-byte blocks; in range and
+    // not, with an image that is just enough and one that is short.
+    fn leftovers(&mut self, width: u32, height: u32, pitch: Option<u32>) {
+        if self.reader != STRICT {
+            return;
+        }
+        let (bytes, plain) = needed(self.reader, width, height);
+        let elements = pitch.map_or(plain, |pitch| pitched::needed(width, height, pitch));
+        for more in [1, 8, bytes] {
+            for (image, fill) in [(elements, Fill::InRange(None)), (elements, Fill::Edges), (elements / 2, Fill::InRange(None))] {
+                self.add((width, height), (bytes + more, image), pitch.unwrap_or(0), fill);
+            }
+        }
     }
 
     // Just enough, more, and short by one.

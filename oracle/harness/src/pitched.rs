@@ -5,7 +5,7 @@
 use crate::expected::{expected as plain_expected, Expected};
 use crate::protocol::{Answer, Case};
 use crate::readers::{block_size, plain, STRICT};
-use crate::rules::{blocks, first_new, LIMIT};
+use crate::rules::{blocks, first_new, has_leftovers, LIMIT};
 
 /// The pitch stands where other readers have a channel.
 pub fn pitch(case: &Case) -> usize {
@@ -31,6 +31,9 @@ pub fn verdict(case: &Case) -> (u32, u32) {
     }
     if case.data.len() < blocks(case) * block_size(case.reader) {
         return (2, 0);
+    }
+    if has_leftovers(case) {
+        return (6, 0);
     }
     if case.image.len() < needed(width, height, pitch) {
         return (3, 0);

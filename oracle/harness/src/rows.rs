@@ -225,11 +225,15 @@ fn single(random: &mut Random) -> Vec<Row> {
 }
 
 fn strict(random: &mut Random) -> Vec<Row> {
+    let (four, two) = (of_kinds(&[0, 1, 0, 1], random), of_kinds(&[1, 3, 2], random));
+    let (last, behind) = (of_kinds(&[0, 1, 4, 2], random), of_kinds(&[1, 0, 2], random));
     vec![
-        picture("strict: in range", STRICT, (8, 5), &of_kinds(&[0, 1, 0, 1], random)),
-        picture("strict: the first of two", STRICT, (12, 4), &of_kinds(&[1, 3, 2], random)),
-        picture("strict: the last of the picture", STRICT, (9, 4), &of_kinds(&[0, 1, 4, 2], random)),
-        picture("strict: out of range behind the picture", STRICT, (8, 4), &of_kinds(&[1, 0, 2], random)),
+        picture("strict: in range", STRICT, (8, 5), &four),
+        picture("strict: the first of two", STRICT, (12, 4), &two),
+        picture("strict: the last of the picture", STRICT, (9, 4), &last[..3]),
+        picture("strict: a block left over behind an accepted picture", STRICT, (8, 4), &behind),
+        picture("strict: the same picture without it", STRICT, (8, 4), &behind[..2]),
+        picture("strict: a block left over behind a refused picture", STRICT, (9, 4), &last),
         picture("strict: individual, whatever the sums are", STRICT, (12, 2), &cleared(of_kinds(&[2, 3, 4], random))),
         picture("strict: six in range", STRICT, (24, 1), &of_kinds(&[0, 1, 0, 1, 0, 1], random)),
         picture("strict: the last of six", STRICT, (24, 1), &of_kinds(&[0, 1, 0, 1, 0, 3], random)),
@@ -328,9 +332,12 @@ fn line(case: &Case, due: &Answer) -> String {
     let (reader, blocks) = (antt_reader(case), blocks(&case.data));
     let (width, height) = (case.width, case.height);
     if due.number != 0 {
-        let (number, block) = verdict(case);
+        let said = match verdict(case) {
+            (4, block) => format!("4 ∷ {block} ∷ []"),
+            (number, _) => format!("{number} ∷ []"),
+        };
         let elements = case.image.len();
-        return format!("refuses ({reader}) {width} {height}\n    {blocks}\n    {elements} ({number} ∷ {block} ∷ [])");
+        return format!("refuses ({reader}) {width} {height}\n    {blocks}\n    {elements} ({said})");
     }
     if case.image.iter().all(|&element| element == OLD) {
         let painted = (width * height) as usize;

@@ -2,7 +2,7 @@
 //! refuses never reach the crate, which has no such checks or has fewer of them.
 
 use crate::protocol::Case;
-use crate::readers::{block_size, has_channel, is_block, room, STRICT};
+use crate::readers::{block_size, has_channel, is_block, plain, room, STRICT};
 
 pub const LIMIT: u32 = 65_536;
 
@@ -46,6 +46,9 @@ fn picture_verdict(case: &Case) -> (u32, u32) {
     if case.data.len() < blocks(case) * block_size(case.reader) {
         return (2, 0);
     }
+    if has_leftovers(case) {
+        return (6, 0);
+    }
     if case.image.len() < room(case.reader, case.width, case.height) {
         return (3, 0);
     }
@@ -53,6 +56,11 @@ fn picture_verdict(case: &Case) -> (u32, u32) {
         return first_new(case);
     }
     (0, 0)
+}
+
+/// Check 6, of strict ETC1 alone: "more bytes than the blocks need" (M-107).
+pub fn has_leftovers(case: &Case) -> bool {
+    plain(case.reader) == STRICT && case.data.len() > blocks(case) * block_size(case.reader)
 }
 
 /// Check 4: the first block that an ETC1 reader must not read.

@@ -8,7 +8,7 @@ use Rattle.rules.specs.Formats.{sizeOf}
 use Rattle.rules.specs.Guards.{inRange, badAt}
 use Rattle.rules.specs.Readers.{strictChecks}
 use Rattle.laws.proofs.Guards.{strict-sound}
-use Rattle.checks.proofs.Checks.{passed-by}
+use Rattle.checks.proofs.Checks.{passed-exactly-by}
 use Rattle.picture.proofs.Guard.{reads}
 use borrow.Author.Needs.{needs}
 use Rattle.picture.proofs.read_strict.Statement.{statement}
@@ -23,7 +23,7 @@ paint-if-done-requires c κs =
     let r = c .before in
     let a = r .before .before .before .args in
     let d = now (a .«data») in
-    passed-by 8 (a .pic) (length d) (length (now (a .image))) (guarded 4 (badAt inRange d) (blocks (a .pic))) (r .strict-answer .result) (r .strict-answer .ensures)
+    passed-exactly-by 8 (a .pic) (length d) (length (now (a .image))) (guarded 4 (badAt inRange d) (blocks (a .pic))) (r .strict-answer .result) (r .strict-answer .ensures)
 
 same-length : tie.Need-same-length
 same-length c = search needs

@@ -6,10 +6,10 @@ use Rattle.pitch_cases.proofs.long_of.Statement.{statement}
 use Rattle.pitch_cases.proofs.long_of.Tie as tie
 
 abbrev Inv-loop : tie.InvT-loop
-Inv-loop width height pitch pic reader₀ t6 reader = reader ≤ 12
+Inv-loop width height pitch n pic reader₀ t6 reader = reader ≤ 12
 
 abbrev μ-loop : tie.MeasureT-loop
-μ-loop width height pitch pic reader₀ t6 reader = 12 - reader
+μ-loop width height pitch n pic reader₀ t6 reader = 12 - reader
 
 pitched-requires : tie.Need-pitched-requires Inv-loop μ-loop
 pitched-requires c κs = search needs
@@ -31,6 +31,9 @@ loop-less c = search needs
 
 loop-again : tie.Need-loop-again Inv-loop μ-loop
 loop-again c = search needs
+
+long-requires-2 : tie.Need-long-requires-2 Inv-loop μ-loop
+long-requires-2 c κs = search needs
 
 slice-aggregate-say : tie.Need-slice-aggregate-say Inv-loop μ-loop
 slice-aggregate-say c = search needs
@@ -54,6 +57,7 @@ long-of-spec =
     add-reader
     loop-less
     loop-again
+    long-requires-2
     slice-aggregate-say
     say-requires
     returns)

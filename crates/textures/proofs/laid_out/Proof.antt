@@ -56,6 +56,9 @@ returns-5 c =
       lt-ltb _ _ (c .if5 .taken),
     )
 
+sub-level : tie.Need-sub-level
+sub-level c = search needs
+
 returns-6 : tie.Need-returns-6
 unfolding laidOut
 returns-6 c =
@@ -83,4 +86,5 @@ laid-out-spec =
     mul-bytes
     add-if5
     returns-5
+    sub-level
     returns-6)

@@ -7,7 +7,7 @@ use types.Run.{OneOf, miss}
 use denote.Enum.Declared
 use Rattle.rules.specs.Answers.{said}
 use Rattle.rules.specs.declared.Answer.{Answer}
-use Rattle.rules.specs.declared.Answer.the-variants.{Done, TooLarge, ShortData, ShortImage, OutOfRange, NoChannel, CutShort, NoHead, OtherKind, WrongBlocks, ShortPitch}
+use Rattle.rules.specs.declared.Answer.the-variants.{Done, TooLarge, ShortData, ShortImage, OutOfRange, NoChannel, LongData, CutShort, NoHead, OtherKind, WrongBlocks, ShortPitch}
 use Rattle.rules.proofs.Answer.{the-type}
 use Rattle.laws.proofs.Unique.{others}
 use borrow.Author.Needs.{needs}
@@ -22,6 +22,7 @@ unnamed ShortData t = refl
 unnamed ShortImage t = refl
 unnamed (OutOfRange n) t = absurd (miss (others 4) 4 tt t)
 unnamed NoChannel t = refl
+unnamed LongData t = refl
 unnamed CutShort t = refl
 unnamed NoHead t = refl
 unnamed OtherKind t = refl
