@@ -1,4 +1,4 @@
-// The eight formats: the sixteen pixels that the bytes of a block show.
+// The formats: the sixteen pixels that the bytes of a block show.
 use rules::Format;
 ghost use mathlib.Core.Path.{_≡_};
 ghost use Prim.Native.Nat.{_+_, _*_, _≤_};
@@ -20,6 +20,9 @@ pub fn block(f: Format, data: &[u8]) -> [u32; 16]
         Format::EacRSigned => eac::eacr_block(data, true),
         Format::EacRg => eac::eacrg_block(data, false),
         Format::EacRgSigned => eac::eacrg_block(data, true),
+        Format::Bc1 => bc1::bc1_block(data, false),
+        Format::Bc1Alpha => bc1::bc1_block(data, true),
+        Format::Bc3 => bc3::bc3_block(data),
     }
 }
 
