@@ -59,10 +59,20 @@ fn third(a: u8, b: u8) -> u32
     (2 * byte(a) + byte(b)) / 3
 }
 
-fn half(a: u8, b: u8) -> u32
-    ensures { λ r. ⌜ (r ≡ mix 1 1 a b) × (r < 256) ⌝ }
+// 1 where there are four colours, 0 where there are three: a factor in place of a branch, which in pictures would often be foretold
+// wrongly.
+fn factor(four: bool) -> u32
+    ensures { λ r. ⌜ r ≡ cond four 1 0 ⌝ }
 {
-    (byte(a) + byte(b)) / 2
+    if four { 1 } else { 0 }
+}
+
+// Two thirds of a and one of b, or half of each, by a product and a shift.
+fn between(a: u8, b: u8, four: bool) -> u32
+    ensures { λ r. ⌜ (r ≡ cond four (mix 2 1 a b) (mix 1 1 a b)) × (r < 256) ⌝ }
+{
+    let f = factor(four);
+    (byte(a) + byte(a) * f + byte(b)) * (65536 - 21845 * f) / 131072
 }
 
 fn opaque(a: [u8; 3]) -> u32
@@ -77,10 +87,15 @@ fn thirds(a: [u8; 3], b: [u8; 3]) -> u32
     color::color(third(a[0], b[0]), third(a[1], b[1]), third(a[2], b[2]), 255)
 }
 
-fn halves(a: [u8; 3], b: [u8; 3]) -> u32
-    ensures { λ r. ⌜ r ≡ mixture 1 1 a b ⌝ }
+fn betweens(a: [u8; 3], b: [u8; 3], four: bool) -> u32
+    ensures { λ r. ⌜ r ≡ cond four (mixture 2 1 a b) (mixture 1 1 a b) ⌝ }
 {
-    color::color(half(a[0], b[0]), half(a[1], b[1]), half(a[2], b[2]), 255)
+    color::color(
+        between(a[0], b[0], four),
+        between(a[1], b[1], four),
+        between(a[2], b[2], four),
+        255,
+    )
 }
 
 // Black: the last of three colours.
@@ -90,15 +105,24 @@ fn black(alpha: bool) -> u32
     if alpha { 0 } else { 0xFF000000 }
 }
 
+// The last colour: of four the third that is nearer to b, of three black.
+fn last(a: [u8; 3], b: [u8; 3], four: bool, alpha: bool) -> u32
+    ensures { λ r. ⌜ r ≡ cond four (mixture 1 2 a b) (word (cond alpha 0 255) 0 0 0) ⌝ }
+{
+    let f = factor(four);
+    thirds(b, a) * f + black(alpha) * (1 - f)
+}
+
 // The four colours, by index.
 fn palette(a: [u8; 3], b: [u8; 3], four: bool, alpha: bool) -> [u32; 4]
     ensures { λ r. ⌜ r ≡ paletteOf four alpha a b ⌝ }
 {
-    if four {
-        [opaque(a), opaque(b), thirds(a, b), thirds(b, a)]
-    } else {
-        [opaque(a), opaque(b), halves(a, b), black(alpha)]
-    }
+    [
+        opaque(a),
+        opaque(b),
+        betweens(a, b, four),
+        last(a, b, four, alpha),
+    ]
 }
 
 fn has_four(always: bool, p: u32, q: u32) -> bool

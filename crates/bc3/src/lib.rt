@@ -1,7 +1,7 @@
 // The BC3 block of src/bcn/bc3.rs. Eight alphas and four colours first, and then two picks for each pixel. The alpha half alone goes into
 // any channel of what stood there.
 ghost use mathlib.Core.Path.{_≡_};
-ghost use mathlib.Core.Bool.{true, false};
+ghost use mathlib.Core.Bool.{cond};
 ghost use Prim.Native.Nat.{ℕ, _+_, _*_, _/_, _%_, _≤_, _<_};
 ghost use lib.Dec.{ltb};
 ghost use lib.ListN.{length, getD};
@@ -15,47 +15,54 @@ fn byte(b: u8) -> u32
     b as u32
 }
 
-// The two alphas and the sevenths between them.
-fn sevenths(a: u8, b: u8) -> [u32; 8]
-    ensures { λ r. ⌜ r ≡ alphasOf true a b ⌝ }
+// One of two numbers, both of which are at hand: no branch, which in pictures would often be foretold wrongly.
+fn either(t: bool, x: u32, y: u32) -> u32
+    ensures { λ r. ⌜ r ≡ cond t x y ⌝ }
 {
-    let p = byte(a);
-    let q = byte(b);
-    [
-        p,
-        q,
-        (6 * p + q) / 7,
-        (5 * p + 2 * q) / 7,
-        (4 * p + 3 * q) / 7,
-        (3 * p + 4 * q) / 7,
-        (2 * p + 5 * q) / 7,
-        (p + 6 * q) / 7,
-    ]
+    if t { x } else { y }
 }
 
-// The two alphas, the fifths between them, none and all.
-fn fifths(a: u8, b: u8) -> [u32; 8]
-    ensures { λ r. ⌜ r ≡ alphasOf false a b ⌝ }
+// A seventh or a fifth of a sum, by a product and a shift.
+fn share(sevenths: bool, sum: u32) -> u32
+    requires { ⌜ sum ≤ 1785 ⌝ }
+    ensures { λ r. ⌜ r ≡ cond sevenths (sum / 7) (sum / 5) ⌝ }
 {
-    let p = byte(a);
-    let q = byte(b);
-    [
-        p,
-        q,
-        (4 * p + q) / 5,
-        (3 * p + 2 * q) / 5,
-        (2 * p + 3 * q) / 5,
-        (p + 4 * q) / 5,
-        0,
-        255,
-    ]
+    sum * either(sevenths, 9363, 13108) / 0x10000
 }
 
-// The eight alphas, by index.
+// A seventh of a sum, or what stands there beside fifths.
+fn share_or(sevenths: bool, sum: u32, fixed: u32) -> u32
+    requires { ⌜ (sum ≤ 1785) × (fixed < 256) ⌝ }
+    ensures { λ r. ⌜ r ≡ cond sevenths (sum / 7) fixed ⌝ }
+{
+    sum * either(sevenths, 9363, 0) / 0x10000 + either(sevenths, 0, fixed)
+}
+
+fn is_above(a: u8, b: u8) -> bool
+    ensures { λ r. ⌜ r ≡ ltb b a ⌝ }
+{
+    b < a
+}
+
+// The eight alphas, by index: the two, and the sevenths between them; or the fifths, none and all. Two parts more of the first make
+// sevenths of what were fifths.
 fn alphas(a: u8, b: u8) -> [u32; 8]
     ensures { λ r. ⌜ r ≡ alphasOf (ltb b a) a b ⌝ }
 {
-    if b < a { sevenths(a, b) } else { fifths(a, b) }
+    let p = byte(a);
+    let q = byte(b);
+    let sevenths = is_above(a, b);
+    let more = either(sevenths, 2 * p, 0);
+    [
+        p,
+        q,
+        share(sevenths, 4 * p + q + more),
+        share(sevenths, 3 * p + 2 * q + more),
+        share(sevenths, 2 * p + 3 * q + more),
+        share(sevenths, p + 4 * q + more),
+        share_or(sevenths, 2 * p + 5 * q, 0),
+        share_or(sevenths, p + 6 * q, 255),
+    ]
 }
 
 fn first(w: u64) -> u8
