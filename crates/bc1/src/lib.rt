@@ -71,8 +71,10 @@ fn factor(four: bool) -> u32
 fn between(a: u8, b: u8, four: bool) -> u32
     ensures { λ r. ⌜ (r ≡ cond four (mix 2 1 a b) (mix 1 1 a b)) × (r < 256) ⌝ }
 {
+    let p = byte(a);
+    let q = byte(b);
     let f = factor(four);
-    (byte(a) + byte(a) * f + byte(b)) * (65536 - 21845 * f) / 131072
+    (p + p * f + q) * (65536 - 21845 * f) / 131072
 }
 
 fn opaque(a: [u8; 3]) -> u32
@@ -109,8 +111,10 @@ fn black(alpha: bool) -> u32
 fn last(a: [u8; 3], b: [u8; 3], four: bool, alpha: bool) -> u32
     ensures { λ r. ⌜ r ≡ cond four (mixture 1 2 a b) (word (cond alpha 0 255) 0 0 0) ⌝ }
 {
+    let third = thirds(b, a);
+    let dark = black(alpha);
     let f = factor(four);
-    thirds(b, a) * f + black(alpha) * (1 - f)
+    third * f + dark * (1 - f)
 }
 
 // The four colours, by index.

@@ -1,137 +1,125 @@
+-- The two alphas, and what lies between them in either order.
+-- Assumes nothing.
+use mathlib.Core.Path.{_∙_, refl}
+use Prim.Native.Nat.{_≤_}
+use native.Mathlib.Omega.{arith}
+use lib.Dec.{ltb}
+use Rattle.bc3.proofs.Shares.{few, listed}
+use Rattle.bc3.proofs.Turns.{eight}
 use borrow.Author.Needs.{needs}
 use Rattle.bc3.proofs.alphas.Statement.{statement}
 use Rattle.bc3.proofs.alphas.Tie as tie
-use Rattle.bc3.proofs.alphas.Reads as reads
-use Rattle.bc3.proofs.alphas.Lts as lts
-use Rattle.bc3.proofs.byte.Reads as byte-reads
-use Rattle.bc3.proofs.either.Reads as either-reads
-use Rattle.bc3.proofs.is_above.Reads as is-above-reads
-use Rattle.bc3.proofs.share.Reads as share-reads
-use Rattle.bc3.proofs.share_or.Reads as share-or-reads
 
--- src/lib.rt:52:9
+-- two parts more, or none
+more : (c : tie.After-either) → c .either .result ≤ 510
+more c =
+    let p = c .before .before .before .byte in
+    omega (arith, c .either .ensures, few (c .before .is-above .result) (p .result) (p .ensures .1))
+
 byte-requires : tie.Need-byte-requires
 byte-requires c κs = search needs
 
--- src/lib.rt:53:9
 byte-requires-2 : tie.Need-byte-requires-2
 byte-requires-2 c κs = search needs
 
--- src/lib.rt:54:9
 is-above-requires : tie.Need-is-above-requires
 is-above-requires c κs = search needs
 
--- src/lib.rt:55:33
 mul-either : tie.Need-mul-either
 mul-either c = search needs
 
--- src/lib.rt:55:9
 either-requires : tie.Need-either-requires
 either-requires c κs = search needs
 
--- src/lib.rt:59:25
 mul-share : tie.Need-mul-share
 mul-share c = search needs
 
--- src/lib.rt:59:25
 add-share : tie.Need-add-share
 add-share c = search needs
 
--- src/lib.rt:59:25
 add-share-2 : tie.Need-add-share-2
-add-share-2 c = ?
+add-share-2 c = omega (arith, more c, c .before .before .before .byte .ensures .1, c .before .before .byte2 .ensures .1)
 
--- src/lib.rt:59:9
 share-requires : tie.Need-share-requires
-share-requires c κs = ?
+share-requires c κs = omega (arith, more c, c .before .before .before .byte .ensures .1, c .before .before .byte2 .ensures .1)
 
--- src/lib.rt:60:25
 mul-share-2 : tie.Need-mul-share-2
 mul-share-2 c = search needs
 
--- src/lib.rt:60:33
 mul-share-3 : tie.Need-mul-share-3
 mul-share-3 c = search needs
 
--- src/lib.rt:60:25
 add-share-3 : tie.Need-add-share-3
 add-share-3 c = search needs
 
--- src/lib.rt:60:25
 add-share-4 : tie.Need-add-share-4
-add-share-4 c = ?
+add-share-4 c = omega (arith, more (c .before), c .before .before .before .before .byte .ensures .1, c .before .before .before .byte2 .ensures .1)
 
--- src/lib.rt:60:9
 share-requires-2 : tie.Need-share-requires-2
-share-requires-2 c κs = ?
+share-requires-2 c κs = omega (arith, more (c .before), c .before .before .before .before .byte .ensures .1, c .before .before .before .byte2 .ensures .1)
 
--- src/lib.rt:61:25
 mul-share-4 : tie.Need-mul-share-4
 mul-share-4 c = search needs
 
--- src/lib.rt:61:33
 mul-share-5 : tie.Need-mul-share-5
 mul-share-5 c = search needs
 
--- src/lib.rt:61:25
 add-share-5 : tie.Need-add-share-5
 add-share-5 c = search needs
 
--- src/lib.rt:61:25
 add-share-6 : tie.Need-add-share-6
-add-share-6 c = ?
+add-share-6 c = omega (arith, more (c .before .before), c .before .before .before .before .before .byte .ensures .1, c .before .before .before .before .byte2 .ensures .1)
 
--- src/lib.rt:61:9
 share-requires-3 : tie.Need-share-requires-3
-share-requires-3 c κs = ?
+share-requires-3 c κs = omega (arith, more (c .before .before), c .before .before .before .before .before .byte .ensures .1, c .before .before .before .before .byte2 .ensures .1)
 
--- src/lib.rt:62:29
 mul-share-6 : tie.Need-mul-share-6
 mul-share-6 c = search needs
 
--- src/lib.rt:62:25
 add-share-7 : tie.Need-add-share-7
 add-share-7 c = search needs
 
--- src/lib.rt:62:25
 add-share-8 : tie.Need-add-share-8
-add-share-8 c = ?
+add-share-8 c = omega (arith, more (c .before .before .before), c .before .before .before .before .before .before .byte .ensures .1, c .before .before .before .before .before .byte2 .ensures .1)
 
--- src/lib.rt:62:9
 share-requires-4 : tie.Need-share-requires-4
-share-requires-4 c κs = ?
+share-requires-4 c κs = omega (arith, more (c .before .before .before), c .before .before .before .before .before .before .byte .ensures .1, c .before .before .before .before .before .byte2 .ensures .1)
 
--- src/lib.rt:63:28
 mul-share-or : tie.Need-mul-share-or
 mul-share-or c = search needs
 
--- src/lib.rt:63:36
 mul-share-or-2 : tie.Need-mul-share-or-2
 mul-share-or-2 c = search needs
 
--- src/lib.rt:63:28
 add-share-or : tie.Need-add-share-or
 add-share-or c = search needs
 
--- src/lib.rt:63:9
 share-or-requires : tie.Need-share-or-requires
 share-or-requires c κs = search needs
 
--- src/lib.rt:64:32
 mul-share-or-3 : tie.Need-mul-share-or-3
 mul-share-or-3 c = search needs
 
--- src/lib.rt:64:28
 add-share-or-2 : tie.Need-add-share-or-2
 add-share-or-2 c = search needs
 
--- src/lib.rt:64:9
 share-or-requires-2 : tie.Need-share-or-requires-2
 share-or-requires-2 c κs = search needs
 
--- src/lib.rt:49:1
 returns : tie.Need-returns
-returns c = ?
+returns c =
+    let e = c .before .before .before .before .before .before in
+    let p = e .before .before .before .byte in
+    let q = e .before .before .byte2 in
+    let a = e .before .before .before .before .args in
+    eight refl refl
+    (c .before .before .before .before .before .share .ensures)
+    (c .before .before .before .before .share2 .ensures)
+    (c .before .before .before .share3 .ensures)
+    (c .before .before .share4 .ensures)
+    (c .before .share-or .ensures)
+    (c .share-or2 .ensures)
+    ∙ rw (e .either .ensures, e .before .is-above .ensures, p .ensures .0, q .ensures .0) (listed (ltb (a .b) (a .a)) (a .a) (a .b))
 
 pub alphas-spec : {M : Type 1} → statement M
 alphas-spec =

@@ -1,30 +1,31 @@
+-- A product and a shift, or what stands beside fifths.
+-- Assumes nothing.
+use native.Mathlib.Omega.{arith}
+use Rattle.bc3.proofs.Shares.{shared-or}
 use borrow.Author.Needs.{needs}
 use Rattle.bc3.proofs.share_or.Statement.{statement}
 use Rattle.bc3.proofs.share_or.Tie as tie
-use Rattle.bc3.proofs.share_or.Reads as reads
-use Rattle.bc3.proofs.share_or.Lts as lts
-use Rattle.bc3.proofs.either.Reads as either-reads
 
--- src/lib.rt:38:11
 either-requires : tie.Need-either-requires
 either-requires c κs = search needs
 
--- src/lib.rt:38:5
 mul-result : tie.Need-mul-result
-mul-result c = ?
+mul-result c =
+    let s = c .before in
+    rw (c .either .ensures) (omega (arith, shared-or (s .args .sevenths) (s .args .sum) (s .args .fixed) (s .pre .0) (s .pre .1) .0))
 
--- src/lib.rt:38:49
 either-requires-2 : tie.Need-either-requires-2
 either-requires-2 c κs = search needs
 
--- src/lib.rt:38:5
 add-result : tie.Need-add-result
-add-result c = ?
+add-result c =
+    let s = c .before .before in
+    rw (c .before .either .ensures, c .either2 .ensures) (omega (arith, shared-or (s .args .sevenths) (s .args .sum) (s .args .fixed) (s .pre .0) (s .pre .1) .1))
 
--- src/lib.rt:34:1
 returns : tie.Need-returns
-returns c = ?
+returns c =
+    let s = c .before .before in
+    rw (c .before .either .ensures, c .either2 .ensures) (shared-or (s .args .sevenths) (s .args .sum) (s .args .fixed) (s .pre .0) (s .pre .1) .2)
 
 pub share-or-spec : {M : Type 1} → statement M
-share-or-spec =
-    tie.close (tie.spec either-requires mul-result either-requires-2 add-result returns)
+share-or-spec = tie.close (tie.spec either-requires mul-result either-requires-2 add-result returns)
