@@ -4,7 +4,7 @@
 #include <cstdio>
 #include <cstdlib>
 
-enum { MOST_DATA = 262144, MOST_IMAGE = 65536, BC1A = 14, BC3 = 15 };
+enum { MOST_DATA = 262144, MOST_IMAGE = 65536, BC1A = 35, BC3 = 36 };
 
 static void need(bool fact, const char *what)
 {
