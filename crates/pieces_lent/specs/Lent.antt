@@ -30,6 +30,9 @@ numberOf EacR = 4
 numberOf EacRSigned = 5
 numberOf EacRg = 6
 numberOf EacRgSigned = 7
+numberOf Bc1 = 8
+numberOf Bc1Alpha = 9
+numberOf Bc3 = 10
 
 -- the state that the arrays hold, whatever is in them
 abbrev pub stateIn : List ℕ → List ℕ → Progress
