@@ -18,3 +18,5 @@ pub mod Lowest
 pub mod Arrived
 pub mod Step
 pub mod Cuts
+pub mod Degrees
+pub mod Ranges
