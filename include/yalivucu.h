@@ -1,4 +1,4 @@
-/* ETC1, ETC2, EAC, BC1 and BC3 textures, read by proved code.
+/* ETC1, ETC2, EAC, BC1 and BC3 textures, and the degrees that their colours mean, read by proved code.
  *
  * Link with the static library that `bindings/archive FILE.a` writes. Every function may be
  * called from several threads at once, allocates nothing, keeps nothing between calls but in what
@@ -37,9 +37,14 @@
  *  10  refused: no record of blocks, a second one, or blocks that are not of the exact length.
  *  11  refused by yalivucu_decode_etc2_rgba1_opaque alone: a block's opaque bit is clear.
  *  12  refused: the pitch is below the width.
+ *  13  refused, of degrees: a low or level of the legend does not lie in -720 to 720, or a step not in
+ *      -8 to 8, or the legend is of no kind.
+ *  14  refused: legend and picture name different digits, or one above 4.
+ *  15  refused: the measurement does not lie in -720 to 720, or is not a number.
+ *  17  not measured: the pixel's alpha is 0.
  * Pictures test 1, 12, 2, 6, 3, 4 or 11 in that order, blocks 5, 2, 3, censuses 1, 2, 3. A sheet is walked
- * front to back and the first fault is the answer, 3 last; the writer tests 8, 1, 10, 3. A refusal
- * touches no element. Pictures in pieces have an order of their own, below, and their last answer,
+ * front to back and the first fault is the answer, 3 last; the writer tests 8, 1, 10, 3. Degrees test
+ * 13, 14, 15, 17. A refusal touches no element. Pictures in pieces have an order of their own, below, and their last answer,
  * 2, leaves what is painted.
  *
  * What the caller owes
@@ -72,7 +77,11 @@ enum yalivucu_answer {
     YALIVUCU_OTHER_KIND = 9,
     YALIVUCU_WRONG_BLOCKS = 10,
     YALIVUCU_NOT_OPAQUE = 11,
-    YALIVUCU_SHORT_PITCH = 12
+    YALIVUCU_SHORT_PITCH = 12,
+    YALIVUCU_BAD_LEGEND = 13,
+    YALIVUCU_BAD_DIGIT = 14,
+    YALIVUCU_BAD_MEASUREMENT = 15,
+    YALIVUCU_NOT_MEASURED = 17
 };
 
 /* Pictures in blocks of 8 bytes. The last of three BC1 colours is black in bc1, and 0, transparent, in bc1a. */
@@ -297,6 +306,58 @@ static inline uint32_t yalivucu_pieces_take(struct yalivucu_pieces *state, const
 static inline uint32_t yalivucu_pieces_end(const struct yalivucu_pieces *state)
 {
     return yalivucu_end_pieces(state->numbers_, state->kept_);
+}
+
+/* From colour to degrees. A legend says what a pixel's red means: a level predicts its one value at
+ * every red; a line low + step * red; a bend that line up to red 128, and beyond it
+ * (low + step * 128) + second * (red - 128). Each operation rounds once, to the nearest float; none
+ * is fused, whatever the flags of the program that calls. (The processor has to round to nearest and to
+ * keep subnormals, as a program begins; one linked with -ffast-math does not.) What a kind does not have
+ * is not looked at.
+ *
+ * Legend and picture each name a digit, 0 thumb to 4 little. With answer 0 the reading is what the
+ * legend predicts at the pixel, what was measured, and predicted minus measured; with any other answer
+ * it is not written. None of its values is infinite or a NaN. The pointers are not NULL, and point to
+ * different floats. */
+enum yalivucu_kind {
+    YALIVUCU_LEVEL = 0,
+    YALIVUCU_LINE = 1,
+    YALIVUCU_BEND = 2
+};
+
+struct yalivucu_legend {
+    size_t kind;
+    float low; /* of a level, its value */
+    float step;
+    float second;
+};
+
+struct yalivucu_reading {
+    float predicted;
+    float measured;
+    float difference;
+};
+
+uint32_t yalivucu_read_degrees(size_t kind, float low, float step, float second, size_t legend_digit, size_t picture_digit, uint32_t pixel, float measured, float *predicted, float *seen, float *difference);
+
+static inline uint32_t yalivucu_degrees(struct yalivucu_legend legend, size_t legend_digit, size_t picture_digit, uint32_t pixel, float measured, struct yalivucu_reading *reading)
+{
+    return yalivucu_read_degrees(legend.kind, legend.low, legend.step, legend.second, legend_digit, picture_digit, pixel, measured, &reading->predicted, &reading->measured, &reading->difference);
+}
+static inline struct yalivucu_legend yalivucu_level(float value)
+{
+    struct yalivucu_legend legend = {YALIVUCU_LEVEL, value, 0, 0};
+    return legend;
+}
+static inline struct yalivucu_legend yalivucu_line(float low, float step)
+{
+    struct yalivucu_legend legend = {YALIVUCU_LINE, low, step, 0};
+    return legend;
+}
+static inline struct yalivucu_legend yalivucu_bend(float low, float step, float second)
+{
+    struct yalivucu_legend legend = {YALIVUCU_BEND, low, step, second};
+    return legend;
 }
 
 #ifdef __cplusplus

@@ -27,6 +27,7 @@
 #![warn(missing_docs)]
 
 mod census;
+mod degrees;
 mod pieces;
 mod refusal;
 mod sheet;

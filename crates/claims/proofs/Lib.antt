@@ -19,3 +19,5 @@ pub mod Desktop
 pub mod Arrived
 pub mod Step
 pub mod Cuts
+pub mod Degrees
+pub mod Ranges

@@ -24,3 +24,6 @@ pub mod Records
 pub mod Sheets
 -- pictures in pieces, of document 02
 pub mod Pieces
+-- from colour to degrees, of document 02
+pub mod Floats
+pub mod Degrees
