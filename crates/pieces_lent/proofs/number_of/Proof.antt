@@ -72,16 +72,16 @@ unfolding numberOf
 returns-8 c = sym (ap numberOf (c .enum-told8 .given .1))
 
 returns-9 : tie.Need-returns-9
-unfolding formatAt
-returns-9 c = sym (c .enum-told9 .given .1)
+unfolding numberOf
+returns-9 c = sym (ap numberOf (c .enum-told9 .given .1))
 
 returns-10 : tie.Need-returns-10
-unfolding formatAt
-returns-10 c = sym (c .enum-told10 .given .1)
+unfolding numberOf
+returns-10 c = sym (ap numberOf (c .enum-told10 .given .1))
 
 returns-11 : tie.Need-returns-11
-unfolding formatAt
-returns-11 c = sym (c .enum-told11 .given .1)
+unfolding numberOf
+returns-11 c = sym (ap numberOf (c .enum-told11 .given .1))
 
 pub number-of-spec : {M : Type 1} → statement M
 number-of-spec =
