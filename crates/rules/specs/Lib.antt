@@ -22,3 +22,7 @@ pub mod Records
 pub mod Sheets
 -- pictures in pieces, of document 02
 pub mod Pieces
+-- the checker and the baker of ETC1 blocks, of document 02
+pub mod Counting
+pub mod Checking
+pub mod Baking
