@@ -1,0 +1,32 @@
+-- The nearest of the colours of its half.
+-- Assumes nothing.
+use mathlib.Core.Path.{_≡_, _∙_, ap}
+use mathlib.Core.List.{List}
+use Prim.Native.Nat.{ℕ}
+use Rattle.baker.specs.Search.{nearestOf, coloursOf}
+use borrow.Author.Needs.{needs}
+use Rattle.baker.proofs.index_at.Statement.{statement}
+use Rattle.baker.proofs.index_at.Tie as tie
+
+half-of-requires : tie.Need-half-of-requires
+half-of-requires c κs = search needs
+
+either-requires : tie.Need-either-requires
+either-requires c κs = search needs
+
+nearest-requires : tie.Need-nearest-requires
+nearest-requires c κs = search needs
+
+cast-result : tie.Need-cast-result
+cast-result c = search needs
+
+returns : tie.Need-returns
+returns c =
+    let n = c .before in
+    let e = n .before in
+    let a = e .before .before .args in
+    (n .nearest .ensures .0 ∙ ap (λ (l : List ℕ). nearestOf l (a .v)) (e .either .ensures) ∙ ap (λ (h : ℕ). nearestOf (coloursOf (a .first) (a .second) h) (a .v)) (e .before .half-of .ensures .0), n .nearest .ensures .1)
+
+pub index-at-spec : {M : Type 1} → statement M
+index-at-spec =
+    tie.close (tie.spec half-of-requires either-requires nearest-requires cast-result returns)
