@@ -6,10 +6,10 @@ use denote.Ref.{now}
 use Rattle.rules.specs.Baking.{costFor, codeFor}
 use Rattle.baking.specs.Chosen.{Chosen}
 use Rattle.baking.proofs.Least.{begun, goes-on}
-use Rattle.baker.proofs.Search.{ended}
+use Rattle.nearest.proofs.Search.{ended}
 use borrow.Author.Needs.{needs}
-use Rattle.baker.proofs.best_code.Statement.{statement}
-use Rattle.baker.proofs.best_code.Tie as tie
+use Rattle.codes.proofs.best_code.Statement.{statement}
+use Rattle.codes.proofs.best_code.Tie as tie
 
 abbrev Inv-loop : tie.InvT-loop
 Inv-loop base flip tile h b₀ c₀ b c = (c ≤ 8) × Chosen (costFor base flip tile h) c (b .at) (b .value)

@@ -2,8 +2,8 @@
 -- Assumes nothing.
 use native.Mathlib.Omega.{arith}
 use borrow.Author.Tests.{eq-eqb, ne-eqb}
-use Rattle.baker.proofs.half_of.Statement.{statement}
-use Rattle.baker.proofs.half_of.Tie as tie
+use Rattle.indices.proofs.half_of.Statement.{statement}
+use Rattle.indices.proofs.half_of.Tie as tie
 
 returns : tie.Need-returns
 returns c = rw (eq-eqb (c .before .args .flip) 1 (c .if1 .taken)) (omega arith)

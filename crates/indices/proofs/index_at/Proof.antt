@@ -3,16 +3,17 @@
 use mathlib.Core.Path.{_≡_, _∙_, ap}
 use mathlib.Core.List.{List}
 use Prim.Native.Nat.{ℕ}
-use Rattle.baker.specs.Search.{nearestOf, coloursOf}
+use Rattle.rules.specs.Baking.{ofHalf}
+use Rattle.nearest.specs.Search.{nearestOf}
 use borrow.Author.Needs.{needs}
-use Rattle.baker.proofs.index_at.Statement.{statement}
-use Rattle.baker.proofs.index_at.Tie as tie
+use Rattle.indices.proofs.index_at.Statement.{statement}
+use Rattle.indices.proofs.index_at.Tie as tie
 
 half-of-requires : tie.Need-half-of-requires
 half-of-requires c κs = search needs
 
-either-requires : tie.Need-either-requires
-either-requires c κs = search needs
+of-half-requires : tie.Need-of-half-requires
+of-half-requires c κs = search needs
 
 nearest-requires : tie.Need-nearest-requires
 nearest-requires c κs = search needs
@@ -25,8 +26,8 @@ returns c =
     let n = c .before in
     let e = n .before in
     let a = e .before .before .args in
-    (n .nearest .ensures .0 ∙ ap (λ (l : List ℕ). nearestOf l (a .v)) (e .either .ensures) ∙ ap (λ (h : ℕ). nearestOf (coloursOf (a .first) (a .second) h) (a .v)) (e .before .half-of .ensures .0), n .nearest .ensures .1)
+    (n .nearest .ensures .0 ∙ ap (λ (l : List ℕ). nearestOf l (a .v)) (e .of-half .ensures) ∙ ap (λ (h : ℕ). nearestOf (ofHalf (a .first) (a .second) h) (a .v)) (e .before .half-of .ensures .0), n .nearest .ensures .1)
 
 pub index-at-spec : {M : Type 1} → statement M
 index-at-spec =
-    tie.close (tie.spec half-of-requires either-requires nearest-requires cast-result returns)
+    tie.close (tie.spec half-of-requires of-half-requires nearest-requires cast-result returns)

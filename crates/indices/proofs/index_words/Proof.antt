@@ -5,13 +5,13 @@ use Prim.Native.Nat.{ℕ, _<_}
 use native.Mathlib.Omega.{arith}
 use lib.ListN.{getD}
 use denote.Ref.{now}
-use Rattle.baker.specs.Search.{coloursOf, indexBy}
-use Rattle.rules.specs.Baking.{halfOf}
-use Rattle.baker.proofs.Search.{one-of-four}
-use Rattle.baker.proofs.Spelling.{Spelt, begun, turned, small, ended}
+use Rattle.indices.specs.Index.{indexBy}
+use Rattle.rules.specs.Baking.{ofHalf, halfOf}
+use Rattle.nearest.proofs.Search.{one-of-four}
+use Rattle.indices.proofs.Spelling.{Spelt, begun, turned, small, ended}
 use borrow.Author.Needs.{needs}
-use Rattle.baker.proofs.index_words.Statement.{statement}
-use Rattle.baker.proofs.index_words.Tie as tie
+use Rattle.indices.proofs.index_words.Statement.{statement}
+use Rattle.indices.proofs.index_words.Tie as tie
 
 abbrev Inv-loop : tie.InvT-loop
 Inv-loop first second flip tile high₀ low₀ i₀ high low i = Spelt (indexBy first second flip tile) i high low
@@ -27,7 +27,7 @@ rule c = indexBy (c .args .first) (c .args .second) (c .args .flip) (now (c .arg
 bound : (c : tie.At-loop Inv-loop μ-loop) → (c .loop .high < 65536) × (c .loop .low < 65536)
 bound c =
     let a = c .before .before .args in
-    small (rule (c .before .before)) (λ k. one-of-four (coloursOf (a .first) (a .second) (halfOf (a .flip) k)) (getD (now (a .tile)) k 0)) (c .loop .i) (c .loop .high) (c .loop .low) (c .loop .inv)
+    small (rule (c .before .before)) (λ k. one-of-four (ofHalf (a .first) (a .second) (halfOf (a .flip) k)) (getD (now (a .tile)) k 0)) (c .loop .i) (c .loop .high) (c .loop .low) (c .loop .inv)
 
 loop-holds : tie.Need-loop-holds Inv-loop μ-loop
 loop-holds c = begun (rule (c .before))
