@@ -7,16 +7,15 @@ use Prim.Native.Nat.{ℕ, _<_, _≤_}
 use borrow.Author.Tests.{lt-ltb, le-ltb}
 use lib.ListN.{length}
 use Rattle.rules.specs.Baking.{noBase, bakedBlock, eightOver, Bakes}
-use Rattle.baking.specs.declared.Baked.{Baked}
-use Rattle.baking.specs.declared.Baked.the-variants.{Done, NoBase, ShortRoom, ShortTile}
+use Rattle.rules.specs.declared.Baking.the-variants.{Done, ShortBlock, ShortTile, NoBase}
 
 module _ (first second : List ℕ) (flip : ℕ) (t old : List ℕ) where
   pub no-base : noBase first second flip ≡ true → Bakes first second flip t NoBase old old
   no-base e = record { says = rw e; leaves = rw e }
 
   module _ (e : noBase first second flip ≡ false) where
-    pub short-room : length old < 8 → Bakes first second flip t ShortRoom old old
-    short-room h = record { says = rw (e, lt-ltb (length old) 8 h); leaves = rw (e, lt-ltb (length old) 8 h) }
+    pub short-block : length old < 8 → Bakes first second flip t ShortBlock old old
+    short-block h = record { says = rw (e, lt-ltb (length old) 8 h); leaves = rw (e, lt-ltb (length old) 8 h) }
 
     pub short-tile : 8 ≤ length old → length t < 16 → Bakes first second flip t ShortTile old old
     short-tile h i =

@@ -8,7 +8,7 @@ use native.Mathlib.Omega.{arith}
 use denote.Ref.{now}
 use Rattle.rules.specs.Baking.{above, noBase, eightOver}
 use Rattle.baking.proofs.Bases.{four, bad-first, bad-second, bad-flip, good}
-use Rattle.baker.proofs.Verdict.{no-base, short-room, short-tile, done}
+use Rattle.baker.proofs.Verdict.{no-base, short-block, short-tile, done}
 use borrow.Author.Needs.{needs}
 use Rattle.baker.proofs.bake.Statement.{statement}
 use Rattle.baker.proofs.bake.Tie as tie
@@ -51,7 +51,7 @@ returns-4 : tie.Need-returns-4
 returns-4 c =
     let s = c .before in
     let a = start s .args in
-    short-room (a .first) (a .second) (a .flip) (now (a .tile)) (now (a .block)) (all-good s) (c .if4 .taken)
+    short-block (a .first) (a .second) (a .flip) (now (a .tile)) (now (a .block)) (all-good s) (c .if4 .taken)
 
 returns-5 : tie.Need-returns-5
 returns-5 c =

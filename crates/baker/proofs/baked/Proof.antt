@@ -1,7 +1,7 @@
 -- The parts, and the block that they make.
 -- Assumes nothing.
 use denote.Ref.{now}
-use Rattle.baker.proofs.Assembled.{colours, assembled}
+use Rattle.baker.proofs.Assembled.{assembled}
 use borrow.Author.Needs.{needs}
 use Rattle.baker.proofs.baked.Statement.{statement}
 use Rattle.baker.proofs.baked.Tie as tie
@@ -18,11 +18,11 @@ best-code-requires c κs = search needs
 best-code-requires-2 : tie.Need-best-code-requires-2
 best-code-requires-2 c κs = search needs
 
-half-requires : tie.Need-half-requires
-half-requires c κs = search needs
+colours-requires : tie.Need-colours-requires
+colours-requires c κs = search needs
 
-half-requires-2 : tie.Need-half-requires-2
-half-requires-2 c κs = search needs
+colours-requires-2 : tie.Need-colours-requires-2
+colours-requires-2 c κs = search needs
 
 index-words-requires : tie.Need-index-words-requires
 index-words-requires c κs = search needs
@@ -54,8 +54,8 @@ array-read-nibbles-6 c = search needs
 nibbles-requires-3 : tie.Need-nibbles-requires-3
 nibbles-requires-3 c κs = search needs
 
-codes-requires : tie.Need-codes-requires
-codes-requires c κs = search needs
+code-byte-requires : tie.Need-code-byte-requires
+code-byte-requires c κs = search needs
 
 cast-t38 : tie.Need-cast-t38
 cast-t38 c = search needs
@@ -75,16 +75,19 @@ returns c =
     let w = n .before .before .before .before in
     let b = w .before .before .before in
     let a = b .before .before .before .before .before .args in
-    let t = now (a .tile) in
-    assembled (a .t1) (a .t2) (a .flip) t _ _ _ _ _ _ _ _ _ _
-    (colours (a .t1) (a .t2) (a .flip) t 0 _ _ _ (b .before .before .before .widened .ensures) (b .before .best-code .ensures .0) (w .before .before .half .ensures))
-    (colours (a .t1) (a .t2) (a .flip) t 1 _ _ _ (b .before .before .widened2 .ensures) (b .best-code2 .ensures .0) (w .before .half2 .ensures))
+    assembled (a .t1) (a .t2) (a .flip) (now (a .tile)) _ _ _ _ _ _ _ _ _ _ _ _
+    (b .before .before .before .widened .ensures)
+    (b .before .before .widened2 .ensures)
+    (b .before .best-code .ensures .0)
+    (b .best-code2 .ensures .0)
+    (w .before .before .colours .ensures)
+    (w .before .colours2 .ensures)
     (w .index-words .ensures .0)
     (w .index-words .ensures .1)
     (n .before .before .before .nibbles .ensures)
     (n .before .before .nibbles2 .ensures)
     (n .before .nibbles3 .ensures)
-    (n .codes .ensures)
+    (n .code-byte .ensures)
 
 pub baked-spec : {M : Type 1} → statement M
 baked-spec =
@@ -94,8 +97,8 @@ baked-spec =
     widened-requires-2
     best-code-requires
     best-code-requires-2
-    half-requires
-    half-requires-2
+    colours-requires
+    colours-requires-2
     index-words-requires
     array-read-nibbles
     array-read-nibbles-2
@@ -106,7 +109,7 @@ baked-spec =
     array-read-nibbles-5
     array-read-nibbles-6
     nibbles-requires-3
-    codes-requires
+    code-byte-requires
     cast-t38
     cast-t40
     cast-t42
