@@ -1,0 +1,70 @@
+-- Each way out knows the checks that led to it.
+-- Assumes nothing.
+use mathlib.Core.Path.{_≡_, _∙_, sym}
+use mathlib.Core.Bool.{Bool, true, false}
+use native.Mathlib.Omega.{arith}
+use denote.Ref.{now}
+use borrow.Author.Tests.{not-true, not-false}
+use Rattle.rules.specs.Checking.{like}
+use Rattle.checker.proofs.Verdict.{of-block, short-block, short-tile, out-of-range, in-range}
+use borrow.Author.Needs.{needs}
+use Rattle.checker.proofs.check.Statement.{statement}
+use Rattle.checker.proofs.check.Tie as tie
+
+returns : tie.Need-returns
+returns c =
+    let a = c .before .before .before .args in
+    short-block (a .tolerance) (now (a .block)) (now (a .tile)) (c .if1 .taken)
+
+returns-2 : tie.Need-returns-2
+returns-2 c =
+    let a = c .before .before .before .before .args in
+    short-tile (a .tolerance) (now (a .block)) (now (a .tile)) (c .before .if1 .left) (c .if2 .taken)
+
+is-bad-requires : tie.Need-is-bad-requires
+is-bad-requires c κs = search needs
+
+returns-3 : tie.Need-returns-3
+returns-3 c =
+    let a = c .before .before .before .before .before .before .args in
+    out-of-range (a .tolerance) (now (a .block)) (now (a .tile)) (c .before .before .before .if1 .left) (c .before .before .if2 .left) (sym (c .before .is-bad .ensures) ∙ c .if3 .taken)
+
+etc1-block-requires : tie.Need-etc1-block-requires
+etc1-block-requires c κs = search needs
+
+all-near-requires : tie.Need-all-near-requires
+all-near-requires c κs = search needs
+
+abbrev start : tie.After-all-near → tie.Start
+start c = c .before .before .before .before .before .before .before .before
+
+-- what the test of the sixteen pixels says of the block
+tested : (c : tie.After-all-near) → c .all-near .result ≡ like (start c .args .tolerance) (now (start c .args .block)) (now (start c .args .tile))
+tested c =
+    let a = start c .args in
+    c .all-near .ensures ∙ of-block (a .tolerance) (now (a .block)) (c .before .etc1-block .result) (now (a .tile)) (c .before .etc1-block .ensures)
+
+returns-4 : tie.Need-returns-4
+returns-4 c =
+    let s = c .before .before .before in
+    let a = s .before .before .before .before .before .before .args in
+    in-range (a .tolerance) (now (a .block)) (now (a .tile)) (s .before .before .before .if1 .left) (s .before .before .if2 .left) (sym (s .before .is-bad .ensures) ∙ s .if3 .left) false (sym (tested (c .before)) ∙ not-true _ (c .if4 .taken))
+
+returns-5 : tie.Need-returns-5
+returns-5 c =
+    let s = c .before .before .before in
+    let a = s .before .before .before .before .before .before .args in
+    in-range (a .tolerance) (now (a .block)) (now (a .tile)) (s .before .before .before .if1 .left) (s .before .before .if2 .left) (sym (s .before .is-bad .ensures) ∙ s .if3 .left) true (sym (tested (c .before)) ∙ not-false _ (c .if4 .left))
+
+pub check-spec : {M : Type 1} → statement M
+check-spec =
+    tie.close
+    (tie.spec
+    returns
+    returns-2
+    is-bad-requires
+    returns-3
+    etc1-block-requires
+    all-near-requires
+    returns-4
+    returns-5)
