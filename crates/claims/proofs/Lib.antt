@@ -18,3 +18,7 @@ pub mod Lowest
 pub mod Arrived
 pub mod Step
 pub mod Cuts
+pub mod Halves
+pub mod Least
+pub mod Checker
+pub mod Baker
