@@ -15,6 +15,7 @@
  *                      alpha << 24 | red << 16 | green << 8 | blue.
  *   out, out_len       the same for the sixteen pixels of one block, row by row.
  *   counts, counts_len the counts of a census and how many there is room for.
+ *   tile, tile_len     the sixteen pixels that a block is held to, row by row; only read.
  *
  * Answers
  *   0  done: the picture's width * height elements, or a block's 16, or a census's 5 or 8 counts
@@ -37,8 +38,11 @@
  *  10  refused: no record of blocks, a second one, or blocks that are not of the exact length.
  *  11  refused by yalivucu_decode_etc2_rgba1_opaque alone: a block's opaque bit is clear.
  *  12  refused: the pitch is below the width.
+ *  16  refused by yalivucu_bake_etc1_block alone: a channel of a base is above 15, or the flip above 1.
+ *  18  by yalivucu_check_etc1_block alone, and no refusal: the block is not accepted.
  * Pictures test 1, 12, 2, 6, 3, 4 or 11 in that order, blocks 5, 2, 3, censuses 1, 2, 3. A sheet is walked
- * front to back and the first fault is the answer, 3 last; the writer tests 8, 1, 10, 3. A refusal
+ * front to back and the first fault is the answer, 3 last; the writer tests 8, 1, 10, 3; the checker of a
+ * block 2, 3, its baker 16, 2, 3. A refusal
  * touches no element. Pictures in pieces have an order of their own, below, and their last answer,
  * 2, leaves what is painted.
  *
@@ -72,7 +76,9 @@ enum yalivucu_answer {
     YALIVUCU_OTHER_KIND = 9,
     YALIVUCU_WRONG_BLOCKS = 10,
     YALIVUCU_NOT_OPAQUE = 11,
-    YALIVUCU_SHORT_PITCH = 12
+    YALIVUCU_SHORT_PITCH = 12,
+    YALIVUCU_NO_BASE = 16,
+    YALIVUCU_NOT_ACCEPTED = 18
 };
 
 /* Pictures in blocks of 8 bytes. */
@@ -150,6 +156,18 @@ uint32_t yalivucu_decode_etc2_a8_block(const uint8_t *data, size_t data_len, uin
  * out[0] to out[15]. */
 uint32_t yalivucu_decode_eac_block(const uint8_t *data, size_t data_len, size_t channel, uint32_t *out, size_t out_len);
 uint32_t yalivucu_decode_eac_signed_block(const uint8_t *data, size_t data_len, size_t channel, uint32_t *out, size_t out_len);
+
+/* Whether an ETC1 block of 8 bytes that somebody else baked is near enough to a tile: 0 exactly where it is
+ * in range and each red, green and blue of each pixel differs from the tile's by at most the
+ * tolerance, and 18 where not. Alpha is ignored. */
+uint32_t yalivucu_check_etc1_block(const uint8_t *block, size_t block_len, const uint32_t *tile, size_t tile_len, uint32_t tolerance);
+
+/* Bakes an individual ETC1 block into block[0] to block[7]: first and second are three four-bit channels
+ * each, red, green and blue, of the two bases; flip is 0 or 1. Of all codes and indices it takes those
+ * with the least sum of absolute red, green and blue differences from the tile, of those the lower
+ * code, and then the lower index. Here answer 2 means that block_len is less than 8. first and second
+ * are not NULL, and block overlaps nothing. */
+uint32_t yalivucu_bake_etc1_block(const uint8_t first[3], const uint8_t second[3], size_t flip, const uint32_t *tile, size_t tile_len, uint8_t *block, size_t block_len);
 
 /* Which kinds of blocks a picture of 8-byte blocks has: the count of each kind at its place below,
  * together all blocks of the picture. Nothing is painted. The counts are written with answer 0

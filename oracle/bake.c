@@ -256,8 +256,8 @@ static void refused(void)
             uint32_t got = yalivucu_bake_etc1_block(c.base[0], c.base[1], flip, tile, length, room, space);
             held(got == due, "another answer", &c);
             for (size_t k = due ? 0 : 8; k < sizeof room; k++) held(room[k] == 0xEE, "a refusal wrote", &c);
-            held(yalivucu_check_etc1_block(room, space, tile, length, 255) == (space < 8 ? 2u : length < 16 ? 3u : due ? 18u : 0u),
-                "another answer of the checker", &c);
+            due = space < 8 ? 2 : length < 16 ? 3 : 0; /* what is there is in range, and every difference at most 255 */
+            held(yalivucu_check_etc1_block(room, space, tile, length, 255) == due, "another answer of the checker", &c);
             tries[3]++;
         }
 }

@@ -37,6 +37,8 @@ pub enum Refusal {
     },
     /// Refusal 12: the pitch is below the width.
     ShortPitch,
+    /// Refusal 16, of the baker alone: a channel of a base is above 15.
+    NoBase,
     /// A number that this package does not know: another archive than its own was linked.
     Unknown {
         /// What the archive answered.
@@ -60,6 +62,7 @@ impl Refusal {
             Refusal::WrongBlocks => 10,
             Refusal::NotOpaque { .. } => 11,
             Refusal::ShortPitch => 12,
+            Refusal::NoBase => 16,
             Refusal::Unknown { number } => number,
         }
     }
@@ -79,6 +82,7 @@ impl Refusal {
             Refusal::WrongBlocks => "The sheet has not exactly its blocks!",
             Refusal::NotOpaque { .. } => "An RGBA1 block has its opaque bit clear!",
             Refusal::ShortPitch => "The pitch is below the width!",
+            Refusal::NoBase => "A channel of a base is above 15!",
             Refusal::Unknown { .. } => "The linked library gave an answer that this package does not know!",
         }
     }
@@ -99,6 +103,7 @@ impl Refusal {
             10 => Err(Refusal::WrongBlocks),
             11 => Err(Refusal::NotOpaque { block }),
             12 => Err(Refusal::ShortPitch),
+            16 => Err(Refusal::NoBase),
             number => Err(Refusal::Unknown { number }),
         }
     }
@@ -135,6 +140,7 @@ impl fmt::Display for Refusal {
                 "Refusal {number}: an RGBA1 block has its opaque bit clear, the first of them block {block}."
             ),
             Refusal::ShortPitch => write!(f, "Refusal {number}: the pitch is below the width."),
+            Refusal::NoBase => write!(f, "Refusal {number}: a channel of a base is above 15."),
             Refusal::Unknown { .. } => write!(f, "Refusal {number}: the linked library is not this package's own."),
         }
     }

@@ -33,7 +33,7 @@ pub fn check(block: &[u8], tile: &[u32], tolerance: u32) -> Baking
         return Baking::ShortTile;
     }
     if guard::is_bad(Viewer::Etc1, block) {
-        return Baking::NotAccepted;
+        return Baking::NotAccepted; // out of range
     }
     if !all_near(tolerance, etc1::etc1_block(block), tile) {
         return Baking::NotAccepted;

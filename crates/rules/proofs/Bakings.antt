@@ -74,17 +74,48 @@ every (r ∷ rs) =
 
 specimens : List Row
 specimens =
-    bakes 0xFFF 0x0F0 0 0x6AEDB1DB4ED3F9B2F229A8BB20DC8EFE3276268F02846CBBE91E6C33AFE381311F83260654BE93F3D1D31C3D75A0DA1A0D5AA4F0489106DBEA3BB230A1F045BE 0xF0FFF0DC06FFB6AE 2873 211
+    bakes 0xFB9 0x4AB 1 0xABD5CB7222FFD2831ECAA3D053FFFF4A3EFFBB9ACBF6B9716FFFBB9713FFBA9D5C449CA49D35AADBD43DB7B37B9851689C4AC3C987AEA6AC0E38A2C6F746A9B9 0xF4BA9B01CFA54D2D 980 108
     ∷ bakes 0x935 0xA0D 0 0xB658DDDF67D8D776B3C8242EB87D15BBFFB601EEEB9E47336C079C0430E2B1333BE52E06030CBB000CCE6A7D36E04BFBB4E8D188306000662808CC4ABD1AAA92 0x9A305DFC9AE42A41 2824 209
-    ∷ bakes 0xFF0 0x0FF 0 0xFDFEFB0382FEFE00C800F7FF670BFFF933F1DF0F64FFE500EE00FDFDB900C1FFA989FF00AFFFFF04AE00FFFF3F01FFFF58FFBB68CEFBFC00541AD5FFC800F2F9 0xF0FF0F20A3A6980A 499 113
-    ∷ bakes 0xFB9 0x4AB 1 0xABD5CB7222FFD2831ECAA3D053FFFF4A3EFFBB9ACBF6B9716FFFBB9713FFBA9D5C449CA49D35AADBD43DB7B37B9851689C4AC3C987AEA6AC0E38A2C6F746A9B9 0xF4BA9B01CFA54D2D 980 108
-    ∷ bakes 0xF00 0xFFF 0 0x57FFFFEE9AFF00115711EE004FFF11EE47EE1100971111FF3EFF00FF1E0000EE120000EEDDEEEE005E110000ADFFEE117B11EE00E911EEEE7211FFFFEC1111FF 0xFF0F0FFCA53EA5AD 3869 255
-    ∷ bakes 0xB3C 0x396 0 0xCFEEFFFF09EEEEEE8A00FF118B11FF0018FF001183EE0000C911FF11D811FFEED711FFFF90EE00EEF700FFEE0E000000F4EEFF00820011FF2600EE00ACEEFF00 0xB339C6F85BA2EC3F 2986 255
     ∷ bakes 0xF0F 0xF0F 0 0x96FF00FF7BFF00FFFBFF00FF4CFF00FFE2FF00FFD2FF00FF22FF00FFC2FF00FFCBFF00FFAEFF00FF96FF00FF89FF00FF29FF00FFB8FF00FFECFF00FF90FF00FF 0xFF00FF0000000000 32 2
     ∷ bakes 0x724 0x3C9 1 0x14EF413514EF413514EF413514EF413514EF413514EF413514EF413514EF413514EF413514EF413514EF413514EF413514EF413514EF413514EF413514EF4135 0x732C4959CCCCFFFF 3320 239
     ∷ []
 
-hold : T (answers && every specimens)
-unfolding answers base eight sixteen bakes every specimens differential wrapped outOfRange etc1Pixel leastOf sumOf mostOf each fromBits
+-- "A block under 8 bytes is refused with 2, a tile under 16 elements with 3, in that order." The block of zeros shows FF020202; the
+-- last two have a red sum out of range, and none
+checked : Bool
+checked =
+    same (checkVerdict 255 (replicate 7 0) (replicate 15 0)) (2 ∷ [])
+    && same (checkVerdict 255 (replicate 7 0) (replicate 16 0)) (2 ∷ [])
+    && same (checkVerdict 255 (replicate 8 0) (replicate 15 0)) (3 ∷ [])
+    && same (checkVerdict 2 (replicate 8 0) (replicate 16 0)) (0 ∷ [])
+    && same (checkVerdict 1 (replicate 8 0) (replicate 16 0)) (18 ∷ [])
+    && same (checkVerdict 0 (replicate 9 0) (replicate 17 0x020202)) (0 ∷ [])
+    && same (checkVerdict 0 (replicate 8 0) (replicate 15 0x020202 ++ (0x030202 ∷ []))) (18 ∷ [])
+    && same (checkVerdict 0 (replicate 8 0) (0x020102 ∷ replicate 15 0x020202)) (18 ∷ [])
+    && same (checkVerdict 0 (replicate 8 0) (replicate 8 0x020202 ++ (0x020203 ∷ replicate 7 0x020202))) (18 ∷ [])
+    && same (checkVerdict 255 (eight 0x0400000200000000) (replicate 16 0)) (18 ∷ [])
+    && same (checkVerdict 255 (eight 0xF800000200000000) (replicate 16 0)) (0 ∷ [])
+
+-- "It refuses with 16 a base channel above 15 or a flip above 1, then with 2 (under 8 bytes of room) or 3"
+refused : Bool
+refused =
+    same (bakeVerdict (15 ∷ 15 ∷ 15 ∷ []) (15 ∷ 15 ∷ 15 ∷ []) 1 8 16) (0 ∷ [])
+    && same (bakeVerdict (16 ∷ 0 ∷ 0 ∷ []) (0 ∷ 0 ∷ 0 ∷ []) 0 7 15) (16 ∷ [])
+    && same (bakeVerdict (0 ∷ 16 ∷ 0 ∷ []) (0 ∷ 0 ∷ 0 ∷ []) 0 8 15) (16 ∷ [])
+    && same (bakeVerdict (0 ∷ 0 ∷ 16 ∷ []) (0 ∷ 0 ∷ 0 ∷ []) 0 7 16) (16 ∷ [])
+    && same (bakeVerdict (0 ∷ 0 ∷ 0 ∷ []) (16 ∷ 0 ∷ 0 ∷ []) 0 8 16) (16 ∷ [])
+    && same (bakeVerdict (0 ∷ 0 ∷ 0 ∷ []) (0 ∷ 16 ∷ 0 ∷ []) 0 8 16) (16 ∷ [])
+    && same (bakeVerdict (0 ∷ 0 ∷ 0 ∷ []) (0 ∷ 0 ∷ 16 ∷ []) 0 8 16) (16 ∷ [])
+    && same (bakeVerdict (0 ∷ 0 ∷ 0 ∷ []) (0 ∷ 0 ∷ 0 ∷ []) 2 8 16) (16 ∷ [])
+    && same (bakeVerdict (0 ∷ 0 ∷ 0 ∷ []) (0 ∷ 0 ∷ 0 ∷ []) 0 7 15) (2 ∷ [])
+    && same (bakeVerdict (0 ∷ 0 ∷ 0 ∷ []) (0 ∷ 0 ∷ 0 ∷ []) 0 7 16) (2 ∷ [])
+    && same (bakeVerdict (0 ∷ 0 ∷ 0 ∷ []) (0 ∷ 0 ∷ 0 ∷ []) 0 8 15) (3 ∷ [])
+
+-- "else it writes 8 bytes only"
+written : Bool
+written = same (eightOver (eight 0x0102030405060708) (replicate 8 9 ++ (10 ∷ 11 ∷ []))) (1 ∷ 2 ∷ 3 ∷ 4 ∷ 5 ∷ 6 ∷ 7 ∷ 8 ∷ 10 ∷ 11 ∷ [])
+
+hold : T (answers && checked && refused && written && every specimens)
+unfolding answers checked refused written base eight sixteen bakes every specimens differential wrapped outOfRange etc1Pixel leastOf sumOf mostOf each fromBits
     near differ farthest checkVerdict shown indexFor costFor codeFor blockWith
 hold = tt
