@@ -2,13 +2,11 @@
 -- Assumes nothing.
 use mathlib.Core.Path.{_≡_, _∙_, ap}
 use mathlib.Core.List.{List, [], _∷_}
-use Prim.Native.Nat.{ℕ, zero, suc, _+_, _*_, _/_, _%_, _<_}
-use native.Mathlib.Omega.{arith}
+use Prim.Native.Nat.{ℕ, zero, suc, _+_, _*_, _/_, _%_}
 use lib.ListN.{getD}
 use Rattle.rules.specs.Colour.{stepsOf, halfColours}
 use Rattle.rules.specs.Baking.{ofHalf, seventeen, basesOf, halfOf, shown, indexFor, codeFor, highOf, lowOf, blockWith, indexWith, bakedBlock}
 use Rattle.baking.proofs.Bits.{bits-same}
-use Rattle.baking.proofs.Block.{small-half}
 use Rattle.nearest.specs.Search.{nearestOf}
 use Rattle.indices.specs.Index.{indexBy}
 

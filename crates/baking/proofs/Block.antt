@@ -1,15 +1,14 @@
 -- A block read back: the bytes of `blockWith` have the bases, the flip, the codes and the indices that it was made of; and what
 -- any individual block shows, by its bases, flip, codes and indices.
 -- Assumes nothing.
-use mathlib.Core.Path.{_≡_, _∙_, refl, sym, ap}
-use mathlib.Core.Bool.{Bool, true, false, cond, _&&_, _||_}
+use mathlib.Core.Path.{_≡_, _∙_, refl, ap}
+use mathlib.Core.Bool.{Bool, true, false, cond}
 use mathlib.Core.List.{List, [], _∷_}
-use Prim.Native.Nat.{ℕ, zero, suc, _+_, _*_, _/_, _%_, _^_, _<_, _≤_}
+use Prim.Native.Nat.{ℕ, zero, suc, _+_, _*_, _/_, _%_, _<_}
 use native.Mathlib.Omega.{arith}
-use native.Mathlib.Nat.{zero-add}
 use lib.Dec.{eqb}
 use lib.ListN.{getD}
-use Rattle.rules.specs.Notation.{byte, bit, bits}
+use Rattle.rules.specs.Notation.{bit, bits}
 use Rattle.rules.specs.Colour.{index, differs, flipped, half, code, individual, unused, outOfRange, stepsOf, halfColours}
 use Rattle.rules.specs.Modes.{etc1Bases, etc1Pixel}
 use Rattle.laws.proofs.Rows.{rows}
@@ -17,7 +16,7 @@ use Rattle.rules.specs.Counting.{fromBits}
 use Rattle.rules.specs.Checking.{pixel}
 use Rattle.rules.specs.Baking.{seventeen, basesOf, halfOf, shown, highOf, lowOf, blockWith}
 use Rattle.baking.specs.Four.{Four}
-use Rattle.baking.proofs.Bits.{bits-bit, bits-below}
+use Rattle.baking.proofs.Bits.{bits-bit}
 
 -- codes of three bits, and indices of two
 pub record Legal (codes indices : ℕ → ℕ) : Type 0 where

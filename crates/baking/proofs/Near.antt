@@ -1,13 +1,12 @@
 -- How near a block is to a tile: what the checker's test says of each channel, and from which tolerance on it holds.
 -- Assumes nothing.
-use mathlib.Core.Path.{_≡_, _∙_, refl, sym, ap}
-use mathlib.Core.Bool.{Bool, true, false, _&&_}
+use mathlib.Core.Path.{_≡_, _∙_, ap}
+use mathlib.Core.Bool.{Bool, _&&_}
 use mathlib.Core.List.{List}
-use Prim.Native.Nat.{ℕ, _+_, _≤_, max}
+use Prim.Native.Nat.{ℕ, _≤_, max}
 use native.Mathlib.Omega.{arith}
 use lib.Dec.{leb}
 use lib.ListN.{getD}
-use Rattle.rules.specs.Counting.{each, mostOf}
 use Rattle.rules.specs.Pixel.{redOf, greenOf, blueOf}
 use Rattle.rules.specs.Checking.{apart, near, farthest, differ, pixel, like, largest}
 use Rattle.baking.proofs.Each.{both-most, each-most, each-same}

@@ -1,7 +1,7 @@
 -- Sums: they keep an order, and the sum of leasts is the least sum; where another choice has the same sum, each of its
 -- parts is least too, and so stands no earlier.
 -- Assumes nothing.
-use mathlib.Core.Path.{_≡_, _∙_, refl, sym, ap}
+use mathlib.Core.Path.{_≡_, refl, sym, ap}
 use mathlib.Core.Logic.{⊎-elim}
 use Prim.Native.Nat.{ℕ, zero, suc, _+_, _*_, _<_, _≤_}
 use native.Mathlib.Omega.{arith}
@@ -32,12 +32,6 @@ sum-tie f g (suc n) e t k h =
     let l = sum-le f g n (λ j b. e j (omega arith)) in
     let o = e n (le-refl (suc n)) in
     ⊎-elim (λ q. rw q (omega arith)) (λ q. sum-tie f g n (λ j b. e j (omega arith)) (omega arith) k q) (eq-or-lt-of-le {n = k} {m = n} (omega arith))
-
--- a part that is at most b makes a sum of at most b for each
-pub sum-bound : (f : ℕ → ℕ) (b n : ℕ) → ((k : ℕ) → f k ≤ b) → sumOf f n ≤ b * n
-unfolding sumOf
-sum-bound f b zero e = omega arith
-sum-bound f b (suc n) e = omega (arith, sum-bound f b n e, e n)
 
 -- choices of suc m each at n places, F k i what choice i adds at place k; pick is any choice
 module _ (F : ℕ → ℕ → ℕ) (m n : ℕ) (pick : ℕ → ℕ) (legal : (k : ℕ) → k < n → pick k < suc m) where

@@ -63,9 +63,6 @@ module _ (first second : List ℕ) (flip : ℕ) (t old new : List ℕ) (p : Bake
   f : flip < 2
   f = omega (arith, ltb-false 1 flip (bad .2))
 
-  room : 8 ≤ length old
-  room = ltb-false (length old) 8 (checks .1)
-
   whole : 16 ≤ length t
   whole = ltb-false (length t) 16 (checks .2)
 

@@ -1,6 +1,5 @@
 -- Each way out knows the tests that led to it.
 -- Assumes nothing.
-use lib.ListN.{getD}
 use borrow.Author.Tests.{lt-ltb, le-ltb}
 use borrow.Author.Needs.{needs}
 use Rattle.baker.proofs.above.Statement.{statement}

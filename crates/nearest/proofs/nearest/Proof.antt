@@ -1,6 +1,5 @@
 -- The best of the colours passed.
 -- Assumes nothing.
-use mathlib.Core.Path.{_∙_}
 use Prim.Native.Nat.{_-_, _≤_}
 use native.Mathlib.Omega.{arith}
 use Rattle.baking.specs.Chosen.{Chosen}
