@@ -22,9 +22,8 @@ const NOT_ACCEPTED: u32 = 18;
 /// ```
 pub fn check_etc1_block(block: &[u8], tile: &[u32], tolerance: u32) -> Result<bool, Refusal> {
     // SAFETY: the pointers and lengths are those of two slices that live through the call.
-    let number = unsafe {
-        sys::yalivucu_check_etc1_block(block.as_ptr(), block.len(), tile.as_ptr(), tile.len(), tolerance)
-    };
+    let number =
+        unsafe { sys::yalivucu_check_etc1_block(block.as_ptr(), block.len(), tile.as_ptr(), tile.len(), tolerance) };
     if number == NOT_ACCEPTED {
         return Ok(false);
     }

@@ -44,7 +44,12 @@ fn read_back() {
         bake_etc1_block(first, second, flip, &tile, &mut block).unwrap();
         read_block(Format::Etc1, &block, &mut image).unwrap();
         assert_eq!(check_etc1_block(&block, &image, 0), Ok(true));
-        let far = |a: u32, b: u32| (0..3).map(|k| ((a >> (8 * k)) & 255).abs_diff((b >> (8 * k)) & 255)).max().unwrap();
+        let far = |a: u32, b: u32| {
+            (0..3)
+                .map(|k| ((a >> (8 * k)) & 255).abs_diff((b >> (8 * k)) & 255))
+                .max()
+                .unwrap()
+        };
         assert_eq!(image.iter().zip(&tile).map(|(a, b)| far(*a, *b)).max(), Some(most));
     }
 }

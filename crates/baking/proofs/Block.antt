@@ -49,7 +49,8 @@ base-of first second (suc zero) h = refl
 base-of first second (suc (suc h)) p = absurd (omega arith)
 
 -- what it shows
-pub shows : {first second : List ℕ} {flip : ℕ} {codes indices : ℕ → ℕ} {d : List ℕ} → Reads first second flip codes indices d → (k : ℕ) → k < 16 → pixel d k ≡ shown (basesOf first second (halfOf flip k)) (codes (halfOf flip k)) (indices k)
+pub shows : {first second : List ℕ} {flip : ℕ} {codes indices : ℕ → ℕ} {d : List ℕ} → Reads first second flip codes indices d → (k : ℕ) → k < 16
+    → pixel d k ≡ shown (basesOf first second (halfOf flip k)) (codes (halfOf flip k)) (indices k)
 unfolding etc1Pixel shown
 shows {first} {second} {flip} {codes} {indices} {d} p k h =
     let m = halfOf flip k in
@@ -85,8 +86,10 @@ module _ (first second : List ℕ) (flip : ℕ) (codes indices : ℕ → ℕ) (a
   unfolding blockWith
   word k h =
       let i = 4 * (k % 4) + k / 4 in
-      let p : bit i (256 * (highOf indices / 256) + highOf indices % 256) ≡ indices k / 2 = ap (bit i) (halves (highOf indices)) ∙ at-place (λ k. indices k / 2) (λ k m. omega (arith, l .indexed k m)) k h in
-      let q : bit i (256 * (lowOf indices / 256) + lowOf indices % 256) ≡ indices k % 2 = ap (bit i) (halves (lowOf indices)) ∙ at-place (λ k. indices k % 2) (λ k m. omega arith) k h in
+      let p : bit i (256 * (highOf indices / 256) + highOf indices % 256) ≡ indices k / 2 =
+      ap (bit i) (halves (highOf indices)) ∙ at-place (λ k. indices k / 2) (λ k m. omega (arith, l .indexed k m)) k h in
+      let q : bit i (256 * (lowOf indices / 256) + lowOf indices % 256) ≡ indices k % 2 =
+      ap (bit i) (halves (lowOf indices)) ∙ at-place (λ k. indices k % 2) (λ k m. omega arith) k h in
       ap (λ (n : ℕ). 2 * n + bit i (256 * (lowOf indices / 256) + lowOf indices % 256)) p ∙ ap (λ (n : ℕ). 2 * (indices k / 2) + n) q ∙ omega arith
 
   -- "the written bytes read back are the chosen ones"
@@ -101,11 +104,12 @@ module _ (first second : List ℕ) (flip : ℕ) (codes indices : ℕ → ℕ) (a
         alone = ap (λ (n : ℕ). eqb n 1) (t .2);
         flips = ap (λ (n : ℕ). eqb n 1) (t .3);
         bases = rows (r .0) (g .0) (u .0) (r .1) (g .1) (u .1);
-        coded = by t;
+        coded = by (t .0) (t .1);
         indexed = word;
       }
     where
-      by : (bits 7 5 (32 * codes 0 + 4 * codes 1 + flip) ≡ codes 0) × (bits 4 2 (32 * codes 0 + 4 * codes 1 + flip) ≡ codes 1) × (bit 1 (32 * codes 0 + 4 * codes 1 + flip) ≡ 0) × (bit 0 (32 * codes 0 + 4 * codes 1 + flip) ≡ flip) → (h : ℕ) → h < 2 → code (blockWith first second flip codes indices) h ≡ codes h
-      by t zero m = t .0
-      by t (suc zero) m = t .1
-      by t (suc (suc h)) m = absurd (omega arith)
+      by : bits 7 5 (32 * codes 0 + 4 * codes 1 + flip) ≡ codes 0 → bits 4 2 (32 * codes 0 + 4 * codes 1 + flip) ≡ codes 1
+          → (h : ℕ) → h < 2 → code (blockWith first second flip codes indices) h ≡ codes h
+      by e f zero m = e
+      by e f (suc zero) m = f
+      by e f (suc (suc h)) m = absurd (omega arith)

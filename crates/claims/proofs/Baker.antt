@@ -154,7 +154,8 @@ only-answer a b e = sym (answered a) ∙ ap (answerOf answers) e ∙ answered b
 pub check-determined : (tolerance : ℕ) (d t : List ℕ) (a b : Baking) → Checks tolerance d t a → Checks tolerance d t b → a ≡ b
 check-determined tolerance d t a b p q = only-answer a b (p ∙ sym q)
 
-pub bake-determined : (first second : List ℕ) (flip : ℕ) (t : List ℕ) (a b : Baking) (old new new' : List ℕ) → Bakes first second flip t a old new → Bakes first second flip t b old new' → (a ≡ b) × (new ≡ new')
+pub bake-determined : (first second : List ℕ) (flip : ℕ) (t : List ℕ) (a b : Baking) (old new new' : List ℕ)
+    → Bakes first second flip t a old new → Bakes first second flip t b old new' → (a ≡ b) × (new ≡ new')
 bake-determined first second flip t a b old new new' p q =
     (only-answer a b (p .says ∙ sym (q .says)), p .leaves ∙ sym (q .leaves))
 

@@ -31,7 +31,8 @@ back false h j p q = omega arith
 abbrev pub turn : ℕ → ℕ → ℕ
 turn flip k = cond (eqb flip 1) (k % 8) (2 * (k / 4) + k % 2)
 
-found : (flip : Bool) (k : ℕ) → k < 16 → let h = cond flip (k / 4 / 2) (k % 4 / 2) in let j = cond flip (k % 8) (2 * (k / 4) + k % 2) in (j < 8) × (cond flip (8 * h + j) (4 * (j / 2) + 2 * h + j % 2) ≡ k)
+found : (flip : Bool) (k : ℕ) → k < 16
+    → let h = cond flip (k / 4 / 2) (k % 4 / 2) in let j = cond flip (k % 8) (2 * (k / 4) + k % 2) in (j < 8) × (cond flip (8 * h + j) (4 * (j / 2) + 2 * h + j % 2) ≡ k)
 found true k h = (omega arith, omega arith)
 found false k h = (omega arith, omega arith)
 
@@ -53,7 +54,8 @@ adds base flip t h c j i = differ (shown (base h) c i) (getD t (own flip h j) 0)
 abbrev pub halfSum : (ℕ → List ℕ) → ℕ → List ℕ → (ℕ → ℕ) → (ℕ → ℕ) → ℕ → ℕ
 halfSum base flip t codes indices h = sumOf (λ j. adds base flip t h (codes h) j (indices (own flip h j))) 8
 
-pub by-halves : {first second : List ℕ} {flip : ℕ} {codes indices : ℕ → ℕ} {d : List ℕ} (t : List ℕ) → Reads first second flip codes indices d → cost d t ≡ sumOf (halfSum (basesOf first second) flip t codes indices) 2
+pub by-halves : {first second : List ℕ} {flip : ℕ} {codes indices : ℕ → ℕ} {d : List ℕ} (t : List ℕ) → Reads first second flip codes indices d
+    → cost d t ≡ sumOf (halfSum (basesOf first second) flip t codes indices) 2
 by-halves {first} {second} {flip} {codes} {indices} {d} t p =
     split (eqb flip 1) (λ k. differ (pixel d k) (getD t k 0))
     ∙ sum-same (λ h. sumOf (λ j. differ (pixel d (own flip h j)) (getD t (own flip h j) 0)) 8) (halfSum (basesOf first second) flip t codes indices) 2

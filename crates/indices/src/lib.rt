@@ -39,7 +39,10 @@ fn index_at(first: [u32; 4], second: [u32; 4], flip: usize, k: usize, v: u32) ->
 // The words of the index bits: pixel i = 4x + y at bit i, so from the last pixel down.
 pub fn index_words(first: [u32; 4], second: [u32; 4], flip: usize, tile: &[u32]) -> Words
     requires { ⌜ 16 ≤ length (now tile) ⌝ }
-    ensures { λ r. ⌜ (r .high ≡ highOf (indexBy first second flip (now (tile .entry)))) × (r .low ≡ lowOf (indexBy first second flip (now (tile .entry)))) × (r .high < 65536) × (r .low < 65536) ⌝ }
+    ensures { λ r. ⌜ (r .high ≡ highOf (indexBy first second flip (now (tile .entry))))
+        × (r .low ≡ lowOf (indexBy first second flip (now (tile .entry))))
+        × (r .high < 65536)
+        × (r .low < 65536) ⌝ }
 {
     let mut high: u32 = 0;
     let mut low: u32 = 0;

@@ -1,10 +1,11 @@
 -- Each way out knows the checks that led to it.
 -- Assumes nothing.
 use mathlib.Core.Path.{_≡_, _∙_, sym}
-use mathlib.Core.Bool.{true, false}
+use mathlib.Core.Bool.{Bool, true, false, cond}
+use mathlib.Core.List.{[], _∷_}
 use denote.Ref.{now}
 use borrow.Author.Tests.{not-true, not-false}
-use Rattle.rules.specs.Checking.{like}
+use Rattle.rules.specs.Checking.{like, checkVerdict}
 use Rattle.checker.proofs.Verdict.{of-block, short-block, short-tile, out-of-range, in-range}
 use borrow.Author.Needs.{needs}
 use Rattle.checker.proofs.check.Statement.{statement}
@@ -43,17 +44,20 @@ tested c =
     let a = start c .args in
     c .all-near .ensures ∙ of-block (a .tolerance) (now (a .block)) (c .before .etc1-block .result) (now (a .tile)) (c .before .etc1-block .ensures)
 
+-- so it is the answer, the other checks having passed
+answered : (c : tie.After-all-near) (b : Bool) → c .all-near .result ≡ b
+    → cond b (0 ∷ []) (18 ∷ []) ≡ checkVerdict (start c .args .tolerance) (now (start c .args .block)) (now (start c .args .tile))
+answered c b e =
+    let s = c .before .before in
+    let a = start c .args in
+    in-range (a .tolerance) (now (a .block)) (now (a .tile)) (s .before .before .before .if1 .left) (s .before .before .if2 .left)
+    (sym (s .before .is-bad .ensures) ∙ s .if3 .left) b (sym (tested c) ∙ e)
+
 returns-4 : tie.Need-returns-4
-returns-4 c =
-    let s = c .before .before .before in
-    let a = s .before .before .before .before .before .before .args in
-    in-range (a .tolerance) (now (a .block)) (now (a .tile)) (s .before .before .before .if1 .left) (s .before .before .if2 .left) (sym (s .before .is-bad .ensures) ∙ s .if3 .left) false (sym (tested (c .before)) ∙ not-true _ (c .if4 .taken))
+returns-4 c = answered (c .before) false (not-true _ (c .if4 .taken))
 
 returns-5 : tie.Need-returns-5
-returns-5 c =
-    let s = c .before .before .before in
-    let a = s .before .before .before .before .before .before .args in
-    in-range (a .tolerance) (now (a .block)) (now (a .tile)) (s .before .before .before .if1 .left) (s .before .before .if2 .left) (sym (s .before .is-bad .ensures) ∙ s .if3 .left) true (sym (tested (c .before)) ∙ not-false _ (c .if4 .left))
+returns-5 c = answered (c .before) true (not-false _ (c .if4 .left))
 
 pub check-spec : {M : Type 1} → statement M
 check-spec =

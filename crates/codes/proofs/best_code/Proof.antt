@@ -41,7 +41,8 @@ loop-again : tie.Need-loop-again Inv-loop μ-loop
 loop-again c =
     let l = c .before .before .before in
     let a = l .before .before .before .args in
-    (omega arith, goes-on (costFor (a .base) (a .flip) (now (a .tile)) (a .h)) (l .loop .c) (l .loop .b .at) (l .loop .b .value) _ _ _ (l .loop .inv .1) (c .before .code-cost2 .ensures) (c .better .ensures))
+    let f = costFor (a .base) (a .flip) (now (a .tile)) (a .h) in
+    (omega arith, goes-on f (l .loop .c) (l .loop .b .at) (l .loop .b .value) _ _ _ (l .loop .inv .1) (c .before .code-cost2 .ensures) (c .better .ensures))
 
 returns : tie.Need-returns Inv-loop μ-loop
 unfolding codeFor

@@ -26,7 +26,9 @@ returns c =
     let n = c .before in
     let e = n .before in
     let a = e .before .before .args in
-    (n .nearest .ensures .0 ∙ ap (λ (l : List ℕ). nearestOf l (a .v)) (e .of-half .ensures) ∙ ap (λ (h : ℕ). nearestOf (ofHalf (a .first) (a .second) h) (a .v)) (e .before .half-of .ensures .0), n .nearest .ensures .1)
+    let p = ap (λ (l : List ℕ). nearestOf l (a .v)) (e .of-half .ensures) in
+    let q = ap (λ (h : ℕ). nearestOf (ofHalf (a .first) (a .second) h) (a .v)) (e .before .half-of .ensures .0) in
+    (n .nearest .ensures .0 ∙ p ∙ q, n .nearest .ensures .1)
 
 pub index-at-spec : {M : Type 1} → statement M
 index-at-spec =
