@@ -1,4 +1,4 @@
-/* ETC1, ETC2 and EAC textures, read by proved code.
+/* ETC1, ETC2 and EAC textures, and the degrees that their colours mean, read by proved code.
  *
  * Link with the static library that `bindings/archive FILE.a` writes. Every function may be
  * called from several threads at once, allocates nothing, keeps nothing between calls but in what
@@ -22,10 +22,10 @@
  *      are written. No other element is touched, so gaps and what lies behind keep their value.
  *   1  refused: the width, the height or the pitch is above 65536; of a sheet, and of its writer,
  *      the width or the height above 16384.
- *   2  refused: data_len is less than the blocks have. A picture has
+ *   2  refused: data_len is less than the blocks have, or block_len less than 8. A picture has
  *      ((width + 3) / 4) * ((height + 3) / 4) blocks of 8 bytes, or 16 where it says so below.
  *   3  refused: image_len is less than (height - 1) * pitch + width, which is width * height where
- *      there is no gap (and 0 where a side is 0), or out_len less than 16, or counts_len less than
+ *      there is no gap (and 0 where a side is 0), or out_len or tile_len less than 16, or counts_len less than
  *      the census has counts.
  *   4  refused by yalivucu_decode_etc1_strict alone: a block's base plus step is out of range.
  *   5  refused: the channel is above 3.
@@ -38,16 +38,22 @@
  *  10  refused: no record of blocks, a second one, or blocks that are not of the exact length.
  *  11  refused by yalivucu_decode_etc2_rgba1_opaque alone: a block's opaque bit is clear.
  *  12  refused: the pitch is below the width.
+ *  13  refused, of degrees: a low or level of the legend does not lie in -720 to 720, or a step not in
+ *      -8 to 8, or the legend is of no kind.
+ *  14  refused: legend and picture name different digits, or one above 4.
+ *  15  refused: the measurement does not lie in -720 to 720, or is not a number.
  *  16  refused by yalivucu_bake_etc1_block alone: a channel of a base is above 15, or the flip above 1.
+ *  17  not measured: the pixel's alpha is 0.
  *  18  by yalivucu_check_etc1_block alone, and no refusal: the block is not accepted.
  * Pictures test 1, 12, 2, 6, 3, 4 or 11 in that order, blocks 5, 2, 3, censuses 1, 2, 3. A sheet is walked
- * front to back and the first fault is the answer, 3 last; the writer tests 8, 1, 10, 3; the checker of a
- * block 2, 3, its baker 16, 2, 3. A refusal
- * touches no element. Pictures in pieces have an order of their own, below, and their last answer,
+ * front to back and the first fault is the answer, 3 last; the writer tests 8, 1, 10, 3. Degrees test
+ * 13, 14, 15, 17; the checker of a block 2, 3, its baker 16, 2, 3. A refusal touches no element. Pictures in
+ * pieces have an order of their own, below, and their last answer,
  * 2, leaves what is painted.
  *
  * What the caller owes
- *   data points to data_len bytes that may be read, image (out, counts) to image_len (out_len,
+ *   data (block, tile) points to data_len (block_len, tile_len) bytes or elements that may be read, and
+ *   block of the baker to bytes that may be written, image (out, counts) to image_len (out_len,
  *   counts_len) elements that may be read and written, aligned as their type is, and the two do
  *   not overlap. Where a length is 0 the pointer is not followed and may be NULL. C checks none of
  *   this, and nothing here can. No number and no content of the bytes is wrong: for those there
@@ -77,7 +83,11 @@ enum yalivucu_answer {
     YALIVUCU_WRONG_BLOCKS = 10,
     YALIVUCU_NOT_OPAQUE = 11,
     YALIVUCU_SHORT_PITCH = 12,
+    YALIVUCU_BAD_LEGEND = 13,
+    YALIVUCU_BAD_DIGIT = 14,
+    YALIVUCU_BAD_MEASUREMENT = 15,
     YALIVUCU_NO_BASE = 16,
+    YALIVUCU_NOT_MEASURED = 17,
     YALIVUCU_NOT_ACCEPTED = 18
 };
 
@@ -287,6 +297,58 @@ static inline uint32_t yalivucu_pieces_take(struct yalivucu_pieces *state, const
 static inline uint32_t yalivucu_pieces_end(const struct yalivucu_pieces *state)
 {
     return yalivucu_end_pieces(state->numbers_, state->kept_);
+}
+
+/* From colour to degrees. A legend says what a pixel's red means: a level predicts its one value at
+ * every red; a line low + step * red; a bend that line up to red 128, and beyond it
+ * (low + step * 128) + second * (red - 128). Each operation rounds once, to the nearest float; none
+ * is fused, whatever the flags of the program that calls. (The processor has to round to nearest and to
+ * keep subnormals, as a program begins; one linked with -ffast-math does not.) What a kind does not have
+ * is not looked at.
+ *
+ * Legend and picture each name a digit, 0 thumb to 4 little. With answer 0 the reading is what the
+ * legend predicts at the pixel, what was measured, and predicted minus measured; with any other answer
+ * it is not written. None of its values is infinite or a NaN. The pointers are not NULL, and point to
+ * different floats. */
+enum yalivucu_kind {
+    YALIVUCU_LEVEL = 0,
+    YALIVUCU_LINE = 1,
+    YALIVUCU_BEND = 2
+};
+
+struct yalivucu_legend {
+    size_t kind;
+    float low; /* of a level, its value */
+    float step;
+    float second;
+};
+
+struct yalivucu_reading {
+    float predicted;
+    float measured;
+    float difference;
+};
+
+uint32_t yalivucu_read_degrees(size_t kind, float low, float step, float second, size_t legend_digit, size_t picture_digit, uint32_t pixel, float measured, float *predicted, float *seen, float *difference);
+
+static inline uint32_t yalivucu_degrees(struct yalivucu_legend legend, size_t legend_digit, size_t picture_digit, uint32_t pixel, float measured, struct yalivucu_reading *reading)
+{
+    return yalivucu_read_degrees(legend.kind, legend.low, legend.step, legend.second, legend_digit, picture_digit, pixel, measured, &reading->predicted, &reading->measured, &reading->difference);
+}
+static inline struct yalivucu_legend yalivucu_level(float value)
+{
+    struct yalivucu_legend legend = {YALIVUCU_LEVEL, value, 0, 0};
+    return legend;
+}
+static inline struct yalivucu_legend yalivucu_line(float low, float step)
+{
+    struct yalivucu_legend legend = {YALIVUCU_LINE, low, step, 0};
+    return legend;
+}
+static inline struct yalivucu_legend yalivucu_bend(float low, float step, float second)
+{
+    struct yalivucu_legend legend = {YALIVUCU_BEND, low, step, second};
+    return legend;
 }
 
 #ifdef __cplusplus

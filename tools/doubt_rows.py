@@ -16,6 +16,7 @@ from doubt_text import HOLD, NUMERAL, Module, Unreadable
 
 sys.setrecursionlimit(30000)
 TESTS = ["Sheets", "Pieces", "Held", "Censuses", "Bakings"]  # the files of proofs/ whose `hold` is a test that computes
+FLOATS = {"Floats", "Degrees"}  # the files of specs/ whose rows are of floats, which are not computed here
 LATE = {("Answers", "judged"): 1}  # the parameter that is computed only where it is needed: what comes after the checks
 MOST_BITS = 4096  # of a number that is worth computing
 SECONDS = 20  # of processor time for the rows under one change
@@ -349,6 +350,8 @@ class Rows:
         file = self.files["specs", change.module]
         function = python("specs", change.module, change.name)
         before = self.world.get(function)
+        if change.module in FLOATS:
+            return "unknown"
         if not any(self.leans(python("proofs", name, "hold"), function) for name in TESTS):
             return "holds"
         if before is None:

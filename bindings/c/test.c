@@ -401,6 +401,50 @@ static void pieces(void)
     }
 }
 
+static uint32_t bits_of(float value)
+{
+    uint32_t bits;
+    memcpy(&bits, &value, sizeof bits);
+    return bits;
+}
+
+/* Each with what is answered and the reading by bits, whose values are 1 before every call. */
+static void degrees(void)
+{
+    const uint32_t one = 0x3f800000, red200 = 0xffc81234;
+    const struct yalivucu_legend line = yalivucu_line(10, 0.5f), bend = yalivucu_bend(0.1f, 0.1f, -0.7f);
+    const struct {
+        const char *name;
+        struct yalivucu_legend legend;
+        size_t named, shown;
+        uint32_t pixel;
+        float measured;
+        uint32_t answer, predicted, seen, difference;
+    } row[] = {
+        {"legend", yalivucu_level(720.00006103515625f), 5, 4, 0, 721, YALIVUCU_BAD_LEGEND, one, one, one},
+        {"second step", yalivucu_bend(0, 0, -8.00000095367431640625f), 0, 0, red200, 0, YALIVUCU_BAD_LEGEND, one, one, one},
+        {"kind", {3, 0, 0, 0}, 0, 0, red200, 0, YALIVUCU_BAD_LEGEND, one, one, one},
+        {"largest kind", {SIZE_MAX, 0, 0, 0}, 0, 0, red200, 0, YALIVUCU_BAD_LEGEND, one, one, one},
+        {"digits", line, 1, 2, 0, 721, YALIVUCU_BAD_DIGIT, one, one, one},
+        {"sixth digit", line, 5, 5, 0, 721, YALIVUCU_BAD_DIGIT, one, one, one},
+        {"digit of more than a byte", line, 256, 0, red200, 0, YALIVUCU_BAD_DIGIT, one, one, one},
+        {"measurement", line, 1, 1, 0, 721, YALIVUCU_BAD_MEASUREMENT, one, one, one},
+        {"no number", line, 1, 1, red200, 0.0f / 0.0f, YALIVUCU_BAD_MEASUREMENT, one, one, one},
+        {"not measured", line, 1, 1, 0x00c81234, 100, YALIVUCU_NOT_MEASURED, one, one, one},
+        {"level", yalivucu_level(-0.0f), 3, 3, red200, 0, YALIVUCU_DONE, 0x80000000, 0, 0x80000000},
+        {"line", line, 1, 1, red200, 100, YALIVUCU_DONE, 0x42dc0000, 0x42c80000, 0x41200000},
+        {"bend", bend, 4, 4, red200, -20, YALIVUCU_DONE, 0xc215ffff, 0xc1a00000, 0xc18bfffe},
+    };
+    for (size_t k = 0; k < sizeof row / sizeof *row; k++) {
+        struct yalivucu_reading reading = {1, 1, 1};
+        uint32_t answer = yalivucu_degrees(row[k].legend, row[k].named, row[k].shown, row[k].pixel, row[k].measured, &reading);
+        same(row[k].name, answer, row[k].answer);
+        same(row[k].name, bits_of(reading.predicted), row[k].predicted);
+        same(row[k].name, bits_of(reading.measured), row[k].seen);
+        same(row[k].name, bits_of(reading.difference), row[k].difference);
+    }
+}
+
 int main(void)
 {
     pictures();
@@ -415,6 +459,7 @@ int main(void)
     baking();
     sheets();
     pieces();
+    degrees();
     puts(failures ? "C: FAILED" : "C: passed");
     return failures != 0;
 }

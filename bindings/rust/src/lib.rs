@@ -28,6 +28,7 @@
 
 mod baking;
 mod census;
+mod degrees;
 mod pieces;
 mod refusal;
 mod sheet;

@@ -37,6 +37,13 @@ pub enum Refusal {
     },
     /// Refusal 12: the pitch is below the width.
     ShortPitch,
+    /// Refusal 13, of degrees: a low or level of the legend does not lie in -720 to 720, or a step not
+    /// in -8 to 8.
+    BadLegend,
+    /// Refusal 14, of degrees: legend and picture name different digits, or one above 4.
+    BadDigit,
+    /// Refusal 15, of degrees: the measurement does not lie in -720 to 720, or is not a number.
+    BadMeasurement,
     /// Refusal 16, of the baker alone: a channel of a base is above 15.
     NoBase,
     /// A number that this package does not know: another archive than its own was linked.
@@ -62,6 +69,9 @@ impl Refusal {
             Refusal::WrongBlocks => 10,
             Refusal::NotOpaque { .. } => 11,
             Refusal::ShortPitch => 12,
+            Refusal::BadLegend => 13,
+            Refusal::BadDigit => 14,
+            Refusal::BadMeasurement => 15,
             Refusal::NoBase => 16,
             Refusal::Unknown { number } => number,
         }
@@ -82,6 +92,9 @@ impl Refusal {
             Refusal::WrongBlocks => "The sheet has not exactly its blocks!",
             Refusal::NotOpaque { .. } => "An RGBA1 block has its opaque bit clear!",
             Refusal::ShortPitch => "The pitch is below the width!",
+            Refusal::BadLegend => "The legend is out of range!",
+            Refusal::BadDigit => "Legend and picture do not name one digit!",
+            Refusal::BadMeasurement => "The measurement is out of range!",
             Refusal::NoBase => "A channel of a base is above 15!",
             Refusal::Unknown { .. } => "The linked library gave an answer that this package does not know!",
         }
@@ -103,6 +116,9 @@ impl Refusal {
             10 => Err(Refusal::WrongBlocks),
             11 => Err(Refusal::NotOpaque { block }),
             12 => Err(Refusal::ShortPitch),
+            13 => Err(Refusal::BadLegend),
+            14 => Err(Refusal::BadDigit),
+            15 => Err(Refusal::BadMeasurement),
             16 => Err(Refusal::NoBase),
             number => Err(Refusal::Unknown { number }),
         }
@@ -140,6 +156,9 @@ impl fmt::Display for Refusal {
                 "Refusal {number}: an RGBA1 block has its opaque bit clear, the first of them block {block}."
             ),
             Refusal::ShortPitch => write!(f, "Refusal {number}: the pitch is below the width."),
+            Refusal::BadLegend => write!(f, "Refusal {number}: the legend has degrees or a step out of range."),
+            Refusal::BadDigit => write!(f, "Refusal {number}: legend and picture do not name one digit."),
+            Refusal::BadMeasurement => write!(f, "Refusal {number}: the measurement is out of range, or no number."),
             Refusal::NoBase => write!(f, "Refusal {number}: a channel of a base is above 15."),
             Refusal::Unknown { .. } => write!(f, "Refusal {number}: the linked library is not this package's own."),
         }

@@ -138,4 +138,17 @@ extern "C" {
         unused: *mut usize,
     ) -> u32;
     pub fn yalivucu_end_pieces(numbers: *const [usize; 5], kept: *const [u8; 15]) -> u32;
+    pub fn yalivucu_read_degrees(
+        kind: usize,
+        low: f32,
+        step: f32,
+        second: f32,
+        legend_digit: usize,
+        picture_digit: usize,
+        pixel: u32,
+        measured: f32,
+        predicted: *mut f32,
+        seen: *mut f32,
+        difference: *mut f32,
+    ) -> u32;
 }

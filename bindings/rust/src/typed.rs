@@ -12,6 +12,7 @@
 //! ```
 pub use crate::baking::{bake_etc1_block, check_etc1_block};
 pub use crate::census::{census_etc2_rgb, census_etc2_rgba1, KindCounts, RgbCounts, Rgba1Counts};
+pub use crate::degrees::{degrees, Legend, Reading};
 pub use crate::pieces::{Pieces, Taken};
 pub use crate::refusal::Refusal;
 pub use crate::sheet::{read_sheet, sheet_head, write_sheet, Head};

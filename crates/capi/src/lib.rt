@@ -18,6 +18,7 @@ ghost use Rattle.rules.specs.Pieces.{Ends};
 ghost use Rattle.rules.specs.Checking.{Checks};
 ghost use Rattle.rules.specs.Baking.{Bakes};
 ghost use Rattle.pieces_lent.specs.Lent.{stateIn, StartLent, PieceLent};
+ghost use Rattle.degrees_lent.specs.Lent.{legendAt, DegreesTold};
 ghost use Rattle.capi.specs.Census.{CountsInto};
 ghost use Rattle.told.specs.Told.{Told, blockOr};
 ghost use Rattle.capi.specs.Told.{HeadTold, WriterTold, BakingTold};
@@ -774,6 +775,51 @@ pub extern "C" fn yalivucu_end_pieces(numbers: &[usize; 5], kept: &[u8; 15]) -> 
     ensures { λ r. ⌜ Told (λ a. Ends (stateIn (now (numbers .entry)) (now (kept .entry))) a) r ⌝ }
 {
     etc::number(pieces_lent::end(numbers, kept))
+}
+
+// The reading at a pixel, by a legend of kind 0 level, 1 line or 2 bend; any other kind is refused with 13. With answer 0 alone, its three
+// values are written.
+#[no_mangle]
+pub extern "C" fn yalivucu_read_degrees(
+    kind: usize,
+    low: f32,
+    step: f32,
+    second: f32,
+    legend_digit: usize,
+    picture_digit: usize,
+    pixel: u32,
+    measured: f32,
+    predicted: &mut f32,
+    seen: &mut f32,
+    difference: &mut f32,
+) -> u32
+    ensures { λ r. ⌜ DegreesTold
+        (legendAt kind low step second)
+        «legend_digit»
+        «picture_digit»
+        pixel
+        measured
+        (now (predicted .entry))
+        (now (seen .entry))
+        (now (difference .entry))
+        r
+        (now (predicted .exit))
+        (now (seen .exit))
+        (now (difference .exit)) ⌝ }
+{
+    degrees_lent::read(
+        kind,
+        low,
+        step,
+        second,
+        legend_digit,
+        picture_digit,
+        pixel,
+        measured,
+        predicted,
+        seen,
+        difference,
+    )
 }
 
 // Checks an ETC1 block against a tile.

@@ -18,6 +18,8 @@ pub mod Lowest
 pub mod Arrived
 pub mod Step
 pub mod Cuts
+pub mod Degrees
+pub mod Ranges
 pub mod Halves
 pub mod Least
 pub mod Checker

@@ -1,18 +1,20 @@
 // The public list of src/etc.rs: eleven block readers, eight picture readers, strict ETC1 and RGBA1 for an opaque-only viewer, each of
 // these ten with a twin that takes the description with its pitch; two censuses; the readers and the writer of sheets; the reader of a
-// picture in pieces; and the checker and the baker of ETC1 blocks. None asks anything of its caller. Each promises the answer and every
-// element of what it is lent afterwards, for all inputs; what that is, crates/rules/specs/Readers.antt, Census.antt, Sheets.antt,
-// Pieces.antt, Checking.antt and Baking.antt say for all of them. Refusals: 1 width,
+// picture in pieces; the reader of degrees; and the checker and the baker of ETC1 blocks. None asks anything of its caller. Each promises
+// the answer and every element of what it is lent afterwards, for all inputs; what that is, crates/rules/specs/Readers.antt, Census.antt,
+// Sheets.antt, Pieces.antt, Degrees.antt, Checking.antt and Baking.antt say for all of them. Refusals: 1 width,
 // height or pitch above 65,536 (of a sheet: width or height above 16,384); 12 a pitch below the width; 2 too few bytes; 6 too many (strict
 // only); 3 too few elements, or too little room for a sheet; 4 a block out of range, with its number (strict only); 5 a channel above 3; of
 // sheets, 7 a record cut short, 8 no head, 9 another kind, 10 not exactly the blocks; 11 a block whose opaque bit is clear, with its
-// number (opaque only); 16 a base channel above 15 or a flip above 1 (baker only). A refusal changes nothing. 18 is no refusal: the checker
-// does not accept the block.
+// number (opaque only); of degrees, 13 the legend, 14 the digits, 15 the measurement; 16 a base channel above 15 or a flip above 1 (baker
+// only). A refusal changes nothing. 18 is no refusal: the checker does not accept the block.
 use rules::Answer;
 use rules::Baking;
 use rules::Format;
+use rules::Legend;
 use rules::Picture;
 use rules::Progress;
+use rules::Reply;
 use rules::RgbCensus;
 use rules::Rgba1Census;
 use rules::Sheet;
@@ -28,6 +30,7 @@ ghost use Rattle.rules.specs.Census.{CountsRgb, CountsRgba1};
 ghost use Rattle.rules.specs.Readers.{ReadsPicture, ReadsStrict, ReadsOpaque, ReadsBlock, ReadsAlpha, ReadsChannel};
 ghost use Rattle.rules.specs.Sheets.{TellsHead, ReadsSheet, WritesSheet};
 ghost use Rattle.rules.specs.Pieces.{Starts, Takes, Ends};
+ghost use Rattle.rules.specs.Degrees.{ReadsDegrees};
 ghost use Rattle.rules.specs.Checking.{bakingSaid, Checks};
 ghost use Rattle.rules.specs.Baking.{Bakes};
 
@@ -357,6 +360,20 @@ pub fn end_pieces(p: Progress) -> Answer
     ensures { λ r. ⌜ Ends p r ⌝ }
 {
     pieces::end(p)
+}
+
+// What a legend predicts in degrees at a pixel, beside what was measured: a reading, "not measured" where the pixel has alpha 0, or
+// refused with 13, 14 or 15. The legend and the picture each name their digit, and it is compared here.
+pub fn degrees(
+    legend: Legend,
+    legend_digit: usize,
+    picture_digit: usize,
+    pixel: u32,
+    measured: f32,
+) -> Reply
+    ensures { λ r. ⌜ ReadsDegrees legend «legend_digit» «picture_digit» pixel measured r ⌝ }
+{
+    degrees::read(legend, legend_digit, picture_digit, pixel, measured)
 }
 
 // The number of an answer of the two functions below.

@@ -22,6 +22,9 @@ pub mod Records
 pub mod Sheets
 -- pictures in pieces, of document 02
 pub mod Pieces
+-- from colour to degrees, of document 02
+pub mod Floats
+pub mod Degrees
 -- the checker and the baker of ETC1 blocks, of document 02
 pub mod Counting
 pub mod Checking

@@ -132,6 +132,32 @@ pub struct Taken {
     pub unused: usize,
 }
 
+// A legend is one of three kinds, each with its degrees: one value; a line; a line up to red 128 and another beyond it.
+pub enum Legend {
+    Level(f32),
+    Line { low: f32, step: f32 },
+    Bend { low: f32, step: f32, second: f32 },
+}
+
+// The degrees that a legend predicts, those that were measured, and predicted minus measured.
+pub struct Reading {
+    pub predicted: f32,
+    pub measured: f32,
+    pub difference: f32,
+}
+
+// What the reader of degrees answers. Document 02's number and values of each case are `degreesSaid`, in specs/Degrees.antt.
+pub enum Reply {
+    Read(Reading),
+    NotMeasured,
+    // the legend is refused
+    BadLegend,
+    // two digits, or one that nobody has
+    BadDigit,
+    // the measurement is out of range, or no number
+    BadMeasurement,
+}
+
 // What the checker and the baker of ETC1 blocks answer. The number of each case is `bakingSaid`, in specs/Checking.antt.
 pub enum Baking {
     Done,

@@ -1,0 +1,4 @@
+pub mod Range
+pub mod Within
+pub mod Predicted
+pub mod Unique
