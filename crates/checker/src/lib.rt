@@ -1,11 +1,25 @@
 // The checker of ETC1 blocks that an outside baker sends.
-use guard::Viewer;
 use rules::Baking;
+use rules::Kind;
 ghost use mathlib.Core.Path.{_≡_};
 ghost use Prim.Native.Nat.{ℕ, _≤_};
 ghost use lib.ListN.{length, getD};
 ghost use Rattle.rules.specs.Counting.{each};
 ghost use Rattle.rules.specs.Checking.{near as nearTo, Checks};
+ghost use Rattle.laws.specs.Kinds.{strange};
+
+// Whether a kind is one that ETC1 does not have: then a sum is out of range.
+fn is_strange(kind: Kind) -> bool
+    ensures { λ r. ⌜ r ≡ strange kind ⌝ }
+{
+    match kind {
+        Kind::Individual => false,
+        Kind::Differential => false,
+        Kind::T => true,
+        Kind::H => true,
+        Kind::Planar => true,
+    }
+}
 
 // Whether sixteen pixels are near those of a tile, each of them.
 fn all_near(tolerance: u32, pixels: [u32; 16], tile: &[u32]) -> bool
@@ -32,7 +46,7 @@ pub fn check(block: &[u8], tile: &[u32], tolerance: u32) -> Baking
     if tile.len() < 16 {
         return Baking::ShortTile;
     }
-    if guard::is_bad(Viewer::Etc1, block) {
+    if is_strange(kinds::kind_of(block)) {
         return Baking::NotAccepted; // out of range
     }
     if !all_near(tolerance, etc1::etc1_block(block), tile) {

@@ -48,7 +48,7 @@ fn is_strange(kind: Kind) -> bool
 }
 
 // Whether a viewer must not show a block: by its kind, or by its opaque bit.
-pub fn is_bad(viewer: Viewer, d: &[u8]) -> bool
+fn is_bad(viewer: Viewer, d: &[u8]) -> bool
     requires { ⌜ 8 ≤ length (now d) ⌝ }
     ensures { λ r. ⌜ r ≡ guardOf viewer .bad (now (d .entry)) ⌝ }
 {

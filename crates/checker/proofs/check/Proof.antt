@@ -1,11 +1,14 @@
 -- Each way out knows the checks that led to it.
 -- Assumes nothing.
-use mathlib.Core.Path.{_≡_, _∙_, sym}
+use mathlib.Core.Path.{_≡_, _∙_, sym, ap}
 use mathlib.Core.Bool.{Bool, true, false, cond}
 use mathlib.Core.List.{[], _∷_}
 use denote.Ref.{now}
 use borrow.Author.Tests.{not-true, not-false}
+use Rattle.rules.specs.Colour.{outOfRange}
 use Rattle.rules.specs.Checking.{like, checkVerdict}
+use Rattle.laws.specs.Kinds.{strange}
+use Rattle.laws.proofs.Range.{exactly}
 use Rattle.checker.proofs.Verdict.{of-block, short-block, short-tile, out-of-range, in-range}
 use borrow.Author.Needs.{needs}
 use Rattle.checker.proofs.check.Statement.{statement}
@@ -21,13 +24,21 @@ returns-2 c =
     let a = c .before .before .before .before .args in
     short-tile (a .tolerance) (now (a .block)) (now (a .tile)) (c .before .if1 .left) (c .if2 .taken)
 
-is-bad-requires : tie.Need-is-bad-requires
-is-bad-requires c κs = search needs
+kind-of-requires : tie.Need-kind-of-requires
+kind-of-requires c κs = search needs
+
+is-strange-requires : tie.Need-is-strange-requires
+is-strange-requires c κs = search needs
+
+-- what the kind says of the range
+ranged : (c : tie.After-is-strange) → outOfRange (now (c .before .before .before .before .before .before .args .block)) ≡ c .is-strange .result
+ranged c = exactly _ ∙ ap strange (sym (c .before .kind-of .ensures)) ∙ sym (c .is-strange .ensures)
 
 returns-3 : tie.Need-returns-3
 returns-3 c =
-    let a = c .before .before .before .before .before .before .args in
-    out-of-range (a .tolerance) (now (a .block)) (now (a .tile)) (c .before .before .before .if1 .left) (c .before .before .if2 .left) (sym (c .before .is-bad .ensures) ∙ c .if3 .taken)
+    let a = c .before .before .before .before .before .before .before .args in
+    let e = c .before .before .before in
+    out-of-range (a .tolerance) (now (a .block)) (now (a .tile)) (e .before .if1 .left) (e .if2 .left) (ranged (c .before) ∙ c .if3 .taken)
 
 etc1-block-requires : tie.Need-etc1-block-requires
 etc1-block-requires c κs = search needs
@@ -36,7 +47,7 @@ all-near-requires : tie.Need-all-near-requires
 all-near-requires c κs = search needs
 
 abbrev start : tie.After-all-near → tie.Start
-start c = c .before .before .before .before .before .before .before .before
+start c = c .before .before .before .before .before .before .before .before .before
 
 -- what the test of the sixteen pixels says of the block
 tested : (c : tie.After-all-near) → c .all-near .result ≡ like (start c .args .tolerance) (now (start c .args .block)) (now (start c .args .tile))
@@ -50,8 +61,8 @@ answered : (c : tie.After-all-near) (b : Bool) → c .all-near .result ≡ b
 answered c b e =
     let s = c .before .before in
     let a = start c .args in
-    in-range (a .tolerance) (now (a .block)) (now (a .tile)) (s .before .before .before .if1 .left) (s .before .before .if2 .left)
-    (sym (s .before .is-bad .ensures) ∙ s .if3 .left) b (sym (tested c) ∙ e)
+    in-range (a .tolerance) (now (a .block)) (now (a .tile)) (s .before .before .before .before .if1 .left) (s .before .before .before .if2 .left)
+    (ranged (s .before) ∙ s .if3 .left) b (sym (tested c) ∙ e)
 
 returns-4 : tie.Need-returns-4
 returns-4 c = answered (c .before) false (not-true _ (c .if4 .taken))
@@ -65,7 +76,8 @@ check-spec =
     (tie.spec
     returns
     returns-2
-    is-bad-requires
+    kind-of-requires
+    is-strange-requires
     returns-3
     etc1-block-requires
     all-near-requires
