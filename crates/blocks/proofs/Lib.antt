@@ -1,1 +1,5 @@
+pub mod Alone
+pub mod Beside
+pub mod Blocks
 pub mod Formats
+pub mod Runs

@@ -16,7 +16,7 @@ use Rattle.rules.specs.Places.{inside, inTile, needed, blocks, blockAt, bytesOf
 use Rattle.rules.specs.Answers.{refusal, limitCheck, pitchCheck, dataCheck, imageCheck, pictureChecks, exactChecks, judged}
 use Rattle.rules.specs.declared.Picture.{Picture}
 use Rattle.laws.proofs.Paint.{length-painted, getD-painted, painted-same}
-use Rattle.paint.proofs.Blocks.{block-in, room}
+use Rattle.blocks.proofs.Blocks.{block-in, room}
 
 -- the picture of bytes d over an image
 abbrev pub over : Shows → ℕ → Picture → List ℕ → List ℕ → List ℕ

@@ -14,7 +14,7 @@ use lib.Seq.{length-take-le, getD-append-add}
 use Rattle.rules.specs.Notation.{byte}
 use Rattle.rules.specs.Places.{bytesOf}
 use Rattle.laws.proofs.Filled.{getD-build, build-same}
-use Rattle.paint.proofs.Blocks.{room}
+use Rattle.blocks.proofs.Blocks.{room}
 use Rattle.rules.specs.Pieces.{padded}
 use Rattle.kept.proofs.Joined.{low, high, same-bytes}
 use Rattle.kept.proofs.Numbers.{sub-times}

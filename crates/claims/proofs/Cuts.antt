@@ -30,8 +30,8 @@ use Rattle.laws.proofs.Paint.{none, getD-painted}
 use Rattle.laws.proofs.Reach.{some-bytes, few-bytes}
 use Rattle.laws.proofs.Unique.{answer}
 use Rattle.checks.proofs.Checks.{passed as picture-passed}
-use Rattle.paint.proofs.Blocks.{block-in}
-use Rattle.paint.proofs.Runs.{taken, left, run-painted, tested, tests}
+use Rattle.blocks.proofs.Blocks.{block-in}
+use Rattle.blocks.proofs.Runs.{taken, left, run-painted, tested, tests}
 use Rattle.claims.proofs.Arrived.{padded-same}
 use Rattle.claims.proofs.Step.{Stepped, step}
 

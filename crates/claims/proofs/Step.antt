@@ -18,14 +18,14 @@ use Rattle.laws.proofs.Judged.{passed}
 use Rattle.laws.proofs.Reach.{some-bytes, few-bytes}
 use Rattle.place.specs.Tile.{Room}
 use Rattle.place.proofs.Grid.{roomy, kept}
-use Rattle.paint.specs.Run.{InRun}
+use Rattle.blocks.specs.Run.{InRun}
 use Rattle.rules.specs.declared.Progress.{Progress}
 use Rattle.rules.specs.declared.Taken.{Taken}
 use Rattle.rules.specs.Pieces.{got, held, later, completed, behindLast, after, padded, inRun, imageAfter, startChecks, pieceVerdict, Takes}
 use Rattle.rules.specs.Pieces.{used, wholes, stateOf, soFar}
 use Rattle.claims.proofs.Arrived.{old-block, new-block, new-kept}
 use Rattle.kept.proofs.Numbers.{blocks-up}
-use Rattle.paint.proofs.Runs.{run-painted, two-runs, other-bytes, was-painted}
+use Rattle.blocks.proofs.Runs.{run-painted, two-runs, other-bytes, was-painted}
 
 -- What a piece e that is taken makes of what was read.
 pub record Stepped (f : Format) (pic : Picture) (d e image : List ℕ) (r : Taken) (new : List ℕ) : Type 0 where

@@ -3,13 +3,14 @@ use rules::Answer;
 use rules::Format;
 use rules::Kind;
 ghost use mathlib.Core.Path.{_≡_};
+ghost use mathlib.Core.Bool.{cond};
 ghost use mathlib.Core.List.{[], _∷_};
-ghost use Prim.Native.Nat.{ℕ, _*_, _≤_};
+ghost use Prim.Native.Nat.{_*_, _≤_};
 ghost use lib.ListN.{length};
-ghost use Rattle.rules.specs.Places.{bytesOf};
-ghost use Rattle.rules.specs.Answers.{said, firstOf, guarded};
+ghost use Rattle.rules.specs.Answers.{said};
+ghost use Rattle.rules.specs.Guards.{notOpaque};
 ghost use Rattle.laws.specs.Kinds.{strange};
-ghost use Rattle.guard.specs.Viewers.{guardOf};
+ghost use Rattle.guard.specs.Viewers.{guardOf, scannedFrom};
 
 // The older viewers: one that knows ETC1 alone, and one that knows ETC2 RGB, but nothing transparent.
 pub enum Viewer {
@@ -27,62 +28,52 @@ pub fn own(viewer: Viewer) -> Format
     }
 }
 
-// The refusal of a block.
-pub fn named(viewer: Viewer, block: usize) -> Answer
-    ensures { λ r. ⌜ said r ≡ guardOf viewer .number ∷ block ∷ [] ⌝ }
-{
-    match viewer {
-        Viewer::Etc1 => Answer::OutOfRange(block),
-        Viewer::Opaque => Answer::NotOpaque(block),
-    }
-}
-
-// Whether a kind is one that ETC1 does not know.
-fn is_strange(kind: Kind) -> bool
-    ensures { λ r. ⌜ r ≡ strange kind ⌝ }
+// In range goes on; otherwise the refusal of ETC1 with the block's number.
+fn in_range(kind: Kind, block: usize) -> Answer
+    ensures { λ r. ⌜ said r ≡ cond (strange kind) (4 ∷ block ∷ []) (0 ∷ []) ⌝ }
 {
     let (Kind::Individual | Kind::Differential) = kind else {
-        return true;
+        return Answer::OutOfRange(block);
     };
-    false
+    Answer::Done
 }
 
-// Whether a viewer must not show a block: by its kind, or by its opaque bit.
-fn is_bad(viewer: Viewer, d: &[u8]) -> bool
+// Opaque goes on; otherwise the refusal of an opaque-only viewer with the block's number.
+fn opaque(d: &[u8], block: usize) -> Answer
     requires { ⌜ 8 ≤ length (now d) ⌝ }
-    ensures { λ r. ⌜ r ≡ guardOf viewer .bad (now (d .entry)) ⌝ }
+    ensures { λ r. ⌜ said r ≡ cond (notOpaque (now (d .entry))) (11 ∷ block ∷ []) (0 ∷ []) ⌝ }
+{
+    if d[3] / 2 % 2 != 1 {
+        return Answer::NotOpaque(block);
+    }
+    Answer::Done
+}
+
+// What a viewer says of a block that has these bytes and this number.
+fn judged(viewer: Viewer, d: &[u8], block: usize) -> Answer
+    requires { ⌜ 8 ≤ length (now d) ⌝ }
+    ensures { λ r. ⌜ said r ≡ cond (guardOf viewer .bad (now (d .entry))) (guardOf viewer .number ∷ block ∷ []) (0 ∷ []) ⌝ }
 {
     match viewer {
-        Viewer::Etc1 => is_strange(kinds::kind_of(d)),
-        Viewer::Opaque => d[3] / 2 % 2 != 1,
+        Viewer::Etc1 => in_range(kinds::kind_of(d), block),
+        Viewer::Opaque => opaque(d, block),
     }
 }
 
-// The first of n blocks that a viewer must not show, or n where there is none.
-pub fn first_bad(viewer: Viewer, data: &[u8], n: usize) -> usize
-    requires { ⌜ n * 8 ≤ length (now «data») ⌝ }
-    ensures { λ r. ⌜ r ≡ firstOf (λ (i : ℕ). guardOf viewer .bad (bytesOf 8 (now («data» .entry)) i)) n ⌝ }
+// What is to be said of n blocks, of which the first has the number from: the refusal of the first that a viewer must not show.
+pub fn refusal(viewer: Viewer, data: &[u8], from: usize, n: usize) -> Answer
+    requires { ⌜ (n * 8 ≤ length (now «data»)) × (from ≤ 0x1000000) ⌝ }
+    ensures { λ r. ⌜ said r ≡ scannedFrom (guardOf viewer) from n (now («data» .entry)) ⌝ }
 {
     let mut b: usize = 0;
     while b < n {
         let at = b * 8;
         let end = at + 8;
-        if is_bad(viewer, &data[at..end]) {
-            return b;
-        }
+        let answer = judged(viewer, &data[at..end], from + b);
+        let Answer::Done = answer else {
+            return answer;
+        };
         b += 1;
-    }
-    n
-}
-
-// What is to be said of the first n blocks: the refusal of the first that a viewer must not show.
-pub fn refusal(viewer: Viewer, data: &[u8], n: usize) -> Answer
-    requires { ⌜ n * 8 ≤ length (now «data») ⌝ }
-    ensures { λ r. ⌜ said r ≡ guarded (guardOf viewer .number) (λ (i : ℕ). guardOf viewer .bad (bytesOf 8 (now («data» .entry)) i)) n ⌝ }
-{
-    let first = first_bad(viewer, data, n);
-    if first < n {
-        return named(viewer, first);
     }
     Answer::Done
 }

@@ -18,7 +18,7 @@ use Rattle.laws.proofs.First.{first}
 use Rattle.laws.proofs.Guards.{Sound, accepted}
 use Rattle.laws.proofs.Judged.{numbered, all-pass, passed}
 use Rattle.laws.proofs.Paint.{painted-same}
-use Rattle.paint.proofs.Blocks.{block-in}
+use Rattle.blocks.proofs.Blocks.{block-in}
 
 -- where a guard finds no block, a picture painted by its own rule is painted by the rule that is shown
 module _ (g : Guard) (sound : Sound g) (pic : Picture) (d old : List ℕ) where

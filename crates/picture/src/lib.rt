@@ -68,7 +68,7 @@ fn guarded_answer(viewer: Viewer, d: &[u8], pic: Picture, elements: usize) -> An
     let Answer::Done = answer else {
         return answer;
     };
-    guard::refusal(viewer, d, checks::blocks_of(pic))
+    guard::refusal(viewer, d, 0, checks::blocks_of(pic))
 }
 
 // Reads a picture by the rule that an older viewer has, or refuses it for the first block that this viewer must not show: the answer

@@ -11,8 +11,8 @@ use Rattle.rules.specs.declared.Answer.the-variants.{Done}
 use Rattle.rules.specs.declared.Progress.{Progress}
 use Rattle.rules.specs.declared.Taken.{Taken}
 use Rattle.rules.specs.Pieces.{size, got, later, completed, behindLast, after, padded, pieceVerdict, imageAfter, Takes}
-use Rattle.paint.specs.Run.{PaintsRun}
-use Rattle.paint.proofs.Runs.{run-painted}
+use Rattle.blocks.specs.Run.{PaintsRun}
+use Rattle.blocks.proofs.Runs.{run-painted}
 use Rattle.pieces.specs.Took.{Took}
 
 module _ (p : Progress) (e image : List ℕ) where

@@ -16,7 +16,7 @@ ghost use Rattle.rules.specs.Answers.{said, limit, verdict};
 ghost use Rattle.rules.specs.Formats.{sizeOf};
 ghost use Rattle.rules.specs.Pieces.{startChecks, Starts, Takes, Ends};
 ghost use Rattle.place.specs.Tile.{Room};
-ghost use Rattle.paint.specs.Run.{PaintsRun};
+ghost use Rattle.blocks.specs.Run.{PaintsRun};
 ghost use Rattle.pieces.specs.Took.{Took};
 
 // The checks of starting and of each piece: 1, 12, 3.

@@ -2,7 +2,7 @@
 // row through its piece of the image. After `copy_block_buffer` of src/color.rs.
 use rules::Picture;
 ghost use mathlib.Core.Path.{_≡_};
-ghost use Prim.Native.Nat.{ℕ, _+_, _*_, _<_};
+ghost use Prim.Native.Nat.{ℕ, _+_, _*_, _<_, _≤_};
 ghost use lib.ListN.{length, getD};
 ghost use Rattle.laws.specs.Painted.{Painted};
 ghost use Rattle.place.specs.Tile.{InPiece, InTile, Room, numberIn, shown as shownOf, inRow};
@@ -61,17 +61,19 @@ fn place_rows(
     }
 }
 
+// Paints a tile that the picture has whole.
+pub fn place_whole(tile: [u32; 16], bx: usize, by: usize, pic: Picture, image: &mut [u32])
+    requires { ⌜ (bx * 4 + 4 ≤ pic .width) × (by * 4 + 4 ≤ pic .height) × Room pic (length (now image)) ⌝ }
+    ensures { λ _. ⌜ Painted (InTile pic bx by) (λ (k : ℕ). getD tile (numberIn pic k) 0) (now (image .entry)) (now (image .exit)) ⌝ }
+{
+    place_rows(tile, bx, by, 4, 4, pic, image);
+}
+
 // Paints the tile in column bx and row by of tiles: every pixel of it that the picture has, and no other element.
 pub fn place(tile: [u32; 16], bx: usize, by: usize, pic: Picture, image: &mut [u32])
     requires { ⌜ (bx < 0x10000) × (by < 0x10000) × Room pic (length (now image)) ⌝ }
     ensures { λ _. ⌜ Painted (InTile pic bx by) (λ (k : ℕ). getD tile (numberIn pic k) 0) (now (image .entry)) (now (image .exit)) ⌝ }
 {
-    if bx * 4 + 4 <= pic.width {
-        if by * 4 + 4 <= pic.height {
-            place_rows(tile, bx, by, 4, 4, pic, image);
-            return;
-        }
-    }
     if pic.width <= bx * 4 {
         return;
     }

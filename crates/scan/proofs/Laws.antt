@@ -1,4 +1,4 @@
--- What the scan of a row comes to, and what the rows that were scanned come to, one after another.
+-- What the rows that were scanned come to, one after another.
 -- Assumes nothing.
 use mathlib.Core.Path.{_≡_, _∙_, refl, sym, ap, subst}
 use mathlib.Core.Bool.{Bool, true, false, true≢false}
@@ -9,7 +9,6 @@ use native.Mathlib.Omega.{arith}
 use native.Mathlib.Decide.{decLt}
 use native.Mathlib.Numerals.{add-one}
 use native.Mathlib.Nat.{zero-mul, suc-mul, mul-comm, mul-le-mul, mul-le-mul-right}
-use borrow.Author.Tests.{lt-ltb, le-ltb}
 use lib.ListN.{length, take, getD, length-append}
 use lib.Seq.{length-take-le}
 use Rattle.rules.specs.Places.{sized, across, blocks, bytesOf}
@@ -24,21 +23,10 @@ use Rattle.guard.specs.declared.Viewer.{Viewer}
 use Rattle.guard.specs.declared.Viewer.the-variants as viewer
 use Rattle.guard.proofs.Scan.{sound}
 use Rattle.textures.specs.Textures.{fileLimit}
-use Rattle.strips.specs.Rows.{scanned, firstIn, scannedRow}
+use Rattle.strips.specs.Rows.{scanned, scannedRow}
 use Rattle.strips.proofs.Scanned.{after-row, settled}
 use Rattle.textures.specs.declared.Texture.{Texture}
 use Rattle.scan.specs.Scan.{isAsked, viewerOf, leftOver, numberOf, ScansRow, Scans, Looked, Judges}
-
--- ---- a row
-
-module _ (g : Guard) (n j : ℕ) (row : List ℕ) (first : ℕ) (e : first ≡ firstIn g n row) where
-  pub refuses : first < n → g .number ∷ (j * n + first) ∷ [] ≡ scannedRow g n j row
-  unfolding scannedRow
-  refuses h = ap (λ (z : ℕ). g .number ∷ (j * n + z) ∷ []) e ∙ sym (rw (lt-ltb (firstIn g n row) n (omega arith)))
-
-  pub goes-on : n ≤ first → said Done ≡ scannedRow g n j row
-  unfolding scannedRow
-  goes-on h = sym (rw (le-ltb (firstIn g n row) n (omega arith)))
 
 -- ---- rows one after another
 

@@ -21,11 +21,7 @@ fn after_row(viewer: Viewer, row: &[u8], n: usize, j: usize) -> Answer
     requires { ⌜ (n ≤ 4096) × (j < 4096) × (n * 8 ≤ length (now row)) ⌝ }
     ensures { λ r. ⌜ said r ≡ scannedRow (guardOf viewer) n j (now (row .entry)) ⌝ }
 {
-    let first = guard::first_bad(viewer, row, n);
-    if first < n {
-        return guard::named(viewer, j * n + first);
-    }
-    Answer::Done
+    guard::refusal(viewer, row, j * n, n)
 }
 
 // Reads row j of n blocks, which is next in the file, and scans it.

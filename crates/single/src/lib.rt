@@ -27,7 +27,7 @@ pub fn read_block(f: Format, data: &[u8], image: &mut [u32]) -> Answer
     let Answer::Done = answer else {
         return answer;
     };
-    fill::place_block(blocks::block(f, data), image);
+    fill::place_block(blocks::block_at(f, data, 0), image);
     Answer::Done
 }
 

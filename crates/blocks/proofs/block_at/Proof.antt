@@ -1,13 +1,12 @@
--- `blocks::block_at` meets its contract: the part of the data that is lent is block n.
+-- `blocks::block_at` meets its contract: the part of the data that is lent is block n, and the picture of 4 by 4 is its tile.
 -- Assumes nothing.
-use mathlib.Core.Path.{_∙_, ap}
-use Prim.Native.Nat.{ℕ, _+_, _*_, _≤_}
+use mathlib.Core.Path.{refl}
+use Prim.Native.Nat.{_+_, _*_, _≤_}
 use native.Mathlib.Omega.{arith}
 use lib.ListN.{length}
 use denote.Ref.{now}
-use Rattle.rules.specs.Places.{tile, bytesOf}
-use Rattle.rules.specs.Formats.{showsOf}
-use Rattle.laws.proofs.Parts.{part}
+use Rattle.rules.specs.Formats.{sizeOf, showsOf}
+use Rattle.blocks.proofs.Alone.{enough, alone, whole-four}
 use borrow.Author.Needs.{needs}
 use Rattle.blocks.proofs.block_at.Statement.{statement}
 use Rattle.blocks.proofs.block_at.Tie as tie
@@ -25,25 +24,29 @@ mul-at c = omega (arith, room c)
 add-end : tie.Need-add-end
 add-end c = omega (arith, room c)
 
-sub-block : tie.Need-sub-block
-sub-block c = search needs
+sub-run : tie.Need-sub-run
+sub-run c = search needs
 
-part-block-start : tie.Need-part-block-start
-part-block-start c = search needs
+part-run-start : tie.Need-part-run-start
+part-run-start c = search needs
 
-part-block-end : tie.Need-part-block-end
-part-block-end c = room c
+part-run-end : tie.Need-part-run-end
+part-run-end c = room c
 
-block-requires : tie.Need-block-requires
-block-requires c κs = search needs
+slice-aggregate-run : tie.Need-slice-aggregate-run
+slice-aggregate-run c = search needs
+
+run-requires : tie.Need-run-requires
+run-requires c κs =
+    let z = c .before .before in
+    let a = z .before .before .args in
+    (enough (showsOf (a .f)) (z .size .result) (sizeOf (a .f)) (a .n) (now (a .«data»)) (z .size .ensures .0) (room z), whole-four)
 
 returns : tie.Need-returns
 returns c =
-    let a = c .before .before .before .before .args in
-    let s = c .before .before .size in
-    let d = now (a .«data») in
-    c .block .ensures
-    ∙ ap (tile (showsOf (a .f))) (part (s .result) (a .n) d ∙ ap (λ (z : ℕ). bytesOf z d (a .n)) (s .ensures .0))
+    let z = c .before .before .before .before in
+    let a = z .before .before .args in
+    alone (showsOf (a .f)) (z .size .result) (sizeOf (a .f)) (a .n) (now (a .«data»)) (z .size .ensures .0) _ _ refl (c .before .run .ensures)
 
 pub block-at-spec : {M : Type 1} → statement M
 block-at-spec =
@@ -52,8 +55,9 @@ block-at-spec =
     size-requires
     mul-at
     add-end
-    sub-block
-    part-block-start
-    part-block-end
-    block-requires
+    sub-run
+    part-run-start
+    part-run-end
+    slice-aggregate-run
+    run-requires
     returns)

@@ -4,6 +4,7 @@ use mathlib.Core.Path.{_∙_, sym, ap}
 use mathlib.Core.Bool.{Bool}
 use mathlib.Core.List.{List, [], _∷_}
 use Prim.Native.Nat.{ℕ}
+use native.Mathlib.Omega.{arith}
 use lib.ListN.{length}
 use denote.Ref.{now}
 use Rattle.rules.specs.Places.{blocks, bytesOf}
@@ -14,7 +15,7 @@ use Rattle.laws.proofs.Judged.{stops, goes-on}
 use Rattle.laws.proofs.Unique.{refusal}
 use Rattle.checks.specs.Passed.{Passed}
 use Rattle.guard.specs.Viewers.{guardOf}
-use Rattle.guard.proofs.Scan.{eight}
+use Rattle.guard.proofs.Scan.{eight, from-first}
 use Rattle.picture.specs.Checked.{checksFor}
 use Rattle.picture.proofs.Viewed.{passed-by, in-order}
 use borrow.Author.Needs.{needs}
@@ -61,7 +62,7 @@ blocks-of-requires : tie.Need-blocks-of-requires
 blocks-of-requires c κs = (clear c .narrow, clear c .low)
 
 refusal-requires : tie.Need-refusal-requires
-refusal-requires c κs = rw (c .blocks-of .ensures .0) (clear (c .before) .enough)
+refusal-requires c κs = (rw (c .blocks-of .ensures .0) (clear (c .before) .enough), omega arith)
 
 returns-2 : tie.Need-returns-2
 returns-2 c =
@@ -70,6 +71,7 @@ returns-2 c =
     let s = v .before .before in
     let a = s .args in
     c .refusal .ensures
+    ∙ from-first (guard s) (c .before .blocks-of .result) (now (a .d))
     ∙ ap (guarded (guard s .number) (test s 8)) (c .before .blocks-of .ensures .0)
     ∙ ap (λ (size : ℕ). guarded (guard s .number) (test s size) (blocks (a .pic))) (sym (eight (a .viewer)))
     ∙ sym

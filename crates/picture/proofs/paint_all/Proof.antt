@@ -5,7 +5,7 @@ use native.Mathlib.Omega.{arith}
 use denote.Ref.{now}
 use Rattle.rules.specs.Formats.{sizeOf, showsOf}
 use Rattle.place.proofs.Grid.{roomy}
-use Rattle.paint.proofs.Blocks.{whole}
+use Rattle.blocks.proofs.Blocks.{whole}
 use borrow.Author.Needs.{needs}
 use Rattle.picture.proofs.paint_all.Statement.{statement}
 use Rattle.picture.proofs.paint_all.Tie as tie

@@ -11,9 +11,9 @@ use Rattle.rules.specs.Places.{bytesOf, bytesFrom}
 use Rattle.rules.specs.Formats.{sizeOf, showsOf}
 use Rattle.laws.proofs.Parts.{rest}
 use Rattle.place.proofs.Grid.{kept}
-use Rattle.paint.proofs.Blocks.{room}
+use Rattle.blocks.proofs.Blocks.{room}
 use Rattle.kept.proofs.Joined.{joint-block, later-block}
-use Rattle.paint.proofs.Runs.{two-runs, other-bytes}
+use Rattle.blocks.proofs.Runs.{two-runs, other-bytes}
 use Rattle.kept.proofs.Numbers.{peel, one-block}
 use borrow.Author.Needs.{needs}
 use Rattle.pieces.proofs.paint_joined.Statement.{statement}

@@ -1,16 +1,11 @@
--- `scan::after_row` meets its contract: the first block of its row, counted on from the rows before.
+-- `scan::after_row` meets its contract: the blocks of its row, counted on from the rows before.
 -- Assumes nothing.
-use mathlib.Core.Path.{_∙_}
 use Prim.Native.Nat.{_*_, _≤_}
 use native.Mathlib.Omega.{arith}
 use native.Mathlib.Nat.{mul-le-mul}
-use Rattle.scan.proofs.Laws.{refuses, goes-on}
-use borrow.Author.Needs.{needs}
+use Rattle.strips.specs.Rows.{scannedRow}
 use Rattle.scan.proofs.after_row.Statement.{statement}
 use Rattle.scan.proofs.after_row.Tie as tie
-
-first-bad-requires : tie.Need-first-bad-requires
-first-bad-requires c κs = search needs
 
 few : (s : tie.Start) → s .args .j * s .args .n ≤ 0x1000000
 few s =
@@ -18,20 +13,15 @@ few s =
     let b : s .args .n ≤ 4096 = omega (arith, s .pre) in
     mul-le-mul a b
 
-mul-named : tie.Need-mul-named
-mul-named c = omega (arith, few (c .before .before .before))
+mul-refusal : tie.Need-mul-refusal
+mul-refusal c = omega (arith, few (c .before))
 
-add-named : tie.Need-add-named
-add-named c = omega (arith, few (c .before .before .before))
-
-named-requires : tie.Need-named-requires
-named-requires c κs = search needs
+refusal-requires : tie.Need-refusal-requires
+refusal-requires c κs = (c .before .pre .2, few (c .before))
 
 returns : tie.Need-returns
-returns c = c .named .ensures ∙ refuses _ _ _ _ _ (c .before .before .first-bad .ensures) (c .before .if1 .taken)
-
-returns-2 : tie.Need-returns-2
-returns-2 c = goes-on _ _ _ _ _ (c .before .first-bad .ensures) (c .if1 .left)
+unfolding scannedRow
+returns c = c .refusal .ensures
 
 pub after-row-spec : {M : Type 1} → statement M
-after-row-spec = tie.close (tie.spec first-bad-requires mul-named add-named named-requires returns returns-2)
+after-row-spec = tie.close (tie.spec mul-refusal refusal-requires returns)

@@ -17,7 +17,7 @@ use Rattle.rules.specs.declared.Picture.{Picture}
 use Rattle.laws.specs.Painted.{Painted}
 use Rattle.laws.proofs.Paint.{said, also, is-painted, length-painted, getD-painted}
 use Rattle.place.specs.Tile.{Room}
-use Rattle.paint.specs.Run.{InRun}
+use Rattle.blocks.specs.Run.{InRun}
 
 -- both of two tests
 both : (a b : Bool) → T a → T b → T (a && b)

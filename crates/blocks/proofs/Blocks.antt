@@ -17,7 +17,7 @@ use Rattle.laws.proofs.Paint.{none, said, also, is-painted}
 use Rattle.laws.proofs.Filled.{getD-build}
 use Rattle.place.specs.Tile.{InTile, numberIn}
 use Rattle.place.proofs.Grid.{rem-at, div-at, before, covered, column-in, row-in}
-use Rattle.paint.specs.Run.{InRun, Stands}
+use Rattle.blocks.specs.Run.{InRun, Stands}
 
 -- the place that a number in a tile stands for
 placed : (x y : ℕ) → ((y % 4 * 4 + x % 4) % 4 ≡ x % 4) × ((y % 4 * 4 + x % 4) / 4 ≡ y % 4) × (y % 4 * 4 + x % 4 < 16)

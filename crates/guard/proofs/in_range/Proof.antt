@@ -1,6 +1,6 @@
--- `guard::is_strange` meets its contract: a kind that ETC1 knows goes on.
+-- `guard::in_range` meets its contract: a kind that ETC1 knows goes on.
 -- Assumes nothing.
-use mathlib.Core.Path.{_≡_, refl, sym}
+use mathlib.Core.Path.{_≡_, refl}
 use mathlib.Core.Bool.{true, false}
 use mathlib.Core.List.{[], _∷_}
 use types.Run.{OneOf, miss}
@@ -9,8 +9,8 @@ use Rattle.rules.specs.declared.Kind.{Kind}
 use Rattle.rules.specs.declared.Kind.the-variants.{Individual, Differential, T, H, Planar}
 use Rattle.rules.proofs.Kind.{the-type}
 use Rattle.laws.specs.Kinds.{strange}
-use Rattle.guard.proofs.is_strange.Statement.{statement}
-use Rattle.guard.proofs.is_strange.Tie as tie
+use Rattle.guard.proofs.in_range.Statement.{statement}
+use Rattle.guard.proofs.in_range.Tie as tie
 
 tame : (k : Kind) → OneOf (0 ∷ 1 ∷ []) (Declared.tagOf the-type k) → strange k ≡ false
 tame Individual t = refl
@@ -27,10 +27,10 @@ wild H t = refl
 wild Planar t = refl
 
 returns : tie.Need-returns
-returns c = sym (wild (c .before .args .kind) (c .match .keys2))
+returns c = rw (wild (c .before .args .kind) (c .match .keys2))
 
 returns-2 : tie.Need-returns-2
-returns-2 c = sym (tame (c .before .args .kind) (c .match .keys1))
+returns-2 c = rw (tame (c .before .args .kind) (c .match .keys1))
 
-pub is-strange-spec : {M : Type 1} → statement M
-is-strange-spec = tie.close (tie.spec returns returns-2)
+pub in-range-spec : {M : Type 1} → statement M
+in-range-spec = tie.close (tie.spec returns returns-2)

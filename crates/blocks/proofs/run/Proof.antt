@@ -1,0 +1,181 @@
+-- `blocks::run` meets its contract, format by format: each has a loop of its own.
+-- Assumes nothing.
+use denote.Ref.{now}
+use Rattle.rules.specs.Formats.{sizeOf, showsOf}
+use Rattle.blocks.proofs.Formats.{enough, shown}
+use borrow.Author.Needs.{needs}
+use Rattle.blocks.proofs.run.Statement.{statement}
+use Rattle.blocks.proofs.run.Tie as tie
+
+enum-told : tie.Need-enum-told
+enum-told c = search needs
+
+run-etc1-requires : tie.Need-run-etc1-requires
+unfolding sizeOf
+run-etc1-requires c κs = let s = c .before .before .before .before .before in (enough (s .args .n) (c .before .enum-told .given .1) (s .pre .0), s .pre .1)
+
+enum-told-2 : tie.Need-enum-told-2
+enum-told-2 c = search needs
+
+run-rgb-requires : tie.Need-run-rgb-requires
+unfolding sizeOf
+run-rgb-requires c κs = let s = c .before .before .before .before .before in (enough (s .args .n) (c .before .enum-told2 .given .1) (s .pre .0), s .pre .1)
+
+enum-told-3 : tie.Need-enum-told-3
+enum-told-3 c = search needs
+
+run-rgba1-requires : tie.Need-run-rgba1-requires
+unfolding sizeOf
+run-rgba1-requires c κs = let s = c .before .before .before .before .before in (enough (s .args .n) (c .before .enum-told3 .given .1) (s .pre .0), s .pre .1)
+
+enum-told-4 : tie.Need-enum-told-4
+enum-told-4 c = search needs
+
+run-rgba8-requires : tie.Need-run-rgba8-requires
+unfolding sizeOf
+run-rgba8-requires c κs = let s = c .before .before .before .before .before in (enough (s .args .n) (c .before .enum-told4 .given .1) (s .pre .0), s .pre .1)
+
+enum-told-5 : tie.Need-enum-told-5
+enum-told-5 c = search needs
+
+run-red-requires : tie.Need-run-red-requires
+unfolding sizeOf
+run-red-requires c κs = let s = c .before .before .before .before .before in (enough (s .args .n) (c .before .enum-told5 .given .1) (s .pre .0), s .pre .1)
+
+enum-told-6 : tie.Need-enum-told-6
+enum-told-6 c = search needs
+
+run-red-requires-2 : tie.Need-run-red-requires-2
+unfolding sizeOf
+run-red-requires-2 c κs = let s = c .before .before .before .before .before in (enough (s .args .n) (c .before .enum-told6 .given .1) (s .pre .0), s .pre .1)
+
+enum-told-7 : tie.Need-enum-told-7
+enum-told-7 c = search needs
+
+run-red-green-requires : tie.Need-run-red-green-requires
+unfolding sizeOf
+run-red-green-requires c κs = let s = c .before .before .before .before .before in (enough (s .args .n) (c .before .enum-told7 .given .1) (s .pre .0), s .pre .1)
+
+enum-told-8 : tie.Need-enum-told-8
+enum-told-8 c = search needs
+
+run-red-green-requires-2 : tie.Need-run-red-green-requires-2
+unfolding sizeOf
+run-red-green-requires-2 c κs = let s = c .before .before .before .before .before in (enough (s .args .n) (c .before .enum-told8 .given .1) (s .pre .0), s .pre .1)
+
+same-length : tie.Need-same-length
+same-length c = search needs
+
+returns : tie.Need-returns
+unfolding showsOf sizeOf
+returns c =
+    let t = c .before .before .before .before in
+    let a = t .before .before .before .before .args in
+    shown (now (a .«data»)) (a .pic) (a .bx) (a .by) (a .n) (now (a .image)) _ (t .enum-told .given .1) (c .before .before .run-etc1 .ensures)
+
+same-length-2 : tie.Need-same-length-2
+same-length-2 c = search needs
+
+returns-2 : tie.Need-returns-2
+unfolding showsOf sizeOf
+returns-2 c =
+    let t = c .before .before .before .before in
+    let a = t .before .before .before .before .args in
+    shown (now (a .«data»)) (a .pic) (a .bx) (a .by) (a .n) (now (a .image)) _ (t .enum-told2 .given .1) (c .before .before .run-rgb .ensures)
+
+same-length-3 : tie.Need-same-length-3
+same-length-3 c = search needs
+
+returns-3 : tie.Need-returns-3
+unfolding showsOf sizeOf
+returns-3 c =
+    let t = c .before .before .before .before in
+    let a = t .before .before .before .before .args in
+    shown (now (a .«data»)) (a .pic) (a .bx) (a .by) (a .n) (now (a .image)) _ (t .enum-told3 .given .1) (c .before .before .run-rgba1 .ensures)
+
+same-length-4 : tie.Need-same-length-4
+same-length-4 c = search needs
+
+returns-4 : tie.Need-returns-4
+unfolding showsOf sizeOf
+returns-4 c =
+    let t = c .before .before .before .before in
+    let a = t .before .before .before .before .args in
+    shown (now (a .«data»)) (a .pic) (a .bx) (a .by) (a .n) (now (a .image)) _ (t .enum-told4 .given .1) (c .before .before .run-rgba8 .ensures)
+
+same-length-5 : tie.Need-same-length-5
+same-length-5 c = search needs
+
+returns-5 : tie.Need-returns-5
+unfolding showsOf sizeOf
+returns-5 c =
+    let t = c .before .before .before .before in
+    let a = t .before .before .before .before .args in
+    shown (now (a .«data»)) (a .pic) (a .bx) (a .by) (a .n) (now (a .image)) _ (t .enum-told5 .given .1) (c .before .before .run-red .ensures)
+
+same-length-6 : tie.Need-same-length-6
+same-length-6 c = search needs
+
+returns-6 : tie.Need-returns-6
+unfolding showsOf sizeOf
+returns-6 c =
+    let t = c .before .before .before .before in
+    let a = t .before .before .before .before .args in
+    shown (now (a .«data»)) (a .pic) (a .bx) (a .by) (a .n) (now (a .image)) _ (t .enum-told6 .given .1) (c .before .before .run-red2 .ensures)
+
+same-length-7 : tie.Need-same-length-7
+same-length-7 c = search needs
+
+returns-7 : tie.Need-returns-7
+unfolding showsOf sizeOf
+returns-7 c =
+    let t = c .before .before .before .before in
+    let a = t .before .before .before .before .args in
+    shown (now (a .«data»)) (a .pic) (a .bx) (a .by) (a .n) (now (a .image)) _ (t .enum-told7 .given .1) (c .before .before .run-red-green .ensures)
+
+same-length-8 : tie.Need-same-length-8
+same-length-8 c = search needs
+
+returns-8 : tie.Need-returns-8
+unfolding showsOf sizeOf
+returns-8 c =
+    let t = c .before .before .before .before in
+    let a = t .before .before .before .before .args in
+    shown (now (a .«data»)) (a .pic) (a .bx) (a .by) (a .n) (now (a .image)) _ (t .enum-told8 .given .1) (c .before .before .run-red-green2 .ensures)
+
+pub run-spec : {M : Type 1} → statement M
+run-spec =
+    tie.close
+    (tie.spec
+    enum-told
+    run-etc1-requires
+    enum-told-2
+    run-rgb-requires
+    enum-told-3
+    run-rgba1-requires
+    enum-told-4
+    run-rgba8-requires
+    enum-told-5
+    run-red-requires
+    enum-told-6
+    run-red-requires-2
+    enum-told-7
+    run-red-green-requires
+    enum-told-8
+    run-red-green-requires-2
+    same-length
+    returns
+    same-length-2
+    returns-2
+    same-length-3
+    returns-3
+    same-length-4
+    returns-4
+    same-length-5
+    returns-5
+    same-length-6
+    returns-6
+    same-length-7
+    returns-7
+    same-length-8
+    returns-8)
