@@ -1,4 +1,4 @@
-/* ETC1, ETC2 and EAC textures, and the degrees that their colours mean, read by proved code.
+/* ETC1, ETC2, EAC, BC1 and BC3 textures, and the degrees that their colours mean, read by proved code.
  *
  * Link with the static library that `bindings/archive FILE.a` writes. Every function may be
  * called from several threads at once, allocates nothing, keeps nothing between calls but in what
@@ -91,17 +91,20 @@ enum yalivucu_answer {
     YALIVUCU_NOT_ACCEPTED = 18
 };
 
-/* Pictures in blocks of 8 bytes. */
+/* Pictures in blocks of 8 bytes. The last of three BC1 colours is black in bc1, and 0, transparent, in bc1a. */
 uint32_t yalivucu_decode_etc1(const uint8_t *data, size_t data_len, size_t width, size_t height, uint32_t *image, size_t image_len);
 uint32_t yalivucu_decode_etc2_rgb(const uint8_t *data, size_t data_len, size_t width, size_t height, uint32_t *image, size_t image_len);
 uint32_t yalivucu_decode_etc2_rgba1(const uint8_t *data, size_t data_len, size_t width, size_t height, uint32_t *image, size_t image_len);
 uint32_t yalivucu_decode_eacr(const uint8_t *data, size_t data_len, size_t width, size_t height, uint32_t *image, size_t image_len);
 uint32_t yalivucu_decode_eacr_signed(const uint8_t *data, size_t data_len, size_t width, size_t height, uint32_t *image, size_t image_len);
+uint32_t yalivucu_decode_bc1(const uint8_t *data, size_t data_len, size_t width, size_t height, uint32_t *image, size_t image_len);
+uint32_t yalivucu_decode_bc1a(const uint8_t *data, size_t data_len, size_t width, size_t height, uint32_t *image, size_t image_len);
 
 /* Pictures in blocks of 16 bytes. */
 uint32_t yalivucu_decode_etc2_rgba8(const uint8_t *data, size_t data_len, size_t width, size_t height, uint32_t *image, size_t image_len);
 uint32_t yalivucu_decode_eacrg(const uint8_t *data, size_t data_len, size_t width, size_t height, uint32_t *image, size_t image_len);
 uint32_t yalivucu_decode_eacrg_signed(const uint8_t *data, size_t data_len, size_t width, size_t height, uint32_t *image, size_t image_len);
+uint32_t yalivucu_decode_bc3(const uint8_t *data, size_t data_len, size_t width, size_t height, uint32_t *image, size_t image_len);
 
 /* The same with a pitch, for an image whose rows have a gap. With pitch = width each does what the
  * function without one does. */
@@ -113,6 +116,9 @@ uint32_t yalivucu_decode_eacr_signed_pitched(const uint8_t *data, size_t data_le
 uint32_t yalivucu_decode_etc2_rgba8_pitched(const uint8_t *data, size_t data_len, size_t width, size_t height, size_t pitch, uint32_t *image, size_t image_len);
 uint32_t yalivucu_decode_eacrg_pitched(const uint8_t *data, size_t data_len, size_t width, size_t height, size_t pitch, uint32_t *image, size_t image_len);
 uint32_t yalivucu_decode_eacrg_signed_pitched(const uint8_t *data, size_t data_len, size_t width, size_t height, size_t pitch, uint32_t *image, size_t image_len);
+uint32_t yalivucu_decode_bc1_pitched(const uint8_t *data, size_t data_len, size_t width, size_t height, size_t pitch, uint32_t *image, size_t image_len);
+uint32_t yalivucu_decode_bc1a_pitched(const uint8_t *data, size_t data_len, size_t width, size_t height, size_t pitch, uint32_t *image, size_t image_len);
+uint32_t yalivucu_decode_bc3_pitched(const uint8_t *data, size_t data_len, size_t width, size_t height, size_t pitch, uint32_t *image, size_t image_len);
 
 /* An ETC1 picture, in blocks of 8 bytes, that holds no block out of range and has no byte behind its
  * blocks: what it accepts, an ETC2 decoder shows alike. With answer 4, *block is the number of the first such block, from 0,
@@ -153,11 +159,14 @@ uint32_t yalivucu_decode_etc2_rgb_block(const uint8_t *data, size_t data_len, ui
 uint32_t yalivucu_decode_etc2_rgba1_block(const uint8_t *data, size_t data_len, uint32_t *out, size_t out_len);
 uint32_t yalivucu_decode_eacr_block(const uint8_t *data, size_t data_len, uint32_t *out, size_t out_len);
 uint32_t yalivucu_decode_eacr_signed_block(const uint8_t *data, size_t data_len, uint32_t *out, size_t out_len);
+uint32_t yalivucu_decode_bc1_block(const uint8_t *data, size_t data_len, uint32_t *out, size_t out_len);
+uint32_t yalivucu_decode_bc1a_block(const uint8_t *data, size_t data_len, uint32_t *out, size_t out_len);
 
 /* One block of 16 bytes, into out[0] to out[15]. */
 uint32_t yalivucu_decode_etc2_rgba8_block(const uint8_t *data, size_t data_len, uint32_t *out, size_t out_len);
 uint32_t yalivucu_decode_eacrg_block(const uint8_t *data, size_t data_len, uint32_t *out, size_t out_len);
 uint32_t yalivucu_decode_eacrg_signed_block(const uint8_t *data, size_t data_len, uint32_t *out, size_t out_len);
+uint32_t yalivucu_decode_bc3_block(const uint8_t *data, size_t data_len, uint32_t *out, size_t out_len);
 
 /* An alpha half of 8 bytes: replaces the top byte of out[0] to out[15] and keeps the rest. */
 uint32_t yalivucu_decode_etc2_a8_block(const uint8_t *data, size_t data_len, uint32_t *out, size_t out_len);
@@ -166,6 +175,10 @@ uint32_t yalivucu_decode_etc2_a8_block(const uint8_t *data, size_t data_len, uin
  * out[0] to out[15]. */
 uint32_t yalivucu_decode_eac_block(const uint8_t *data, size_t data_len, size_t channel, uint32_t *out, size_t out_len);
 uint32_t yalivucu_decode_eac_signed_block(const uint8_t *data, size_t data_len, size_t channel, uint32_t *out, size_t out_len);
+
+/* The alpha half of a BC3 block, 8 bytes: puts its bytes in place of channel 0 blue, 1 green, 2 red or
+ * 3 alpha of out[0] to out[15], and keeps the other three. */
+uint32_t yalivucu_decode_bc3_alpha(const uint8_t *data, size_t data_len, size_t channel, uint32_t *out, size_t out_len);
 
 /* Whether an ETC1 block of 8 bytes that somebody else baked is near enough to a tile: 0 exactly where it is
  * in range and each red, green and blue of each pixel differs from the tile's by at most the
@@ -255,6 +268,9 @@ uint32_t yalivucu_start_eacr(size_t width, size_t height, size_t pitch, const ui
 uint32_t yalivucu_start_eacr_signed(size_t width, size_t height, size_t pitch, const uint32_t *image, size_t image_len, size_t *numbers, uint8_t *kept);
 uint32_t yalivucu_start_eacrg(size_t width, size_t height, size_t pitch, const uint32_t *image, size_t image_len, size_t *numbers, uint8_t *kept);
 uint32_t yalivucu_start_eacrg_signed(size_t width, size_t height, size_t pitch, const uint32_t *image, size_t image_len, size_t *numbers, uint8_t *kept);
+uint32_t yalivucu_start_bc1(size_t width, size_t height, size_t pitch, const uint32_t *image, size_t image_len, size_t *numbers, uint8_t *kept);
+uint32_t yalivucu_start_bc1a(size_t width, size_t height, size_t pitch, const uint32_t *image, size_t image_len, size_t *numbers, uint8_t *kept);
+uint32_t yalivucu_start_bc3(size_t width, size_t height, size_t pitch, const uint32_t *image, size_t image_len, size_t *numbers, uint8_t *kept);
 uint32_t yalivucu_take_piece(size_t *numbers, uint8_t *kept, const uint8_t *bytes, size_t bytes_len, uint32_t *image, size_t image_len, size_t *painted, size_t *unused);
 uint32_t yalivucu_end_pieces(const size_t *numbers, const uint8_t *kept);
 
@@ -289,6 +305,18 @@ static inline uint32_t yalivucu_pieces_eacrg(struct yalivucu_pieces *state, size
 static inline uint32_t yalivucu_pieces_eacrg_signed(struct yalivucu_pieces *state, size_t width, size_t height, size_t pitch, const uint32_t *image, size_t image_len)
 {
     return yalivucu_start_eacrg_signed(width, height, pitch, image, image_len, state->numbers_, state->kept_);
+}
+static inline uint32_t yalivucu_pieces_bc1(struct yalivucu_pieces *state, size_t width, size_t height, size_t pitch, const uint32_t *image, size_t image_len)
+{
+    return yalivucu_start_bc1(width, height, pitch, image, image_len, state->numbers_, state->kept_);
+}
+static inline uint32_t yalivucu_pieces_bc1a(struct yalivucu_pieces *state, size_t width, size_t height, size_t pitch, const uint32_t *image, size_t image_len)
+{
+    return yalivucu_start_bc1a(width, height, pitch, image, image_len, state->numbers_, state->kept_);
+}
+static inline uint32_t yalivucu_pieces_bc3(struct yalivucu_pieces *state, size_t width, size_t height, size_t pitch, const uint32_t *image, size_t image_len)
+{
+    return yalivucu_start_bc3(width, height, pitch, image, image_len, state->numbers_, state->kept_);
 }
 static inline uint32_t yalivucu_pieces_take(struct yalivucu_pieces *state, const uint8_t *bytes, size_t bytes_len, uint32_t *image, size_t image_len, size_t *painted, size_t *unused)
 {

@@ -63,7 +63,7 @@ build_harness() { # FOLDER OF THE CRATE
     cp "$top/oracle/harness/Cargo.toml" "$build/"
     cp -R "$top/oracle/harness/src" "$build/src"
     cp "$top/oracle/harness/given/lib.rs" "$build/given/"
-    for part in color.rs macros.rs etc.rs etc; do
+    for part in color.rs macros.rs etc.rs etc bcn; do
         ln -s "$files/$part" "$build/given/$part"
     done
     registry=$(dpkg -L librust-paste-dev | grep '/registry$')
@@ -73,15 +73,32 @@ build_harness() { # FOLDER OF THE CRATE
     harness=$build/target/release/oracle
 }
 
-# Builds the two programs that make Mesa and Android's libETC1 speak the protocol.
+# Builds the programs that make Mesa, Android's libETC1 and libsquish speak the protocol. Mesa's other
+# driver, llvmpipe, rounds the thirds, fifths and sevenths of S3TC otherwise.
 build_decoders() {
+    GALLIUM_DRIVER=softpipe
+    export GALLIUM_DRIVER
     install_packages gcc libc6-dev libegl1 libegl-mesa0 libgles2 libgl1-mesa-dri libegl-dev libgles-dev \
-        android-libetc1-dev
+        android-libetc1-dev g++ libsquish-dev
     gcc -O2 -o "$room/mesa" "$top/oracle/mesa.c" -lEGL -lGLESv2 -lm || die "mesa.c does not build"
     header=$(dpkg -L android-libetc1-dev | grep '/ETC1/etc1\.h$')
     library=$(dpkg -L android-libetc1-dev | grep '/libETC1\.so$')
     gcc -O2 -I "${header%/ETC1/etc1.h}" -o "$room/android" "$top/oracle/android.c" \
         "$library" -Wl,-rpath,"${library%/*}" || die "android.c does not build"
+    g++ -O2 -o "$room/squish" "$top/oracle/squish.cpp" -lsquish || die "squish.cpp does not build"
+}
+
+# The example pictures as Debian's nvcompress encodes them, in BC1 without and with alpha and in BC3.
+encode_pictures() {
+    install_packages libnvtt-bin
+    desktop=$room/desktop
+    rm -rf "$desktop" && mkdir -p "$desktop"
+    for picture in "$top"/examples/*.png; do
+        for format in bc1 bc1a bc3; do
+            nvcompress "-$format" -nomips "$picture" "$desktop/$(basename "$picture" .png)-$format.dds" >"$room/nvcompress.log" 2>&1 ||
+                die "nvcompress fails (target/oracle/nvcompress.log says why)"
+        done
+    done
 }
 
 # piglit takes 2 GB where it is installed, and 18 small files of it are wanted: those

@@ -1,5 +1,5 @@
-/* Mesa as a decoder, speaking PROTOCOL.md for the eight picture readers and accepted
-   cases alone. Textures go in compressed; a shader hands out the bits of each texel as
+/* Mesa as a decoder, speaking PROTOCOL.md for the eleven picture readers that have a format,
+   and accepted cases alone. Textures go in compressed; a shader hands out the bits of each texel as
    whole numbers, so nothing is rounded on the way back. Eight-bit formats come back as
    pixel words. Of EAC an element is red16 + 65536 * green16, the sixteen bits that Mesa
    makes of its eleven; signed ones in two's complement. */
@@ -14,8 +14,10 @@
 
 enum { MOST_DATA = 262144, MOST_IMAGE = 65536 };
 
-/* In the order of the readers; the first is ETC1 from its own extension. */
-static const GLenum FORMAT[8] = {0x8D64, 0x9274, 0x9276, 0x9278, 0x9270, 0x9271, 0x9272, 0x9273};
+/* By the numbers of the readers; the first is ETC1 from its own extension, the last three are those of S3TC. */
+enum { S3TC = 34, READERS = 37 };
+static const GLenum FORMAT[READERS] = {0x8D64, 0x9274, 0x9276, 0x9278, 0x9270, 0x9271, 0x9272, 0x9273,
+                                       [S3TC] = 0x83F0, 0x83F1, 0x83F3};
 
 static void need(int fact, const char *what)
 {
@@ -119,7 +121,7 @@ static int whole(float value, int most)
 
 static uint32_t element(int reader, const float *t)
 {
-    if (reader < 4)
+    if (reader < 4 || reader >= S3TC)
         return (uint32_t)whole(t[3], 255) << 24 | (uint32_t)whole(t[0], 255) << 16 | (uint32_t)whole(t[1], 255) << 8 |
                (uint32_t)whole(t[2], 255);
     int most = reader % 2 ? 32767 : 65535;
@@ -135,7 +137,7 @@ int main(void)
     start();
     use_program();
     while (fread(head, 4, 6, stdin) == 6) {
-        need(head[0] < 8 && head[4] <= MOST_DATA && head[5] <= MOST_IMAGE, "no such case here");
+        need(head[0] < READERS && FORMAT[head[0]] && head[4] <= MOST_DATA && head[5] <= MOST_IMAGE, "no such case here");
         need(fread(data, 1, head[4], stdin) == head[4], "data cut short");
         need(fread(image, 4, head[5], stdin) == head[5], "image cut short");
         need(head[2] && head[3] && head[5] == head[2] * head[3], "only pictures that show something");

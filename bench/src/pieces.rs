@@ -19,7 +19,9 @@ pub fn print(name: &str, format: Format, side: usize, turns: usize, blocks: &[u8
             let mut pieces = Pieces::start(format, picture, image).expect("the library refused");
             let (first, rest) = blocks.split_at(7);
             for piece in std::iter::once(first).chain(rest.chunks(PIECE)) {
-                pieces.take(black_box(piece), black_box(&mut *image)).expect("the library refused");
+                pieces
+                    .take(black_box(piece), black_box(&mut *image))
+                    .expect("the library refused");
             }
             pieces.end().expect("the library refused");
         }));

@@ -46,6 +46,9 @@ static void pictures(void)
         {"eacr_signed", yalivucu_decode_eacr_signed, 8, 0xff7f0000},
         {"eacrg", yalivucu_decode_eacrg, 16, 0xff000000},
         {"eacrg_signed", yalivucu_decode_eacrg_signed, 16, 0xff7f7f00},
+        {"bc1", yalivucu_decode_bc1, 8, 0xff000000},
+        {"bc1a", yalivucu_decode_bc1a, 8, 0xff000000},
+        {"bc3", yalivucu_decode_bc3, 16, 0x00000000},
     };
     for (size_t k = 0; k < sizeof row / sizeof *row; k++) {
         clear();
@@ -78,6 +81,9 @@ static void pitched(void)
         {"eacr_signed_pitched", yalivucu_decode_eacr_signed_pitched, 8, 0xff7f0000},
         {"eacrg_pitched", yalivucu_decode_eacrg_pitched, 16, 0xff000000},
         {"eacrg_signed_pitched", yalivucu_decode_eacrg_signed_pitched, 16, 0xff7f7f00},
+        {"bc1_pitched", yalivucu_decode_bc1_pitched, 8, 0xff000000},
+        {"bc1a_pitched", yalivucu_decode_bc1a_pitched, 8, 0xff000000},
+        {"bc3_pitched", yalivucu_decode_bc3_pitched, 16, 0x00000000},
     };
     for (size_t k = 0; k < sizeof row / sizeof *row; k++) {
         const char *name = row[k].name;
@@ -214,6 +220,9 @@ static void blocks(void)
         {"eacrg_block", yalivucu_decode_eacrg_block, 16, 0xff000000},
         {"eacrg_signed_block", yalivucu_decode_eacrg_signed_block, 16, 0xff7f7f00},
         {"etc2_a8_block", yalivucu_decode_etc2_a8_block, 8, 0x00111111},
+        {"bc1_block", yalivucu_decode_bc1_block, 8, 0xff000000},
+        {"bc1a_block", yalivucu_decode_bc1a_block, 8, 0xff000000},
+        {"bc3_block", yalivucu_decode_bc3_block, 16, 0x00000000},
     };
     for (size_t k = 0; k < sizeof row / sizeof *row; k++) {
         clear();
@@ -239,6 +248,30 @@ static void channels(void)
     same("eac_signed_block", yalivucu_decode_eac_signed_block(ZERO, 8, 0, image, 16), YALIVUCU_DONE);
     same("eac_signed_block, blue", image[0], 0x117d117f);
     untouched("eac_block", 16);
+}
+
+/* The thirds of black and white whatever their order in BC3, and black or nothing in BC1; the alpha half into a channel. */
+static void desktop(void)
+{
+    const uint8_t block[16] = {0xff, 0, 0, 0, 0, 0, 0, 0, 0, 0, 0xff, 0xff, 0xe4};
+    clear();
+    same("bc3", yalivucu_decode_bc3(block, 16, 4, 1, image, MOST), YALIVUCU_DONE);
+    same("bc3, index 2", image[2], 0xff555555);
+    same("bc3, index 3", image[3], 0xffaaaaaa);
+    same("bc1", yalivucu_decode_bc1(block + 8, 8, 4, 1, image, MOST), YALIVUCU_DONE);
+    same("bc1, index 2", image[2], 0xff7f7f7f);
+    same("bc1, index 3", image[3], 0xff000000);
+    same("bc1a", yalivucu_decode_bc1a(block + 8, 8, 4, 1, image, MOST), YALIVUCU_DONE);
+    same("bc1a, index 3", image[3], 0);
+    untouched("bc1", 4);
+    clear();
+    same("bc3_alpha, channel 4", yalivucu_decode_bc3_alpha(block, 7, 4, image, 15), YALIVUCU_NO_CHANNEL);
+    same("bc3_alpha, short", yalivucu_decode_bc3_alpha(block, 7, 3, image, 15), YALIVUCU_SHORT_DATA);
+    same("bc3_alpha, narrow", yalivucu_decode_bc3_alpha(block, 8, 3, image, 15), YALIVUCU_SHORT_IMAGE);
+    untouched("bc3_alpha, refused", 0);
+    same("bc3_alpha", yalivucu_decode_bc3_alpha(block, 8, 2, image, MOST), YALIVUCU_DONE);
+    same("bc3_alpha, red", image[15], 0x11ff1111);
+    untouched("bc3_alpha", 16);
 }
 
 /* Blocks of the specimens: individual, differential, T, H, planar; and T with its bit clear. */
@@ -358,6 +391,9 @@ static void pieces(void)
         {"pieces_eacr_signed", yalivucu_pieces_eacr_signed, yalivucu_decode_eacr_signed_pitched, 8},
         {"pieces_eacrg", yalivucu_pieces_eacrg, yalivucu_decode_eacrg_pitched, 16},
         {"pieces_eacrg_signed", yalivucu_pieces_eacrg_signed, yalivucu_decode_eacrg_signed_pitched, 16},
+        {"pieces_bc1", yalivucu_pieces_bc1, yalivucu_decode_bc1_pitched, 8},
+        {"pieces_bc1a", yalivucu_pieces_bc1a, yalivucu_decode_bc1a_pitched, 8},
+        {"pieces_bc3", yalivucu_pieces_bc3, yalivucu_decode_bc3_pitched, 16},
     };
     uint8_t data[67];
     uint32_t plain[MOST];
@@ -455,6 +491,7 @@ int main(void)
     opaque();
     blocks();
     channels();
+    desktop();
     censuses();
     baking();
     sheets();

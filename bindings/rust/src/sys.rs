@@ -43,6 +43,9 @@ extern "C" {
         yalivucu_decode_eacr_signed_pitched
         yalivucu_decode_eacrg_pitched
         yalivucu_decode_eacrg_signed_pitched
+        yalivucu_decode_bc1_pitched
+        yalivucu_decode_bc1a_pitched
+        yalivucu_decode_bc3_pitched
     }
     declared_block! {
         yalivucu_decode_etc1_block
@@ -53,11 +56,15 @@ extern "C" {
         yalivucu_decode_eacr_signed_block
         yalivucu_decode_eacrg_block
         yalivucu_decode_eacrg_signed_block
+        yalivucu_decode_bc1_block
+        yalivucu_decode_bc1a_block
+        yalivucu_decode_bc3_block
         yalivucu_decode_etc2_a8_block
     }
     declared_channel! {
         yalivucu_decode_eac_block
         yalivucu_decode_eac_signed_block
+        yalivucu_decode_bc3_alpha
     }
     declared_start! {
         yalivucu_start_etc1
@@ -68,6 +75,9 @@ extern "C" {
         yalivucu_start_eacr_signed
         yalivucu_start_eacrg
         yalivucu_start_eacrg_signed
+        yalivucu_start_bc1
+        yalivucu_start_bc1a
+        yalivucu_start_bc3
     }
     declared_census! {
         yalivucu_census_etc2_rgb

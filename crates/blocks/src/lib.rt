@@ -4,11 +4,13 @@
 use rules::Format;
 use rules::Picture;
 ghost use mathlib.Core.Path.{_≡_};
+ghost use mathlib.Core.Bool.{false};
 ghost use Prim.Native.Nat.{_+_, _*_, _≤_};
 ghost use lib.ListN.{length};
 ghost use Rattle.rules.specs.Places.{tile, bytesOf};
 ghost use Rattle.rules.specs.Modes.{etc1Pixel, rgbPixel, rgba1Pixel};
 ghost use Rattle.rules.specs.Channels.{rgba8Pixel, redPixel, redGreenPixel};
+ghost use Rattle.rules.specs.Desktop.{bc1Pixel, bc3Pixel};
 ghost use Rattle.rules.specs.Formats.{sizeOf, showsOf};
 ghost use Rattle.blocks.specs.Run.{Whole, PaintsRow};
 
@@ -124,6 +126,48 @@ fn run_red_green(
     }
 }
 
+// Paints n blocks of BC1 beside each other, from column bx on in row by.
+fn run_bc1(
+    alpha: bool,
+    data: &[u8],
+    n: usize,
+    bx: usize,
+    by: usize,
+    pic: Picture,
+    image: &mut [u32],
+)
+    requires { ⌜ (n * 8 ≤ length (now «data»)) × Whole pic bx by n (length (now image)) ⌝ }
+    ensures { λ _. ⌜ PaintsRow (bc1Pixel false alpha) 8 (now («data» .entry)) pic bx by n (now (image .entry)) (now (image .exit)) ⌝ }
+{
+    let mut i: usize = 0;
+    while i < n {
+        let from = i * 8;
+        let end = from + 8;
+        place::place_whole(
+            bc1::bc1_block(&data[from..end], alpha),
+            bx + i,
+            by,
+            pic,
+            image,
+        );
+        i += 1;
+    }
+}
+
+// Paints n blocks of BC3 beside each other, from column bx on in row by.
+fn run_bc3(data: &[u8], n: usize, bx: usize, by: usize, pic: Picture, image: &mut [u32])
+    requires { ⌜ (n * 16 ≤ length (now «data»)) × Whole pic bx by n (length (now image)) ⌝ }
+    ensures { λ _. ⌜ PaintsRow bc3Pixel 16 (now («data» .entry)) pic bx by n (now (image .entry)) (now (image .exit)) ⌝ }
+{
+    let mut i: usize = 0;
+    while i < n {
+        let from = i * 16;
+        let end = from + 16;
+        place::place_whole(bc3::bc3_block(&data[from..end]), bx + i, by, pic, image);
+        i += 1;
+    }
+}
+
 // Paints n blocks of any format beside each other, from column bx on in row by.
 pub fn run(f: Format, data: &[u8], n: usize, bx: usize, by: usize, pic: Picture, image: &mut [u32])
     requires { ⌜ (n * sizeOf f ≤ length (now «data»)) × Whole pic bx by n (length (now image)) ⌝ }
@@ -138,6 +182,9 @@ pub fn run(f: Format, data: &[u8], n: usize, bx: usize, by: usize, pic: Picture,
         Format::EacRSigned => run_red(true, data, n, bx, by, pic, image),
         Format::EacRg => run_red_green(false, data, n, bx, by, pic, image),
         Format::EacRgSigned => run_red_green(true, data, n, bx, by, pic, image),
+        Format::Bc1 => run_bc1(false, data, n, bx, by, pic, image),
+        Format::Bc1Alpha => run_bc1(true, data, n, bx, by, pic, image),
+        Format::Bc3 => run_bc3(data, n, bx, by, pic, image),
     }
 }
 

@@ -11,7 +11,7 @@ ghost use mathlib.Core.Path.{_≡_};
 ghost use mathlib.Core.Bool.{true, false};
 ghost use lib.ListN.{length};
 ghost use Rattle.rules.specs.Places.{sized, pitched};
-ghost use Rattle.rules.specs.Readers.{ReadsPicture, ReadsStrict, ReadsOpaque, ReadsBlock, ReadsAlpha, ReadsChannel};
+ghost use Rattle.rules.specs.Readers.{ReadsPicture, ReadsStrict, ReadsOpaque, ReadsBlock, ReadsAlpha, ReadsChannel, ReplacesChannel};
 ghost use Rattle.rules.specs.Census.{rgbTests, rgba1Tests};
 ghost use Rattle.rules.specs.Sheets.{ReadsSheet};
 ghost use Rattle.rules.specs.Pieces.{Ends};
@@ -271,6 +271,99 @@ pub extern "C" fn yalivucu_decode_eacrg_signed_pitched(
     told::read(Format::EacRgSigned, data, width, height, pitch, image)
 }
 
+// Reads a BC1 picture without alpha.
+#[no_mangle]
+pub extern "C" fn yalivucu_decode_bc1(
+    data: &[u8],
+    width: usize,
+    height: usize,
+    image: &mut [u32],
+) -> u32
+    ensures { λ r. ⌜ Told
+        (λ a. ReadsPicture Format.Bc1 (now («data» .entry)) (sized width height) (now (image .entry)) a (now (image .exit)))
+        r ⌝ }
+{
+    told::read(Format::Bc1, data, width, height, width, image)
+}
+
+// The same of a picture with a pitch.
+#[no_mangle]
+pub extern "C" fn yalivucu_decode_bc1_pitched(
+    data: &[u8],
+    width: usize,
+    height: usize,
+    pitch: usize,
+    image: &mut [u32],
+) -> u32
+    ensures { λ r. ⌜ Told
+        (λ a. ReadsPicture Format.Bc1 (now («data» .entry)) (pitched width height pitch) (now (image .entry)) a (now (image .exit)))
+        r ⌝ }
+{
+    told::read(Format::Bc1, data, width, height, pitch, image)
+}
+
+// Reads a BC1 picture with one bit of alpha.
+#[no_mangle]
+pub extern "C" fn yalivucu_decode_bc1a(
+    data: &[u8],
+    width: usize,
+    height: usize,
+    image: &mut [u32],
+) -> u32
+    ensures { λ r. ⌜ Told
+        (λ a. ReadsPicture Format.Bc1Alpha (now («data» .entry)) (sized width height) (now (image .entry)) a (now (image .exit)))
+        r ⌝ }
+{
+    told::read(Format::Bc1Alpha, data, width, height, width, image)
+}
+
+// The same of a picture with a pitch.
+#[no_mangle]
+pub extern "C" fn yalivucu_decode_bc1a_pitched(
+    data: &[u8],
+    width: usize,
+    height: usize,
+    pitch: usize,
+    image: &mut [u32],
+) -> u32
+    ensures { λ r. ⌜ Told
+        (λ a. ReadsPicture Format.Bc1Alpha (now («data» .entry)) (pitched width height pitch) (now (image .entry)) a (now (image .exit)))
+        r ⌝ }
+{
+    told::read(Format::Bc1Alpha, data, width, height, pitch, image)
+}
+
+// Reads a BC3 picture.
+#[no_mangle]
+pub extern "C" fn yalivucu_decode_bc3(
+    data: &[u8],
+    width: usize,
+    height: usize,
+    image: &mut [u32],
+) -> u32
+    ensures { λ r. ⌜ Told
+        (λ a. ReadsPicture Format.Bc3 (now («data» .entry)) (sized width height) (now (image .entry)) a (now (image .exit)))
+        r ⌝ }
+{
+    told::read(Format::Bc3, data, width, height, width, image)
+}
+
+// The same of a picture with a pitch.
+#[no_mangle]
+pub extern "C" fn yalivucu_decode_bc3_pitched(
+    data: &[u8],
+    width: usize,
+    height: usize,
+    pitch: usize,
+    image: &mut [u32],
+) -> u32
+    ensures { λ r. ⌜ Told
+        (λ a. ReadsPicture Format.Bc3 (now («data» .entry)) (pitched width height pitch) (now (image .entry)) a (now (image .exit)))
+        r ⌝ }
+{
+    told::read(Format::Bc3, data, width, height, pitch, image)
+}
+
 // Reads an ETC1 picture that holds no block out of range. Where it refuses for one, `block` is its number; otherwise `block` stays as it
 // was.
 #[no_mangle]
@@ -427,6 +520,30 @@ pub extern "C" fn yalivucu_decode_eacrg_signed_block(data: &[u8], out: &mut [u32
     etc::number(etc::decode_eacrg_signed_block(data, out))
 }
 
+// Reads a BC1 block of 8 bytes without alpha into the elements 0 to 15.
+#[no_mangle]
+pub extern "C" fn yalivucu_decode_bc1_block(data: &[u8], out: &mut [u32]) -> u32
+    ensures { λ r. ⌜ Told (λ a. ReadsBlock Format.Bc1 (now («data» .entry)) (now (out .entry)) a (now (out .exit))) r ⌝ }
+{
+    etc::number(etc::decode_bc1_block(data, out))
+}
+
+// Reads a BC1 block of 8 bytes with one bit of alpha into the elements 0 to 15.
+#[no_mangle]
+pub extern "C" fn yalivucu_decode_bc1a_block(data: &[u8], out: &mut [u32]) -> u32
+    ensures { λ r. ⌜ Told (λ a. ReadsBlock Format.Bc1Alpha (now («data» .entry)) (now (out .entry)) a (now (out .exit))) r ⌝ }
+{
+    etc::number(etc::decode_bc1a_block(data, out))
+}
+
+// Reads a BC3 block of 16 bytes into the elements 0 to 15.
+#[no_mangle]
+pub extern "C" fn yalivucu_decode_bc3_block(data: &[u8], out: &mut [u32]) -> u32
+    ensures { λ r. ⌜ Told (λ a. ReadsBlock Format.Bc3 (now («data» .entry)) (now (out .entry)) a (now (out .exit))) r ⌝ }
+{
+    etc::number(etc::decode_bc3_block(data, out))
+}
+
 // Reads an alpha half of 8 bytes into the top bytes of the elements 0 to 15, and keeps the rest of them.
 #[no_mangle]
 pub extern "C" fn yalivucu_decode_etc2_a8_block(data: &[u8], out: &mut [u32]) -> u32
@@ -453,6 +570,15 @@ pub extern "C" fn yalivucu_decode_eac_signed_block(
     ensures { λ r. ⌜ Told (λ a. ReadsChannel true (now («data» .entry)) channel (now (out .entry)) a (now (out .exit))) r ⌝ }
 {
     etc::number(etc::decode_eac_signed_block(data, channel, out))
+}
+
+// Reads the alpha half of a BC3 block, 8 bytes, into channel 0 blue, 1 green, 2 red or 3 alpha of the elements 0 to 15, in place of the
+// byte that stood there.
+#[no_mangle]
+pub extern "C" fn yalivucu_decode_bc3_alpha(data: &[u8], channel: usize, out: &mut [u32]) -> u32
+    ensures { λ r. ⌜ Told (λ a. ReplacesChannel (now («data» .entry)) channel (now (out .entry)) a (now (out .exit))) r ⌝ }
+{
+    etc::number(etc::decode_bc3_alpha(data, channel, out))
 }
 
 // Counts the blocks of each kind of an ETC2 RGB picture: individual, differential, T, H, planar.
@@ -749,6 +875,72 @@ pub extern "C" fn yalivucu_start_eacrg_signed(
         pitch: pitch,
     };
     etc::number(pieces_lent::start(Format::EacRgSigned, pic, image, numbers, kept))
+}
+
+// Starts to read a BC1 picture without alpha in pieces; the caller keeps the state, in the two arrays.
+#[no_mangle]
+pub extern "C" fn yalivucu_start_bc1(
+    width: usize,
+    height: usize,
+    pitch: usize,
+    image: &[u32],
+    numbers: &mut [usize; 5],
+    kept: &mut [u8; 15],
+) -> u32
+    ensures { λ r. ⌜ Told
+        (λ a. StartLent Format.Bc1 (pitched width height pitch) (length (now (image .entry))) a (now (numbers .exit)) (now (kept .exit)))
+        r ⌝ }
+{
+    let pic = Picture {
+        width: width,
+        height: height,
+        pitch: pitch,
+    };
+    etc::number(pieces_lent::start(Format::Bc1, pic, image, numbers, kept))
+}
+
+// Starts to read a BC1 picture with one bit of alpha in pieces; the caller keeps the state, in the two arrays.
+#[no_mangle]
+pub extern "C" fn yalivucu_start_bc1a(
+    width: usize,
+    height: usize,
+    pitch: usize,
+    image: &[u32],
+    numbers: &mut [usize; 5],
+    kept: &mut [u8; 15],
+) -> u32
+    ensures { λ r. ⌜ Told
+        (λ a. StartLent Format.Bc1Alpha (pitched width height pitch) (length (now (image .entry))) a (now (numbers .exit)) (now (kept .exit)))
+        r ⌝ }
+{
+    let pic = Picture {
+        width: width,
+        height: height,
+        pitch: pitch,
+    };
+    etc::number(pieces_lent::start(Format::Bc1Alpha, pic, image, numbers, kept))
+}
+
+// Starts to read a BC3 picture in pieces; the caller keeps the state, in the two arrays.
+#[no_mangle]
+pub extern "C" fn yalivucu_start_bc3(
+    width: usize,
+    height: usize,
+    pitch: usize,
+    image: &[u32],
+    numbers: &mut [usize; 5],
+    kept: &mut [u8; 15],
+) -> u32
+    ensures { λ r. ⌜ Told
+        (λ a. StartLent Format.Bc3 (pitched width height pitch) (length (now (image .entry))) a (now (numbers .exit)) (now (kept .exit)))
+        r ⌝ }
+{
+    let pic = Picture {
+        width: width,
+        height: height,
+        pitch: pitch,
+    };
+    etc::number(pieces_lent::start(Format::Bc3, pic, image, numbers, kept))
 }
 
 // Takes a piece of a picture that was started.

@@ -24,6 +24,9 @@ pub fn size(f: Format) -> usize
         Format::EacRSigned => 8,
         Format::EacRg => 16,
         Format::EacRgSigned => 16,
+        Format::Bc1 => 8,
+        Format::Bc1Alpha => 8,
+        Format::Bc3 => 16,
     }
 }
 

@@ -21,13 +21,14 @@ use rules::Sheet;
 use rules::Started;
 use rules::Taken;
 use rules::Written;
+use single::Joined;
 ghost use mathlib.Core.Path.{_≡_};
 ghost use mathlib.Core.Bool.{true, false};
 ghost use lib.ListN.{length, getD};
 ghost use Rattle.rules.specs.Places.{sized};
 ghost use Rattle.rules.specs.Answers.{said};
 ghost use Rattle.rules.specs.Census.{CountsRgb, CountsRgba1};
-ghost use Rattle.rules.specs.Readers.{ReadsPicture, ReadsStrict, ReadsOpaque, ReadsBlock, ReadsAlpha, ReadsChannel};
+ghost use Rattle.rules.specs.Readers.{ReadsPicture, ReadsStrict, ReadsOpaque, ReadsBlock, ReadsAlpha, ReadsChannel, ReplacesChannel};
 ghost use Rattle.rules.specs.Sheets.{TellsHead, ReadsSheet, WritesSheet};
 ghost use Rattle.rules.specs.Pieces.{Starts, Takes, Ends};
 ghost use Rattle.rules.specs.Degrees.{ReadsDegrees};
@@ -167,6 +168,48 @@ pub fn decode_eacrg_signed_pitched(data: &[u8], pic: Picture, image: &mut [u32])
     picture::read(Format::EacRgSigned, data, pic, image)
 }
 
+// Reads a BC1 picture without alpha.
+pub fn decode_bc1(data: &[u8], width: usize, height: usize, image: &mut [u32]) -> Answer
+    ensures { λ r. ⌜ ReadsPicture Format.Bc1 (now («data» .entry)) (sized width height) (now (image .entry)) r (now (image .exit)) ⌝ }
+{
+    read(Format::Bc1, data, width, height, image)
+}
+
+// The same of a picture with a pitch.
+pub fn decode_bc1_pitched(data: &[u8], pic: Picture, image: &mut [u32]) -> Answer
+    ensures { λ r. ⌜ ReadsPicture Format.Bc1 (now («data» .entry)) pic (now (image .entry)) r (now (image .exit)) ⌝ }
+{
+    picture::read(Format::Bc1, data, pic, image)
+}
+
+// Reads a BC1 picture with one bit of alpha.
+pub fn decode_bc1a(data: &[u8], width: usize, height: usize, image: &mut [u32]) -> Answer
+    ensures { λ r. ⌜ ReadsPicture Format.Bc1Alpha (now («data» .entry)) (sized width height) (now (image .entry)) r (now (image .exit)) ⌝ }
+{
+    read(Format::Bc1Alpha, data, width, height, image)
+}
+
+// The same of a picture with a pitch.
+pub fn decode_bc1a_pitched(data: &[u8], pic: Picture, image: &mut [u32]) -> Answer
+    ensures { λ r. ⌜ ReadsPicture Format.Bc1Alpha (now («data» .entry)) pic (now (image .entry)) r (now (image .exit)) ⌝ }
+{
+    picture::read(Format::Bc1Alpha, data, pic, image)
+}
+
+// Reads a BC3 picture.
+pub fn decode_bc3(data: &[u8], width: usize, height: usize, image: &mut [u32]) -> Answer
+    ensures { λ r. ⌜ ReadsPicture Format.Bc3 (now («data» .entry)) (sized width height) (now (image .entry)) r (now (image .exit)) ⌝ }
+{
+    read(Format::Bc3, data, width, height, image)
+}
+
+// The same of a picture with a pitch.
+pub fn decode_bc3_pitched(data: &[u8], pic: Picture, image: &mut [u32]) -> Answer
+    ensures { λ r. ⌜ ReadsPicture Format.Bc3 (now («data» .entry)) pic (now (image .entry)) r (now (image .exit)) ⌝ }
+{
+    picture::read(Format::Bc3, data, pic, image)
+}
+
 // Reads an ETC1 picture that holds no block out of range and has no bytes behind its blocks; it refuses any other, where a block is out
 // of range with the number of the first such block. Each pixel that it paints is the one that the ETC2 RGB rule gives.
 pub fn decode_etc1_strict(data: &[u8], width: usize, height: usize, image: &mut [u32]) -> Answer
@@ -268,6 +311,27 @@ pub fn decode_eacrg_signed_block(data: &[u8], image: &mut [u32]) -> Answer
     single::read_block(Format::EacRgSigned, data, image)
 }
 
+// Reads a BC1 block of 8 bytes without alpha into the elements 0 to 15.
+pub fn decode_bc1_block(data: &[u8], image: &mut [u32]) -> Answer
+    ensures { λ r. ⌜ ReadsBlock Format.Bc1 (now («data» .entry)) (now (image .entry)) r (now (image .exit)) ⌝ }
+{
+    single::read_block(Format::Bc1, data, image)
+}
+
+// Reads a BC1 block of 8 bytes with one bit of alpha into the elements 0 to 15.
+pub fn decode_bc1a_block(data: &[u8], image: &mut [u32]) -> Answer
+    ensures { λ r. ⌜ ReadsBlock Format.Bc1Alpha (now («data» .entry)) (now (image .entry)) r (now (image .exit)) ⌝ }
+{
+    single::read_block(Format::Bc1Alpha, data, image)
+}
+
+// Reads a BC3 block of 16 bytes into the elements 0 to 15.
+pub fn decode_bc3_block(data: &[u8], image: &mut [u32]) -> Answer
+    ensures { λ r. ⌜ ReadsBlock Format.Bc3 (now («data» .entry)) (now (image .entry)) r (now (image .exit)) ⌝ }
+{
+    single::read_block(Format::Bc3, data, image)
+}
+
 // Reads an alpha half of 8 bytes into the top bytes of the elements 0 to 15, and keeps the rest of them.
 pub fn decode_etc2_a8_block(data: &[u8], image: &mut [u32]) -> Answer
     ensures { λ r. ⌜ ReadsAlpha (now («data» .entry)) (now (image .entry)) r (now (image .exit)) ⌝ }
@@ -279,14 +343,22 @@ pub fn decode_etc2_a8_block(data: &[u8], image: &mut [u32]) -> Answer
 pub fn decode_eac_block(data: &[u8], channel: usize, image: &mut [u32]) -> Answer
     ensures { λ r. ⌜ ReadsChannel false (now («data» .entry)) channel (now (image .entry)) r (now (image .exit)) ⌝ }
 {
-    single::read_channel(false, data, channel, image)
+    single::read_channel(Joined::Eac, data, channel, image)
 }
 
 // The same of a signed EAC block.
 pub fn decode_eac_signed_block(data: &[u8], channel: usize, image: &mut [u32]) -> Answer
     ensures { λ r. ⌜ ReadsChannel true (now («data» .entry)) channel (now (image .entry)) r (now (image .exit)) ⌝ }
 {
-    single::read_channel(true, data, channel, image)
+    single::read_channel(Joined::EacSigned, data, channel, image)
+}
+
+// Reads the alpha half of a BC3 block, 8 bytes, into channel 0 blue, 1 green, 2 red or 3 alpha of the elements 0 to 15, in place of the
+// byte that stood there.
+pub fn decode_bc3_alpha(data: &[u8], channel: usize, image: &mut [u32]) -> Answer
+    ensures { λ r. ⌜ ReplacesChannel (now («data» .entry)) channel (now (image .entry)) r (now (image .exit)) ⌝ }
+{
+    single::read_channel(Joined::Bc3Alpha, data, channel, image)
 }
 
 // Counts the blocks of each kind of an ETC2 RGB picture, or refuses with 1 or 2 and counts nothing.

@@ -8,6 +8,7 @@ pub mod Order
 pub mod Rows
 pub mod Paint
 pub mod Range
+pub mod Between
 pub mod Word
 pub mod First
 pub mod Unique

@@ -3,7 +3,7 @@
 use mathlib.Core.Path.{_≡_, _∙_, refl, sym, ap}
 use mathlib.Core.Bool.{Bool, true, false, cond}
 use mathlib.Core.List.{List, []}
-use Prim.Native.Nat.{ℕ, zero, suc, _+_, _<_, _≤_}
+use Prim.Native.Nat.{ℕ, zero, suc, _+_, _*_, _<_, _≤_}
 use native.Mathlib.Omega.{arith}
 use lib.Dec.{eqb}
 use lib.ListN.{getD, take, drop}
@@ -13,11 +13,13 @@ use Rattle.rules.specs.Pixel.{Shows, word}
 use Rattle.rules.specs.Colour.{index, half, code, differs, individual, differential, kindBySums, kindOf, stepsOf, halfColours}
 use Rattle.rules.specs.Modes.{tBases, tDistance, tColours, hBases, hDistance, hColours, planarBases, planarPixel, coloursOf, isPlanar, indexed, clearSteps, etc1Bases, etc1Pixel, rgbPixel, rgba1Pixel}
 use Rattle.rules.specs.Channels.{withAlpha, alphaStep, alphaByte, rgba8Pixel, eacValue, eacByte, redPixel, redGreenPixel}
+use Rattle.numbers.specs.Numbers.{little}
+use Rattle.rules.specs.Desktop.{halfWord, paletteIn, colourIndex, alphasIn, alphaIndexIn, bc1Pixel, bc3Alpha, bc3Pixel, replaced}
 use Rattle.rules.specs.Formats.{sizeOf, showsOf}
 use Rattle.rules.specs.declared.Kind.{Kind}
 use Rattle.rules.specs.declared.Kind.the-variants.{Individual, Differential, T, H, Planar}
 use Rattle.rules.specs.declared.Format.{Format}
-use Rattle.rules.specs.declared.Format.the-variants.{Etc1, Etc2Rgb, Etc2Rgba1, Etc2Rgba8, EacR, EacRSigned, EacRg, EacRgSigned}
+use Rattle.rules.specs.declared.Format.the-variants.{Etc1, Etc2Rgb, Etc2Rgba1, Etc2Rgba8, EacR, EacRSigned, EacRg, EacRgSigned, Bc1, Bc1Alpha, Bc3}
 use Rattle.laws.proofs.Filled.{build-same}
 
 -- the first eight bytes of a list
@@ -156,6 +158,29 @@ rgba8 d x y =
     ap (λ (p : ℕ). withAlpha p (alphaByte d x y)) (second rgbPixel rgb d x y)
     ∙ ap (λ (a : ℕ). withAlpha (rgbPixel (drop 8 (take 16 d)) x y) a) (first alphaByte alpha 16 (omega arith) d x y)
 
+-- the halves of BC1 and BC3, by the number that their eight bytes make
+half-word : (d : List ℕ) → halfWord d ≡ halfWord (eight d)
+unfolding little
+half-word d = refl
+
+bc1 : (always alpha : Bool) → Narrow (bc1Pixel always alpha)
+unfolding Narrow bc1Pixel
+bc1 always alpha d x y =
+    ap (λ (w : ℕ). getD (paletteIn always alpha w) (colourIndex w (4 * y + x)) 0) (half-word d)
+
+bc3-alpha : Narrow bc3Alpha
+unfolding Narrow bc3Alpha
+bc3-alpha d x y = ap (λ (w : ℕ). getD (alphasIn w) (alphaIndexIn w (4 * y + x)) 0) (half-word d)
+
+pub bc3-alpha-reads-eight : (d : List ℕ) (x y : ℕ) → bc3Alpha d x y ≡ bc3Alpha (take 8 d) x y
+bc3-alpha-reads-eight = first bc3Alpha bc3-alpha 8 (omega arith)
+
+bc3 : (d : List ℕ) (x y : ℕ) → bc3Pixel d x y ≡ bc3Pixel (take 16 d) x y
+unfolding bc3Pixel
+bc3 d x y =
+    ap (λ (p : ℕ). replaced 3 p (bc3Alpha d x y)) (second (bc1Pixel true false) (bc1 true false) d x y)
+    ∙ ap (λ (a : ℕ). replaced 3 (bc1Pixel true false (drop 8 (take 16 d)) x y) a) (first bc3Alpha bc3-alpha 16 (omega arith) d x y)
+
 -- every format reads the bytes of its block alone
 pub reads-its-block : (f : Format) (d : List ℕ) (x y : ℕ) → showsOf f d x y ≡ showsOf f (take (sizeOf f) d) x y
 unfolding showsOf sizeOf
@@ -167,6 +192,9 @@ reads-its-block EacR d x y = red false d x y
 reads-its-block EacRSigned d x y = red true d x y
 reads-its-block EacRg d x y = red-green false d x y
 reads-its-block EacRgSigned d x y = red-green true d x y
+reads-its-block Bc1 d x y = first (bc1Pixel false false) (bc1 false false) 8 (omega arith) d x y
+reads-its-block Bc1Alpha d x y = first (bc1Pixel false true) (bc1 false true) 8 (omega arith) d x y
+reads-its-block Bc3 d x y = bc3 d x y
 
 -- and has at least one
 pub some-bytes : (f : Format) → 0 < sizeOf f
@@ -179,6 +207,9 @@ some-bytes EacR = omega arith
 some-bytes EacRSigned = omega arith
 some-bytes EacRg = omega arith
 some-bytes EacRgSigned = omega arith
+some-bytes Bc1 = omega arith
+some-bytes Bc1Alpha = omega arith
+some-bytes Bc3 = omega arith
 
 -- and at most 16
 pub few-bytes : (f : Format) → sizeOf f ≤ 16
@@ -191,3 +222,6 @@ few-bytes EacR = omega arith
 few-bytes EacRSigned = omega arith
 few-bytes EacRg = omega arith
 few-bytes EacRgSigned = omega arith
+few-bytes Bc1 = omega arith
+few-bytes Bc1Alpha = omega arith
+few-bytes Bc3 = omega arith

@@ -14,12 +14,14 @@ use Rattle.rules.specs.Colour.{individual, differential, shaded, halfColours, d
 use Rattle.rules.specs.Modes.{tBases, tDistance, tColours, hBases, hDistance, hColours, planarChannel, planarPixel, planarBases, planarOf}
 use Rattle.rules.specs.Modes.{isPlanar, indexed, clearSteps, etc1Bases, etc1Pixel, rgbPixel, rgba1Pixel}
 use Rattle.rules.specs.Channels.{alphaByte, alphaStep, rgba8Pixel, centre, multiplier, eacValue, eacByte, redPixel, redGreenPixel}
+use Rattle.rules.specs.Desktop.{halfWord, rgb565, mix, mixture, palette, paletteIn, hasFour, colourIndex, alphaIndexIn, bc1Pixel, bc3Alpha, bc3Pixel, replaced}
 use Rattle.rules.specs.Formats.{showsOf}
 use Rattle.rules.specs.declared.Kind.{Kind}
 use Rattle.rules.specs.declared.Kind.the-variants.{Individual, Differential, T, H, Planar}
 use Rattle.rules.specs.declared.Format.{Format}
-use Rattle.rules.specs.declared.Format.the-variants.{Etc1, Etc2Rgb, Etc2Rgba1, Etc2Rgba8, EacR, EacRSigned, EacRg, EacRgSigned}
+use Rattle.rules.specs.declared.Format.the-variants.{Etc1, Etc2Rgb, Etc2Rgba1, Etc2Rgba8, EacR, EacRSigned, EacRg, EacRgSigned, Bc1, Bc1Alpha, Bc3}
 use Rattle.laws.proofs.Signed.{clamp-le}
+use Rattle.laws.proofs.Between.{alphas-small}
 
 abbrev pub Word : ℕ → Type 0
 Word n = n < 2 ^ 32
@@ -108,6 +110,53 @@ unfolding redGreenPixel
 red-green s d x y =
     of-bytes 255 (eacByte s d x y) (eacByte s (drop 8 d) x y) 0 (omega arith) (eac-byte s d x y) (eac-byte s (drop 8 d) x y) (omega arith)
 
+-- one of four words
+one-word : (a b c d : ℕ) → Word a → Word b → Word c → Word d → (i : ℕ) → Word (getD (a ∷ b ∷ c ∷ d ∷ []) i 0)
+one-word a b c d p q r s zero = p
+one-word a b c d p q r s (suc zero) = q
+one-word a b c d p q r s (suc (suc zero)) = r
+one-word a b c d p q r s (suc (suc (suc zero))) = s
+one-word a b c d p q r s (suc (suc (suc (suc n)))) = lit< tt
+
+-- a colour of 16 bits, and what lies between two of them
+rgb-le : (q k : ℕ) → getD (rgb565 q) k 0 ≤ 255
+rgb-le q zero = omega arith
+rgb-le q (suc zero) = omega arith
+rgb-le q (suc (suc zero)) = omega arith
+rgb-le q (suc (suc (suc n))) = omega arith
+
+plain : (q : ℕ) → Word (word 255 (getD (rgb565 q) 0 0) (getD (rgb565 q) 1 0) (getD (rgb565 q) 2 0))
+plain q = of-bytes 255 (getD (rgb565 q) 0 0) (getD (rgb565 q) 1 0) (getD (rgb565 q) 2 0) (omega arith) (rgb-le q 0) (rgb-le q 1) (rgb-le q 2)
+
+between : (m n p q : ℕ) → ((a b : ℕ) → a ≤ 255 → b ≤ 255 → mix m n a b ≤ 255) → Word (mixture m n (rgb565 p) (rgb565 q))
+between m n p q h =
+    let at : (k : ℕ) → mix m n (getD (rgb565 p) k 0) (getD (rgb565 q) k 0) ≤ 255 = λ k. h (getD (rgb565 p) k 0) (getD (rgb565 q) k 0) (rgb-le p k) (rgb-le q k) in
+    of-bytes 255 (mix m n (getD (rgb565 p) 0 0) (getD (rgb565 q) 0 0)) (mix m n (getD (rgb565 p) 1 0) (getD (rgb565 q) 1 0)) (mix m n (getD (rgb565 p) 2 0) (getD (rgb565 q) 2 0)) (omega arith) (at 0) (at 1) (at 2)
+
+black : (a : Bool) → Word (word (cond a 0 255) 0 0 0)
+black true = lit< tt
+black false = lit< tt
+
+in-palette : (f a : Bool) (p q i : ℕ) → Word (getD (palette f a (rgb565 p) (rgb565 q)) i 0)
+in-palette true a p q i =
+    one-word _ _ _ _ (plain p) (plain q) (between 2 1 p q (λ a b h k. omega arith)) (between 1 2 p q (λ a b h k. omega arith)) i
+in-palette false a p q i = one-word _ _ _ _ (plain p) (plain q) (between 1 1 p q (λ a b h k. omega arith)) (black a) i
+
+pub palette-word : (always alpha : Bool) (w i : ℕ) → Word (getD (paletteIn always alpha w) i 0)
+palette-word always alpha w i = in-palette (hasFour always (bits 15 0 w) (bits 31 16 w)) alpha (bits 15 0 w) (bits 31 16 w) i
+
+bc1 : (always alpha : Bool) (d : List ℕ) (x y : ℕ) → Word (bc1Pixel always alpha d x y)
+unfolding bc1Pixel
+bc1 always alpha d x y = palette-word always alpha (halfWord d) (colourIndex (halfWord d) (4 * y + x))
+
+replaced-word : (p b : ℕ) → Word p → b < 256 → Word (replaced 3 p b)
+replaced-word p b h k = omega arith
+
+bc3 : (d : List ℕ) (x y : ℕ) → Word (bc3Pixel d x y)
+unfolding bc3Pixel bc3Alpha
+bc3 d x y =
+    replaced-word (bc1Pixel true false (drop 8 d) x y) _ (bc1 true false (drop 8 d) x y) (alphas-small (halfWord d) (alphaIndexIn (halfWord d) (4 * y + x)))
+
 -- every pixel of every format
 pub word-below : (f : Format) (d : List ℕ) (x y : ℕ) → Word (showsOf f d x y)
 unfolding showsOf
@@ -119,3 +168,6 @@ word-below EacR d x y = red false d x y
 word-below EacRSigned d x y = red true d x y
 word-below EacRg d x y = red-green false d x y
 word-below EacRgSigned d x y = red-green true d x y
+word-below Bc1 d x y = bc1 false false d x y
+word-below Bc1Alpha d x y = bc1 false true d x y
+word-below Bc3 d x y = bc3 d x y

@@ -21,6 +21,9 @@ fn format_at(n: usize) -> Format
         5 => Format::EacRSigned,
         6 => Format::EacRg,
         7 => Format::EacRgSigned,
+        8 => Format::Bc1,
+        9 => Format::Bc1Alpha,
+        10 => Format::Bc3,
         _ => Format::Etc1,
     }
 }
@@ -38,6 +41,9 @@ fn number_of(f: Format) -> usize
         Format::EacRSigned => 5,
         Format::EacRg => 6,
         Format::EacRgSigned => 7,
+        Format::Bc1 => 8,
+        Format::Bc1Alpha => 9,
+        Format::Bc3 => 10,
     }
 }
 

@@ -16,13 +16,17 @@ use Rattle.rules.specs.Colour.{differential, wrapped, kindBySums, outOfR
 use Rattle.rules.specs.Modes.{tBases, tDistance, hBases, notLess, hDistance, planarBases, planarChannel, indexed}
 use Rattle.rules.specs.Modes.{rgbPixel, rgba1Pixel, etc1Pixel}
 use Rattle.rules.specs.Channels.{alphaStep, alphaByte, rgba8Pixel, eacValue, eacByte, redPixel, redGreenPixel}
+use Rattle.numbers.specs.Numbers.{little}
+use Rattle.rules.specs.Desktop.{bc1Pixel, bc3Alpha, bc3Pixel}
 use Rattle.rules.specs.Formats.{sizeOf, showsOf}
 use Rattle.rules.specs.Readers.{pictureOf, pictureVerdict, ReadsPicture, strictChecks, strictVerdict, ReadsStrict, opaqueChecks, opaqueVerdict, ReadsOpaque}
 use Rattle.rules.specs.Readers.{blockVerdict, blockPainted, ReadsBlock, alphaPainted, ReadsAlpha, channelVerdict, channelPainted, ReadsChannel}
+use Rattle.rules.specs.Readers.{replacedPainted, ReplacesChannel}
 use Rattle.rules.specs.declared.Answer.{Answer}
 use Rattle.rules.specs.declared.Answer.the-variants.{Done, TooLarge, ShortData, ShortImage, OutOfRange, NoChannel, LongData, NotOpaque, ShortPitch}
 use Rattle.rules.specs.declared.Format.the-variants.{Etc2Rgb, Etc2Rgba1}
-use Rattle.rules.proofs.Rows.{Reader, picture, strict, opaque, padded, paddedStrict, paddedOpaque, block, alphaHalf, channel, Row, caseOf, bytes, same}
+use Rattle.rules.proofs.Rows.{Reader, picture, strict, opaque, padded, paddedStrict, paddedOpaque, block, alphaHalf, channel, alphaInto, Row}
+use Rattle.rules.proofs.Rows.{caseOf, bytes, same}
 use Rattle.rules.proofs.Specimens.{rows, columns, bench, table}
 use Rattle.rules.proofs.Pitches.{pitches}
 use Rattle.rules.proofs.Leftovers.{leftovers}
@@ -40,6 +44,7 @@ verdictOf (paddedOpaque p) w h d image = opaqueVerdict (pitched w h p) d image
 verdictOf (block f) w h d image = blockVerdict (sizeOf f) d image
 verdictOf alphaHalf w h d image = blockVerdict 8 d image
 verdictOf (channel s c) w h d image = channelVerdict c d image
+verdictOf (alphaInto c) w h d image = channelVerdict c d image
 
 paints : Reader → ℕ → ℕ → List ℕ → List ℕ → List ℕ
 paints (picture f) w h d image = pictureOf f (sized w h) d image
@@ -51,6 +56,7 @@ paints (paddedOpaque p) w h d image = pictureOf Etc2Rgba1 (pitched w h p) d imag
 paints (block f) w h d image = blockPainted (λ k. showsOf f d (k % 4) (k / 4)) image
 paints alphaHalf w h d image = alphaPainted d image
 paints (channel s c) w h d image = channelPainted s d c image
+paints (alphaInto c) w h d image = replacedPainted d c image
 
 leaves : Reader → ℕ → ℕ → List ℕ → List ℕ → List ℕ
 leaves reader w h d image = left (verdictOf reader w h d image) (paints reader w h d image) image
@@ -66,6 +72,7 @@ Promise (paddedOpaque p) w h d image answer new = ReadsOpaque d (pitched w h p) 
 Promise (block f) w h d image answer new = ReadsBlock f d image answer new
 Promise alphaHalf w h d image answer new = ReadsAlpha d image answer new
 Promise (channel s c) w h d image answer new = ReadsChannel s d c image answer new
+Promise (alphaInto c) w h d image answer new = ReplacesChannel d c image answer new
 
 no-less :
     (reader : Reader) (w h : ℕ) (d image : List ℕ) (answer : Answer) (new : List ℕ)
@@ -81,6 +88,7 @@ no-less (paddedOpaque p) w h d image answer new o = (o .says, o .leaves)
 no-less (block f) w h d image answer new o = (o .says, o .leaves)
 no-less alphaHalf w h d image answer new o = (o .says, o .leaves)
 no-less (channel s c) w h d image answer new o = (o .says, o .leaves)
+no-less (alphaInto c) w h d image answer new o = (o .says, o .leaves)
 
 no-more :
     (reader : Reader) (w h : ℕ) (d image : List ℕ) (answer : Answer) (new : List ℕ)
@@ -97,6 +105,7 @@ no-more (paddedOpaque p) w h d image answer new a b = record { says = a; leaves 
 no-more (block f) w h d image answer new a b = record { says = a; leaves = b }
 no-more alphaHalf w h d image answer new a b = record { says = a; leaves = b }
 no-more (channel s c) w h d image answer new a b = record { says = a; leaves = b }
+no-more (alphaInto c) w h d image answer new a b = record { says = a; leaves = b }
 
 holds : Row → Bool
 holds row =
@@ -182,4 +191,5 @@ hold : T (numbers && tested && words && orders && places && every (bench ++ reco
 unfolding numbers numbersOf tested words orders places every bench table pitches leftovers opaques recorded verdictOf paints leaves holds marked needed
     painted firstOf differential wrapped kindBySums outOfRange tBases tDistance hBases hDistance planarBases planarChannel indexed
     rgbPixel rgba1Pixel etc1Pixel alphaStep alphaByte rgba8Pixel eacValue eacByte redPixel redGreenPixel sizeOf showsOf
+    little bc1Pixel bc3Alpha bc3Pixel
 hold = tt

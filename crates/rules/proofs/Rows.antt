@@ -7,7 +7,8 @@ use lib.Dec.{eqb}
 use lib.ListN.{length, replicate}
 use Rattle.rules.specs.declared.Format.{Format}
 
--- a picture of a format, a strict one, an opaque one, all three with a pitch, a block of a format, the alpha half alone, and a channel alone
+-- a picture of a format, a strict one, an opaque one, all three with a pitch, a block of a format, the alpha half alone, a channel alone,
+-- and a BC3 alpha half into a channel
 pub data Reader : Type 0 where
   picture : Format → Reader
   strict : Reader
@@ -18,6 +19,7 @@ pub data Reader : Type 0 where
   block : Format → Reader
   alphaHalf : Reader
   channel : Bool → ℕ → Reader
+  alphaInto : ℕ → Reader
 
 -- A row names the reader, the width and the height (4 and 4 of a block), and the blocks, each eight bytes as one number.
 -- shows: accepted, these pixels are painted over elements of 11111111 (hex), and so many more stay as they are

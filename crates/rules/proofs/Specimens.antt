@@ -1,12 +1,12 @@
 -- Document 01's specimens, S1 to S18, 02's one of the lowest signed base, and the table of refusals for every reader, as rows.
 -- Held.antt has the test.
 -- Assumes nothing.
-use mathlib.Core.Bool.{Bool, true, false}
+use mathlib.Core.Bool.{true, false}
 use mathlib.Core.List.{List, [], _∷_, _++_}
 use Prim.Native.Nat.{ℕ}
 use lib.ListN.{replicate}
-use Rattle.rules.specs.declared.Format.the-variants.{Etc1, Etc2Rgb, Etc2Rgba1, Etc2Rgba8, EacR, EacRSigned, EacRg, EacRgSigned}
-use Rattle.rules.proofs.Rows.{Reader, picture, strict, block, alphaHalf, channel, Row, shows, refuses, answers}
+use Rattle.rules.specs.declared.Format.the-variants.{Etc1, Etc2Rgb, Etc2Rgba1, Etc2Rgba8, EacR, EacRSigned, EacRg, EacRgSigned, Bc1, Bc1Alpha, Bc3}
+use Rattle.rules.proofs.Rows.{Reader, picture, strict, block, alphaHalf, channel, alphaInto, Row, shows, refuses, answers}
 
 -- one colour everywhere; rows of the tile; two columns and two columns
 abbrev pub all : ℕ → List ℕ
@@ -95,11 +95,9 @@ blockRefusals reader short enough =
     answers reader 4 4 short 16 (2 ∷ []) ∷ answers reader 4 4 enough 15 (3 ∷ []) ∷ answers reader 4 4 short 15 (2 ∷ []) ∷ []
 
 -- "channel above 3"
-abbrev pub channelRefusals : Bool → List Row
-channelRefusals signed =
-    answers (channel signed 4) 4 4 8 16 (5 ∷ [])
-    ∷ answers (channel signed 4) 4 4 7 15 (5 ∷ [])
-    ∷ blockRefusals (channel signed 3) 7 8
+abbrev pub channelRefusals : (ℕ → Reader) → List Row
+channelRefusals into =
+    answers (into 4) 4 4 8 16 (5 ∷ []) ∷ answers (into 4) 4 4 7 15 (5 ∷ []) ∷ blockRefusals (into 3) 7 8
 
 unfoldable pub table : List Row
 table =
@@ -111,6 +109,9 @@ table =
     ++ refusals (picture EacRSigned) 47 48
     ++ refusals (picture EacRg) 95 96
     ++ refusals (picture EacRgSigned) 95 96
+    ++ refusals (picture Bc1) 47 48
+    ++ refusals (picture Bc1Alpha) 47 48
+    ++ refusals (picture Bc3) 95 96
     ++ refusals strict 47 48
     ++ (refuses strict 4 4 (0x0400000200000000 ∷ []) 15 (3 ∷ []) ∷ [])
     ++ blockRefusals (block Etc1) 7 8
@@ -121,6 +122,10 @@ table =
     ++ blockRefusals (block EacRSigned) 7 8
     ++ blockRefusals (block EacRg) 15 16
     ++ blockRefusals (block EacRgSigned) 15 16
+    ++ blockRefusals (block Bc1) 7 8
+    ++ blockRefusals (block Bc1Alpha) 7 8
+    ++ blockRefusals (block Bc3) 15 16
     ++ blockRefusals alphaHalf 7 8
-    ++ channelRefusals false
-    ++ channelRefusals true
+    ++ channelRefusals (channel false)
+    ++ channelRefusals (channel true)
+    ++ channelRefusals alphaInto

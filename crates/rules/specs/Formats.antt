@@ -1,14 +1,15 @@
--- The eight formats: the bytes of a block, and what they show.
+-- The formats: the bytes of a block, and what they show.
 -- Assumes nothing.
 use mathlib.Core.Bool.{true, false}
 use Prim.Native.Nat.{ℕ}
 use Rattle.rules.specs.Pixel.{Shows}
 use Rattle.rules.specs.Modes.{etc1Pixel, rgbPixel, rgba1Pixel}
 use Rattle.rules.specs.Channels.{rgba8Pixel, redPixel, redGreenPixel}
+use Rattle.rules.specs.Desktop.{bc1Pixel, bc3Pixel}
 use Rattle.rules.specs.declared.Format.{Format}
-use Rattle.rules.specs.declared.Format.the-variants.{Etc1, Etc2Rgb, Etc2Rgba1, Etc2Rgba8, EacR, EacRSigned, EacRg, EacRgSigned}
+use Rattle.rules.specs.declared.Format.the-variants.{Etc1, Etc2Rgb, Etc2Rgba1, Etc2Rgba8, EacR, EacRSigned, EacRg, EacRgSigned, Bc1, Bc1Alpha, Bc3}
 
--- "a block has 8 bytes, or 16 for RGBA8 and both EAC RG forms"
+-- "a block has 8 bytes, or 16 for RGBA8 and both EAC RG forms"; and of M-106's, 8 for BC1, or 16 for BC3, which has two halves
 unfoldable pub sizeOf : Format → ℕ
 sizeOf Etc1 = 8
 sizeOf Etc2Rgb = 8
@@ -18,6 +19,9 @@ sizeOf EacR = 8
 sizeOf EacRSigned = 8
 sizeOf EacRg = 16
 sizeOf EacRgSigned = 16
+sizeOf Bc1 = 8
+sizeOf Bc1Alpha = 8
+sizeOf Bc3 = 16
 
 -- "Every accepted pixel is what the Khronos text says of its own block and place" (demand 2): what it says
 unfoldable pub showsOf : Format → Shows
@@ -29,3 +33,6 @@ showsOf EacR = redPixel false
 showsOf EacRSigned = redPixel true
 showsOf EacRg = redGreenPixel false
 showsOf EacRgSigned = redGreenPixel true
+showsOf Bc1 = bc1Pixel false false
+showsOf Bc1Alpha = bc1Pixel false true
+showsOf Bc3 = bc3Pixel

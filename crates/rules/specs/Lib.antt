@@ -11,7 +11,9 @@ pub mod Colour
 pub mod Modes
 -- alpha and single channels
 pub mod Channels
--- the eight formats, and what every reader owes its caller
+-- BC1 and BC3, of document 02
+pub mod Desktop
+-- the formats, and what every reader owes its caller
 pub mod Formats
 pub mod Guards
 pub mod Readers

@@ -5,9 +5,11 @@ use mathlib.Core.List.{List}
 use Prim.Native.Nat.{ℕ, _/_, _%_}
 use lib.Dec.{ltb}
 use lib.ListN.{length, getD}
+use Rattle.rules.specs.Pixel.{Shows}
 use Rattle.rules.specs.Places.{bytesOf, painted, pictureBy}
 use Rattle.rules.specs.Answers.{Check, verdict, pictureChecks, exactChecks, blockChecks, channelChecks, Outcome}
 use Rattle.rules.specs.Channels.{withAlpha, alphaByte, eacByte, orChannel}
+use Rattle.rules.specs.Desktop.{bc3Alpha, replaced}
 use Rattle.rules.specs.Formats.{sizeOf, showsOf}
 use Rattle.rules.specs.Guards.{Guard, guardVerdict, inRange, opaqueOnly}
 use Rattle.rules.specs.declared.Answer.{Answer}
@@ -77,14 +79,28 @@ abbrev pub ReadsAlpha : List ℕ → List ℕ → Answer → List ℕ → Type 0
 ReadsAlpha d image answer new =
     Outcome (blockVerdict 8 d image) (alphaPainted d image) answer image new
 
--- The readers of a single channel, unsigned and signed.
+-- The readers of a single channel, over how a byte joins what stood there and over the byte that eight bytes give a pixel.
 abbrev pub channelVerdict : ℕ → List ℕ → List ℕ → List ℕ
 channelVerdict channel d image = verdict (channelChecks channel (length d) (length image))
 
+abbrev pub joinedPainted : (ℕ → ℕ → ℕ → ℕ) → Shows → List ℕ → ℕ → List ℕ → List ℕ
+joinedPainted join gives d channel image = blockPainted (λ k. join channel (getD image k 0) (gives d (k % 4) (k / 4))) image
+
+abbrev pub JoinsChannel : (ℕ → ℕ → ℕ → ℕ) → Shows → List ℕ → ℕ → List ℕ → Answer → List ℕ → Type 0
+JoinsChannel join gives d channel image answer new =
+    Outcome (channelVerdict channel d image) (joinedPainted join gives d channel image) answer image new
+
+-- Of EAC, unsigned and signed.
+
 abbrev pub channelPainted : Bool → List ℕ → ℕ → List ℕ → List ℕ
-channelPainted signed d channel image =
-    blockPainted (λ k. orChannel channel (getD image k 0) (eacByte signed d (k % 4) (k / 4))) image
+channelPainted signed d channel image = joinedPainted orChannel (eacByte signed) d channel image
 
 abbrev pub ReadsChannel : Bool → List ℕ → ℕ → List ℕ → Answer → List ℕ → Type 0
-ReadsChannel signed d channel image answer new =
-    Outcome (channelVerdict channel d image) (channelPainted signed d channel image) answer image new
+ReadsChannel signed d channel image answer new = JoinsChannel orChannel (eacByte signed) d channel image answer new
+
+-- The reader of a BC3 alpha half into any channel: "ours stops after element 15 and refuses a channel above 3 with 5" (M-106).
+abbrev pub replacedPainted : List ℕ → ℕ → List ℕ → List ℕ
+replacedPainted d channel image = joinedPainted replaced bc3Alpha d channel image
+
+abbrev pub ReplacesChannel : List ℕ → ℕ → List ℕ → Answer → List ℕ → Type 0
+ReplacesChannel d channel image answer new = JoinsChannel replaced bc3Alpha d channel image answer new

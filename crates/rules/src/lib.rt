@@ -1,6 +1,6 @@
 // The vocabulary: the words that the rules, the readers and their callers share. It has no functions.
 
-// The eight formats, in document 01's order of readers.
+// The formats: the eight of document 01, in its order of readers, and those of M-106.
 pub enum Format {
     Etc1,
     Etc2Rgb,
@@ -10,6 +10,9 @@ pub enum Format {
     EacRSigned,
     EacRg,
     EacRgSigned,
+    Bc1,
+    Bc1Alpha,
+    Bc3,
 }
 
 // The five kinds of colour block.

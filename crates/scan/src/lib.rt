@@ -89,6 +89,9 @@ fn is_asked(f: Format) -> bool
         Format::EacRSigned => false,
         Format::EacRg => false,
         Format::EacRgSigned => false,
+        Format::Bc1 => false,
+        Format::Bc1Alpha => false,
+        Format::Bc3 => false,
     }
 }
 
@@ -105,6 +108,9 @@ fn viewer_of(f: Format) -> Viewer
         Format::EacRSigned => Viewer::Etc1,
         Format::EacRg => Viewer::Etc1,
         Format::EacRgSigned => Viewer::Etc1,
+        Format::Bc1 => Viewer::Etc1,
+        Format::Bc1Alpha => Viewer::Etc1,
+        Format::Bc3 => Viewer::Etc1,
     }
 }
 

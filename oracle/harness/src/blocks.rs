@@ -95,12 +95,49 @@ fn of_kind(half: Half, number: usize, random: &mut Random) -> [u8; 8] {
         Half::Etc1 | Half::Rgb => colour(number % 5, random),
         Half::Rgba1 => opaque(number / 4 % 2 == 1, number, random),
         Half::Alpha | Half::Eac => channel(number % 8, random),
+        Half::Desktop => desktop(number % 6, random),
+        Half::DesktopAlpha => desktop_alpha(number % 6, random),
     }
+}
+
+// BC1 and BC3: the first colour above the second, below it, equal to it, and two that differ in one channel alone, in both orders.
+pub fn desktop(kind: usize, random: &mut Random) -> [u8; 8] {
+    let mut block = random.next().to_le_bytes();
+    let [mut p, mut q] = [u16::from_le_bytes([block[0], block[1]]), u16::from_le_bytes([block[2], block[3]])];
+    if kind >= 3 {
+        let channel = [0xf800, 0x07e0, 0x001f][kind - 3];
+        q = p ^ random.next() as u16 & channel;
+        if random.below(2) == 0 {
+            (p, q) = (q, p);
+        }
+    } else if kind == 2 {
+        q = p;
+    } else if (p > q) != (kind == 0) {
+        (p, q) = (q, p);
+    }
+    block[..2].copy_from_slice(&p.to_le_bytes());
+    block[2..4].copy_from_slice(&q.to_le_bytes());
+    block
+}
+
+// The first alpha above the second, below it, equal to it; next to it, in both orders; none and all.
+pub fn desktop_alpha(kind: usize, random: &mut Random) -> [u8; 8] {
+    let mut block = random.next().to_le_bytes();
+    let (a, b) = (block[0].max(block[1]), block[0].min(block[1]));
+    (block[0], block[1]) = match kind {
+        0 => (a, b),
+        1 => (b, a),
+        2 => (a, a),
+        3 => (a | 1, a & !1),
+        4 => (a & !1, a | 1),
+        _ => [(0, 255), (255, 0)][random.below(2)],
+    };
+    block
 }
 
 // A colour half's mode; RGBA1 has its opaque bit set in every second round. Other halves have none.
 fn of_mode(half: Half, number: usize, random: &mut Random) -> [u8; 8] {
-    if matches!(half, Half::Alpha | Half::Eac) {
+    if matches!(half, Half::Alpha | Half::Eac | Half::Desktop | Half::DesktopAlpha) {
         return of_kind(half, number, random);
     }
     let mut block = mode(number % MODES, random);

@@ -7,6 +7,7 @@ use crate::pitched;
 use crate::protocol::{Answer, Case};
 use crate::readers::*;
 use crate::rules::verdict;
+use std::cmp::Ordering;
 
 /// The differences of docs/DIFFERENCES.md, by their names there. The first is the
 /// refusals 1, 4, 5 and 12, and the block readers' 2 and 3.
@@ -14,6 +15,8 @@ pub const REFUSALS_ADDED: &str = "refusals-added";
 pub const RGBA1_TRANSPARENT: &str = "rgba1-transparent";
 pub const EAC_INDEX_ORDER: &str = "eac-index-order";
 pub const EAC_LOWEST_BASE: &str = "eac-lowest-base";
+pub const BC3_FOUR_COLOURS: &str = "bc3-four-colours";
+pub const BC3_ALPHA_END: &str = "bc3-alpha-end";
 
 pub fn is_listed(listed: &[String], name: &str) -> bool {
     listed.iter().any(|other| other == name)
@@ -51,6 +54,16 @@ fn by_equation(case: &Case, given: &[u32], listed: &[String]) -> Vec<u32> {
         Half::Rgba1 if is_listed(listed, RGBA1_TRANSPARENT) => transparent_is_zero(case, given),
         Half::Eac if is_listed(listed, EAC_LOWEST_BASE) => in_listed_order(&lowest_base_raised(case), listed),
         Half::Eac => in_listed_order(case, listed),
+        Half::DesktopAlpha if case.reader == BLOCK_BC3_ALPHA => first_sixteen(case, given, listed),
+        Half::DesktopAlpha => {
+            let four = is_listed(listed, BC3_FOUR_COLOURS).then(|| by_crate(&colours_exchanged(case)));
+            let given = four.unwrap_or_else(|| given.to_vec());
+            if is_block(case.reader) {
+                first_sixteen(case, &given, listed)
+            } else {
+                given
+            }
+        }
         _ => given.to_vec(),
     }
 }
@@ -78,6 +91,32 @@ fn transparent_is_zero(case: &Case, given: &[u32]) -> Vec<u32> {
     let painted = painted(case);
     let zeroed = |(k, &pixel): (usize, &u32)| if k < painted && pixel >> 24 == 0 { 0 } else { pixel };
     given.iter().enumerate().map(zeroed).collect()
+}
+
+/// BC3: the blocks of which the crate's reading is the public one, four colours whatever their order. Where the first
+/// is below the second they are exchanged, and with them the indices 0 and 1, and 2 and 3; two equal ones are one colour.
+fn colours_exchanged(case: &Case) -> Case {
+    let mut exchanged = case.clone();
+    for half in exchanged.data.chunks_exact_mut(16).map(|block| &mut block[8..]) {
+        let order = u16::from_le_bytes([half[0], half[1]]).cmp(&u16::from_le_bytes([half[2], half[3]]));
+        let indices = u32::from_le_bytes([half[4], half[5], half[6], half[7]]);
+        let indices = match order {
+            Ordering::Greater => indices,
+            Ordering::Equal => 0,
+            Ordering::Less => indices ^ 0x5555_5555,
+        };
+        if order == Ordering::Less {
+            (half[0], half[1], half[2], half[3]) = (half[2], half[3], half[0], half[1]);
+        }
+        half[4..].copy_from_slice(&indices.to_le_bytes());
+    }
+    exchanged
+}
+
+/// BC3's alpha half, alone or in a block: the crate's elements 0 to 15, and behind them what stood there.
+fn first_sixteen(case: &Case, given: &[u32], listed: &[String]) -> Vec<u32> {
+    let end = if is_listed(listed, BC3_ALPHA_END) { 16 } else { given.len() };
+    [&given[..end], &case.image[end..]].concat()
 }
 
 fn painted(case: &Case) -> usize {
@@ -183,7 +222,10 @@ fn crate_picture(case: &Case, image: &mut [u32]) -> Result<(), &'static str> {
         EACR => given::decode_eacr,
         EACR_SIGNED => given::decode_eacr_signed,
         EACRG => given::decode_eacrg,
-        _ => given::decode_eacrg_signed,
+        EACRG_SIGNED => given::decode_eacrg_signed,
+        BC1 => given::decode_bc1,
+        BC1A => given::decode_bc1a,
+        _ => given::decode_bc3,
     };
     decode(&case.data, case.width as usize, case.height as usize, image)
 }
@@ -201,6 +243,10 @@ fn crate_block(case: &Case, image: &mut [u32]) {
         BLOCK_EACR => given::decode_eacr_block(data, image),
         BLOCK_EACR_SIGNED => given::decode_eacr_signed_block(data, image),
         BLOCK_EACRG => given::decode_eacrg_block(data, image),
-        _ => given::decode_eacrg_signed_block(data, image),
+        BLOCK_EACRG_SIGNED => given::decode_eacrg_signed_block(data, image),
+        BLOCK_BC1 => given::decode_bc1_block(data, image),
+        BLOCK_BC1A => given::decode_bc1a_block(data, image),
+        BLOCK_BC3 => given::decode_bc3_block(data, image),
+        _ => given::decode_bc3_alpha(data, image, case.channel as usize),
     }
 }

@@ -15,6 +15,9 @@ pub const WIDE_EACRG: u32 = 11;
 pub const WIDE_EACRG_SIGNED: u32 = 12;
 /// RGBA1 for an opaque-only viewer.
 pub const OPAQUE: u32 = 13;
+pub const BC1: u32 = 34;
+pub const BC1A: u32 = 35;
+pub const BC3: u32 = 36;
 
 pub const BLOCK_ETC1: u32 = 16;
 pub const BLOCK_RGB: u32 = 17;
@@ -27,6 +30,10 @@ pub const BLOCK_EACR: u32 = 23;
 pub const BLOCK_EACR_SIGNED: u32 = 24;
 pub const BLOCK_EACRG: u32 = 25;
 pub const BLOCK_EACRG_SIGNED: u32 = 26;
+pub const BLOCK_BC1: u32 = 27;
+pub const BLOCK_BC1A: u32 = 28;
+pub const BLOCK_BC3: u32 = 29;
+pub const BLOCK_BC3_ALPHA: u32 = 30;
 
 /// Censuses of blocks; what they lend is room for the counts.
 pub const CENSUS_RGB: u32 = 32;
@@ -35,8 +42,11 @@ pub const CENSUS_RGBA1: u32 = 33;
 /// A picture reader that takes a pitch has its twin's number and so many more.
 pub const PITCHED: u32 = 40;
 
-pub const PICTURES: [u32; 10] = [ETC1, RGB, RGBA1, RGBA8, EACR, EACR_SIGNED, EACRG, EACRG_SIGNED, STRICT, OPAQUE];
-pub const BLOCKS: std::ops::RangeInclusive<u32> = BLOCK_ETC1..=BLOCK_EACRG_SIGNED;
+/// The formats: those of document 01 in its order, and M-106's.
+pub const FORMATS: [u32; 11] = [ETC1, RGB, RGBA1, RGBA8, EACR, EACR_SIGNED, EACRG, EACRG_SIGNED, BC1, BC1A, BC3];
+pub const PICTURES: [u32; 13] =
+    [ETC1, RGB, RGBA1, RGBA8, EACR, EACR_SIGNED, EACRG, EACRG_SIGNED, STRICT, OPAQUE, BC1, BC1A, BC3];
+pub const BLOCKS: std::ops::RangeInclusive<u32> = BLOCK_ETC1..=BLOCK_BC3_ALPHA;
 pub const CENSUSES: std::ops::RangeInclusive<u32> = CENSUS_RGB..=CENSUS_RGBA1;
 
 pub fn name(reader: u32) -> &'static str {
@@ -63,6 +73,13 @@ pub fn name(reader: u32) -> &'static str {
         BLOCK_EACR_SIGNED => "eacr_signed_block",
         BLOCK_EACRG => "eacrg_block",
         BLOCK_EACRG_SIGNED => "eacrg_signed_block",
+        BC1 => "bc1",
+        BC1A => "bc1a",
+        BC3 => "bc3",
+        BLOCK_BC1 => "bc1_block",
+        BLOCK_BC1A => "bc1a_block",
+        BLOCK_BC3 => "bc3_block",
+        BLOCK_BC3_ALPHA => "bc3_alpha",
         CENSUS_RGB => "census_etc2_rgb",
         CENSUS_RGBA1 => "census_etc2_rgba1",
         _ => "unknown",
@@ -90,15 +107,33 @@ pub fn is_census(reader: u32) -> bool {
     CENSUSES.contains(&reader)
 }
 
-/// The two readers that name a channel.
+/// The three readers that name a channel.
 pub fn has_channel(reader: u32) -> bool {
-    reader == BLOCK_EAC || reader == BLOCK_EAC_SIGNED
+    matches!(reader, BLOCK_EAC | BLOCK_EAC_SIGNED | BLOCK_BC3_ALPHA)
+}
+
+/// The reader of a format's pictures, of a block reader.
+pub fn picture_of(reader: u32) -> u32 {
+    let places = [
+        BLOCK_ETC1,
+        BLOCK_RGB,
+        BLOCK_RGBA1,
+        BLOCK_RGBA8,
+        BLOCK_EACR,
+        BLOCK_EACR_SIGNED,
+        BLOCK_EACRG,
+        BLOCK_EACRG_SIGNED,
+        BLOCK_BC1,
+        BLOCK_BC1A,
+        BLOCK_BC3,
+    ];
+    places.iter().position(|&other| other == reader).map_or(reader, |at| FORMATS[at])
 }
 
 pub fn block_size(reader: u32) -> usize {
     match plain(reader) {
         RGBA8 | EACRG | EACRG_SIGNED | WIDE_EACRG | WIDE_EACRG_SIGNED | BLOCK_RGBA8 | BLOCK_EACRG
-        | BLOCK_EACRG_SIGNED => 16,
+        | BLOCK_EACRG_SIGNED | BC3 | BLOCK_BC3 => 16,
         _ => 8,
     }
 }
@@ -129,6 +164,10 @@ pub enum Half {
     Rgba1,
     Alpha,
     Eac,
+    /// Two colours of 16 bits, and two bits a pixel.
+    Desktop,
+    /// Two alphas, and three bits a pixel.
+    DesktopAlpha,
 }
 
 pub fn half(reader: u32, second: bool) -> Half {
@@ -138,6 +177,9 @@ pub fn half(reader: u32, second: bool) -> Half {
         RGBA1 | OPAQUE | BLOCK_RGBA1 | CENSUS_RGBA1 => Half::Rgba1,
         RGBA8 | BLOCK_RGBA8 if second => Half::Rgb,
         RGBA8 | BLOCK_RGBA8 | BLOCK_A8 => Half::Alpha,
+        BC1 | BC1A | BLOCK_BC1 | BLOCK_BC1A => Half::Desktop,
+        BC3 | BLOCK_BC3 if second => Half::Desktop,
+        BC3 | BLOCK_BC3 | BLOCK_BC3_ALPHA => Half::DesktopAlpha,
         _ => Half::Eac,
     }
 }

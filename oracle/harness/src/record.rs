@@ -146,7 +146,7 @@ fn seconds(options: &crate::Options, list: &mut List) -> Result<()> {
         specimens().into_iter().filter(|s| s.shows() && s.case.reader == ETC1).map(|s| s.exact().0).collect();
     cases.extend(stored_accepted_plan(ETC1, options.seed, false).iter().map(|shape| shape.case()));
     list.group("Android: etc1", &ask(&options.android, cases)?);
-    for reader in ETC1..=EACRG_SIGNED {
+    for reader in FORMATS {
         let shapes = stored_accepted_plan(reader, options.seed, reader == ETC1);
         let cases = shapes.iter().map(|shape| shape.case()).collect();
         let seen = ask(&options.mesa, cases)?;

@@ -2,7 +2,7 @@
 //! and every field of every kind, with the answers of the crate, which Mesa and Android must share where they can be
 //! asked. The program under test is not asked.
 
-use crate::blocks::{channel, colour, h_orders};
+use crate::blocks::{channel, colour, desktop, desktop_alpha, h_orders};
 use crate::expected::expected;
 use crate::protocol::{ask, Answer, Case, Pair};
 use crate::random::Random;
@@ -46,11 +46,22 @@ fn of_kinds(kinds: &[usize], random: &mut Random) -> Vec<Block> {
     kinds.iter().map(|&kind| colour(kind, random)).collect()
 }
 
-// Each group has numbers of its own, so that a change in one leaves the others as they are.
+// Each group has numbers of its own, so that a change in one leaves the others as they are. The last two, made at the same time by two
+// requests, begin at the same.
 fn rows(seed: u64) -> Vec<Row> {
-    let groups = [glance, single, etc1, etc2, alphas, channels, places, strict, opaque];
-    let random = |group: usize| Random::new(seed << 8 | group as u64);
-    groups.into_iter().enumerate().flat_map(|(at, group)| group(&mut random(at))).collect()
+    let groups: [(u64, fn(&mut Random) -> Vec<Row>); 10] = [
+        (0, glance),
+        (1, single),
+        (2, etc1),
+        (3, etc2),
+        (4, alphas),
+        (5, channels),
+        (6, places),
+        (7, strict),
+        (8, opaque),
+        (8, desktops),
+    ];
+    groups.into_iter().flat_map(|(number, group)| group(&mut Random::new(seed << 8 | number))).collect()
 }
 
 // The first row of a block or two of each format and kind: most mistakes are seen here, at little cost.
@@ -260,6 +271,45 @@ fn with_clear(blocks: &[Block], clear: &[usize]) -> Vec<Block> {
     blocks
 }
 
+// Two upper rows of a tile have every index, 0 to 3, in two orders.
+fn every_two_bits(mut block: Block, turn: usize) -> Block {
+    block[4..6].copy_from_slice(&[[0xe4, 0x1b], [0x39, 0x6c]][turn % 2]);
+    block
+}
+
+// And 0 to 7.
+fn every_three_bits(mut block: Block, turn: usize) -> Block {
+    let index = EVERY_INDEX[turn % 2].to_le_bytes();
+    block[2..8].copy_from_slice(&index[..6]);
+    block
+}
+
+// BC1 and BC3: each order of the two colours and of the two alphas, equal ones too, and every index.
+fn desktops(random: &mut Random) -> Vec<Row> {
+    let colours: Vec<Block> = (0..6).map(|kind| every_two_bits(desktop(kind, random), kind)).collect();
+    let both: Vec<Block> = (0..6)
+        .flat_map(|kind| {
+            let alpha = every_three_bits(desktop_alpha(kind, random), kind);
+            [alpha, every_two_bits(desktop([1, 0, 2, 1, 0, 1][kind], random), kind)]
+        })
+        .collect();
+    let mut list = vec![
+        picture("BC1: four colours, three, and equal ones", BC1, (24, 2), &colours),
+        picture("BC1 with one bit of alpha", BC1A, (24, 2), &colours),
+        picture("BC3: sevenths, fifths, and equal ones; always four colours", BC3, (24, 2), &both),
+        picture("BC1, all sixteen pixels", BC1, (4, 4), &[desktop(0, random)]),
+        picture("BC3, all sixteen pixels", BC3, (4, 4), &[desktop_alpha(0, random), desktop(1, random)]),
+        lone(BLOCK_BC1, &[desktop(1, random)]),
+        lone(BLOCK_BC1A, &[desktop(1, random)]),
+        lone(BLOCK_BC3, &[desktop_alpha(1, random), desktop(1, random)]),
+    ];
+    for into in 0..4 {
+        let half = desktop_alpha(into as usize % 2, random);
+        list.push(joined("a BC3 alpha half into a channel", BLOCK_BC3_ALPHA, into, half, random));
+    }
+    list
+}
+
 pub fn write(options: &crate::Options) -> Result<bool> {
     let rows = rows(options.seed);
     let pairs: Vec<Pair> =
@@ -279,7 +329,7 @@ pub fn write(options: &crate::Options) -> Result<bool> {
 // Mesa and Android's libETC1 have to show the same in every picture.
 fn shared(options: &crate::Options, pairs: &[Pair]) -> Result<()> {
     for (program, label) in [(&options.mesa, "Mesa"), (&options.android, "Android")] {
-        let readers = if label == "Mesa" { ETC1..=EACRG_SIGNED } else { ETC1..=ETC1 };
+        let readers = if label == "Mesa" { &FORMATS[..] } else { &[ETC1] };
         let cases: Vec<Case> = pairs
             .iter()
             .filter(|(case, due)| readers.contains(&case.reader) && due.number == 0)
@@ -353,27 +403,31 @@ fn list(items: impl Iterator<Item = String>, across: usize) -> String {
 }
 
 fn antt_reader(case: &Case) -> String {
-    let format = ["Etc1", "Etc2Rgb", "Etc2Rgba1", "Etc2Rgba8", "EacR", "EacRSigned", "EacRg", "EacRgSigned"];
     match case.reader {
         STRICT => "strict".to_string(),
         OPAQUE => "opaque".to_string(),
         BLOCK_A8 => "alphaHalf".to_string(),
         BLOCK_EAC => format!("channel false {}", case.channel),
         BLOCK_EAC_SIGNED => format!("channel true {}", case.channel),
-        reader if !is_block(reader) => format!("picture {}", format[reader as usize]),
-        reader => {
-            let place = [
-                BLOCK_ETC1,
-                BLOCK_RGB,
-                BLOCK_RGBA1,
-                BLOCK_RGBA8,
-                BLOCK_EACR,
-                BLOCK_EACR_SIGNED,
-                BLOCK_EACRG,
-                BLOCK_EACRG_SIGNED,
-            ];
-            let at = place.iter().position(|&other| other == reader).unwrap_or(0);
-            format!("block {}", format[at])
-        }
+        BLOCK_BC3_ALPHA => format!("alphaInto {}", case.channel),
+        reader if !is_block(reader) => format!("picture {}", antt_format(reader)),
+        reader => format!("block {}", antt_format(picture_of(reader))),
     }
+}
+
+fn antt_format(reader: u32) -> &'static str {
+    let names = [
+        "Etc1",
+        "Etc2Rgb",
+        "Etc2Rgba1",
+        "Etc2Rgba8",
+        "EacR",
+        "EacRSigned",
+        "EacRg",
+        "EacRgSigned",
+        "Bc1",
+        "Bc1Alpha",
+        "Bc3",
+    ];
+    names[FORMATS.iter().position(|&format| format == reader).unwrap_or(0)]
 }

@@ -10,10 +10,10 @@ use crate::rules::{blocks_across, is_new};
 use crate::specimens;
 use std::io::Result;
 
-/// Mesa in all eight formats; with `eleven`, EAC also by the readers of whole values.
+/// Mesa in all formats; with `eleven`, EAC also by the readers of whole values.
 pub fn mesa(options: &crate::Options) -> Result<bool> {
     let mut same = true;
-    for reader in ETC1..=EACRG_SIGNED {
+    for reader in FORMATS {
         same &= against(reader, options, &options.mesa, "Mesa", reader)?;
         if options.eleven && is_eac(reader) {
             same &= against(reader, options, &options.mesa, "Mesa, eleven bits,", reader + WIDE_EACR - EACR)?;
@@ -27,11 +27,20 @@ pub fn android(options: &crate::Options) -> Result<bool> {
     against(ETC1, options, &options.android, "Android", ETC1)
 }
 
-/// Pictures with a pitch, in all eight formats by Mesa, and in ETC1 by Android too. The other decoder is given
+/// libsquish, which has one rule for BC1, with alpha, and reads BC3.
+pub fn squish(options: &crate::Options) -> Result<bool> {
+    let mut same = true;
+    for reader in [BC1A, BC3] {
+        same &= against(reader, options, &options.squish, "squish", reader)?;
+    }
+    Ok(same)
+}
+
+/// Pictures with a pitch, in all formats by Mesa, and in ETC1 by Android too. The other decoder is given
 /// the rows without their gaps.
 pub fn with_a_pitch(options: &crate::Options) -> Result<bool> {
     let mut same = gapped(ETC1, options, &options.android, "Android")?;
-    for reader in ETC1..=EACRG_SIGNED {
+    for reader in FORMATS {
         same &= gapped(reader, options, &options.mesa, "Mesa")?;
     }
     Ok(same)
@@ -127,7 +136,7 @@ fn for_ours(mut case: Case, asked: u32) -> Case {
 /// Mesa's answer in the form of the reader asked.
 pub fn from_mesa(case: &Case, seen: Answer, asked: u32) -> Answer {
     let image = match case.reader {
-        ETC1 | RGB | RGBA1 | RGBA8 => seen.image,
+        ETC1 | RGB | RGBA1 | RGBA8 | BC1 | BC1A | BC3 => seen.image,
         reader if asked == reader => seen.image.iter().map(|&both| pixel(reader, both)).collect(),
         reader => seen.image.iter().flat_map(|&both| values(reader, both)).collect(),
     };

@@ -6,10 +6,10 @@ use Rattle.block_cases.proofs.main.Statement.{statement}
 use Rattle.block_cases.proofs.main.Tie as tie
 
 abbrev Inv-loop : tie.InvT-loop
-Inv-loop reader₀ reader = reader ≤ 11
+Inv-loop reader₀ reader = reader ≤ 15
 
 abbrev μ-loop : tie.MeasureT-loop
-μ-loop reader₀ reader = 11 - reader
+μ-loop reader₀ reader = 15 - reader
 
 colour-specimens-requires : tie.Need-colour-specimens-requires Inv-loop μ-loop
 colour-specimens-requires c κs = search needs
@@ -25,6 +25,12 @@ channels-requires c κs = search needs
 
 channels-requires-2 : tie.Need-channels-requires-2 Inv-loop μ-loop
 channels-requires-2 c κs = search needs
+
+desktop-specimens-requires : tie.Need-desktop-specimens-requires Inv-loop μ-loop
+desktop-specimens-requires c κs = search needs
+
+channels-requires-3 : tie.Need-channels-requires-3 Inv-loop μ-loop
+channels-requires-3 c κs = search needs
 
 loop-holds : tie.Need-loop-holds Inv-loop μ-loop
 loop-holds c = search needs
@@ -55,6 +61,8 @@ main-spec =
     channel-specimens-requires
     channels-requires
     channels-requires-2
+    desktop-specimens-requires
+    channels-requires-3
     loop-holds
     edges-requires
     add-reader

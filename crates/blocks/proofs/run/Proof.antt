@@ -63,6 +63,27 @@ run-red-green-requires-2 : tie.Need-run-red-green-requires-2
 unfolding sizeOf
 run-red-green-requires-2 c κs = let s = c .before .before .before .before .before in (enough (s .args .n) (c .before .enum-told8 .given .1) (s .pre .0), s .pre .1)
 
+enum-told-9 : tie.Need-enum-told-9
+enum-told-9 c = search needs
+
+run-bc1-requires : tie.Need-run-bc1-requires
+unfolding sizeOf
+run-bc1-requires c κs = let s = c .before .before .before .before .before in (enough (s .args .n) (c .before .enum-told9 .given .1) (s .pre .0), s .pre .1)
+
+enum-told-10 : tie.Need-enum-told-10
+enum-told-10 c = search needs
+
+run-bc1-requires-2 : tie.Need-run-bc1-requires-2
+unfolding sizeOf
+run-bc1-requires-2 c κs = let s = c .before .before .before .before .before in (enough (s .args .n) (c .before .enum-told10 .given .1) (s .pre .0), s .pre .1)
+
+enum-told-11 : tie.Need-enum-told-11
+enum-told-11 c = search needs
+
+run-bc3-requires : tie.Need-run-bc3-requires
+unfolding sizeOf
+run-bc3-requires c κs = let s = c .before .before .before .before .before in (enough (s .args .n) (c .before .enum-told11 .given .1) (s .pre .0), s .pre .1)
+
 same-length : tie.Need-same-length
 same-length c = search needs
 
@@ -143,6 +164,36 @@ returns-8 c =
     let a = t .before .before .before .before .args in
     shown (now (a .«data»)) (a .pic) (a .bx) (a .by) (a .n) (now (a .image)) _ (t .enum-told8 .given .1) (c .before .before .run-red-green2 .ensures)
 
+same-length-9 : tie.Need-same-length-9
+same-length-9 c = search needs
+
+returns-9 : tie.Need-returns-9
+unfolding showsOf sizeOf
+returns-9 c =
+    let t = c .before .before .before .before in
+    let a = t .before .before .before .before .args in
+    shown (now (a .«data»)) (a .pic) (a .bx) (a .by) (a .n) (now (a .image)) _ (t .enum-told9 .given .1) (c .before .before .run-bc1 .ensures)
+
+same-length-10 : tie.Need-same-length-10
+same-length-10 c = search needs
+
+returns-10 : tie.Need-returns-10
+unfolding showsOf sizeOf
+returns-10 c =
+    let t = c .before .before .before .before in
+    let a = t .before .before .before .before .args in
+    shown (now (a .«data»)) (a .pic) (a .bx) (a .by) (a .n) (now (a .image)) _ (t .enum-told10 .given .1) (c .before .before .run-bc12 .ensures)
+
+same-length-11 : tie.Need-same-length-11
+same-length-11 c = search needs
+
+returns-11 : tie.Need-returns-11
+unfolding showsOf sizeOf
+returns-11 c =
+    let t = c .before .before .before .before in
+    let a = t .before .before .before .before .args in
+    shown (now (a .«data»)) (a .pic) (a .bx) (a .by) (a .n) (now (a .image)) _ (t .enum-told11 .given .1) (c .before .before .run-bc3 .ensures)
+
 pub run-spec : {M : Type 1} → statement M
 run-spec =
     tie.close
@@ -163,6 +214,12 @@ run-spec =
     run-red-green-requires
     enum-told-8
     run-red-green-requires-2
+    enum-told-9
+    run-bc1-requires
+    enum-told-10
+    run-bc1-requires-2
+    enum-told-11
+    run-bc3-requires
     same-length
     returns
     same-length-2
@@ -178,4 +235,10 @@ run-spec =
     same-length-7
     returns-7
     same-length-8
-    returns-8)
+    returns-8
+    same-length-9
+    returns-9
+    same-length-10
+    returns-10
+    same-length-11
+    returns-11)

@@ -10,21 +10,32 @@ use Rattle.pieces_lent.specs.Lent.{formats, formatAt}
 use Rattle.pieces_lent.proofs.format_at.Statement.{statement}
 use Rattle.pieces_lent.proofs.format_at.Tie as tie
 
--- the one that is left of the eight
+-- the one that is left of the eleven
+high : (n : ℕ) → n < 11 → (n ≡ 8 → ⊥) → (n ≡ 9 → ⊥) → (n ≡ 10 → ⊥) → n < 8
+high n h a b c = omega arith
+
 low : (n : ℕ) → n < 8 → (n ≡ 4 → ⊥) → (n ≡ 5 → ⊥) → (n ≡ 6 → ⊥) → (n ≡ 7 → ⊥) → n < 4
 low n h a b c d = omega arith
 
 first : (n : ℕ) → n < 4 → (n ≡ 1 → ⊥) → (n ≡ 2 → ⊥) → (n ≡ 3 → ⊥) → n ≡ 0
 first n h a b c = omega arith
 
-others : (n : ℕ) → ((((((Unit {0} × (n ≡ 1 → ⊥)) × (n ≡ 2 → ⊥)) × (n ≡ 3 → ⊥)) × (n ≡ 4 → ⊥)) × (n ≡ 5 → ⊥)) × (n ≡ 6 → ⊥)) × (n ≡ 7 → ⊥) → Etc1 ≡ formatAt n
+-- none of 1 to 7
+Lower : ℕ → Type 0
+Lower n =
+    ((((((Unit {0} × (n ≡ 1 → ⊥)) × (n ≡ 2 → ⊥)) × (n ≡ 3 → ⊥)) × (n ≡ 4 → ⊥)) × (n ≡ 5 → ⊥)) × (n ≡ 6 → ⊥)) × (n ≡ 7 → ⊥)
+
+zero-of : (n : ℕ) → n < 8 → Lower n → n ≡ 0
+unfolding Lower
+zero-of n h r =
+    first n (low n h (r .0 .0 .0 .1) (r .0 .0 .1) (r .0 .1) (r .1)) (r .0 .0 .0 .0 .0 .0 .1) (r .0 .0 .0 .0 .0 .1) (r .0 .0 .0 .0 .1)
+
+others : (n : ℕ) → ((Lower n × (n ≡ 8 → ⊥)) × (n ≡ 9 → ⊥)) × (n ≡ 10 → ⊥) → Etc1 ≡ formatAt n
 unfolding formatAt
 others n r =
-    elim (decLt n 8) [
-      | yes h ↦
-          sym (ap formatAt
-          (first n (low n h (r .0 .0 .0 .1) (r .0 .0 .1) (r .0 .1) (r .1)) (r .0 .0 .0 .0 .0 .0 .1) (r .0 .0 .0 .0 .0 .1) (r .0 .0 .0 .0 .1)))
-      | no h ↦ let k : 8 ≤ n = omega (arith, h) in sym (List·getD-eq-default formats Etc1 k)
+    elim (decLt n 11) [
+      | yes h ↦ sym (ap formatAt (zero-of n (high n h (r .0 .0 .1) (r .0 .1) (r .1)) (r .0 .0 .0)))
+      | no h ↦ let k : 11 ≤ n = omega (arith, h) in sym (List·getD-eq-default formats Etc1 k)
     ]
 
 returns : tie.Need-returns
@@ -56,9 +67,22 @@ unfolding formatAt
 returns-7 c = sym (ap formatAt (c .match .keys7))
 
 returns-8 : tie.Need-returns-8
-returns-8 c = others _ (c .match .rest)
+unfolding formatAt
+returns-8 c = sym (ap formatAt (c .match .keys8))
+
+returns-9 : tie.Need-returns-9
+unfolding formatAt
+returns-9 c = sym (ap formatAt (c .match .keys9))
+
+returns-10 : tie.Need-returns-10
+unfolding formatAt
+returns-10 c = sym (ap formatAt (c .match .keys10))
+
+returns-11 : tie.Need-returns-11
+unfolding Lower
+returns-11 c = others _ (c .match .rest)
 
 pub format-at-spec : {M : Type 1} → statement M
 format-at-spec =
     tie.close
-    (tie.spec returns returns-2 returns-3 returns-4 returns-5 returns-6 returns-7 returns-8)
+    (tie.spec returns returns-2 returns-3 returns-4 returns-5 returns-6 returns-7 returns-8 returns-9 returns-10 returns-11)

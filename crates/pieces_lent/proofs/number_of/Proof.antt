@@ -30,6 +30,15 @@ enum-told-7 c = search needs
 enum-told-8 : tie.Need-enum-told-8
 enum-told-8 c = search needs
 
+enum-told-9 : tie.Need-enum-told-9
+enum-told-9 c = search needs
+
+enum-told-10 : tie.Need-enum-told-10
+enum-told-10 c = search needs
+
+enum-told-11 : tie.Need-enum-told-11
+enum-told-11 c = search needs
+
 returns : tie.Need-returns
 unfolding numberOf
 returns c = sym (ap numberOf (c .enum-told .given .1))
@@ -62,6 +71,18 @@ returns-8 : tie.Need-returns-8
 unfolding numberOf
 returns-8 c = sym (ap numberOf (c .enum-told8 .given .1))
 
+returns-9 : tie.Need-returns-9
+unfolding numberOf
+returns-9 c = sym (ap numberOf (c .enum-told9 .given .1))
+
+returns-10 : tie.Need-returns-10
+unfolding numberOf
+returns-10 c = sym (ap numberOf (c .enum-told10 .given .1))
+
+returns-11 : tie.Need-returns-11
+unfolding numberOf
+returns-11 c = sym (ap numberOf (c .enum-told11 .given .1))
+
 pub number-of-spec : {M : Type 1} → statement M
 number-of-spec =
     tie.close
@@ -74,6 +95,9 @@ number-of-spec =
     enum-told-6
     enum-told-7
     enum-told-8
+    enum-told-9
+    enum-told-10
+    enum-told-11
     returns
     returns-2
     returns-3
@@ -81,4 +105,7 @@ number-of-spec =
     returns-5
     returns-6
     returns-7
-    returns-8)
+    returns-8
+    returns-9
+    returns-10
+    returns-11)
