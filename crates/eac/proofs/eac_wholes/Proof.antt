@@ -13,6 +13,7 @@ use Rattle.whole.specs.Whole.{least, most, between, eacWhole}
 use Rattle.laws.proofs.Filling.{Filling, inOrder, begun, stored-next, filled-all}
 use Rattle.laws.proofs.Signed.{held-is, held-small}
 use Rattle.channel.proofs.Steps.{step-held, step-small}
+use Rattle.eac.proofs.Bytes.{small-whole}
 use Rattle.eac.proofs.eac_wholes.Statement.{statement}
 use Rattle.eac.proofs.eac_wholes.Tie as tie
 
@@ -76,8 +77,8 @@ eac-whole-requires c κs =
 mul-out : tie.Need-mul-out Inv-loop μ-loop
 mul-out c = omega arith
 
-array-write-out : tie.Need-array-write-out Inv-loop μ-loop
-array-write-out c = omega arith
+array-set-from-out : tie.Need-array-set-from-out Inv-loop μ-loop
+array-set-from-out c = omega arith
 
 add-i : tie.Need-add-i Inv-loop μ-loop
 add-i c = omega arith
@@ -108,7 +109,8 @@ value c =
 loop-again : tie.Need-loop-again Inv-loop μ-loop
 loop-again c =
     let l = c .before .before .before .loop in
-    stored-next _ (pos 0) 16 (l .out) (l .i) (l .inv) _ (omega arith) (value c)
+    stored-next _ (pos 0) 16 (l .out) (l .i) (l .inv) _ (omega arith)
+    (held-is w16 _ _ (value c) (omega (arith, small-whole (given c .args .signed) (given c .args .d .now) (l .i) .small)))
 
 returns : tie.Need-returns Inv-loop μ-loop
 returns c =
@@ -134,7 +136,7 @@ eac-wholes-spec =
     array-copy-out-eac-whole
     eac-whole-requires
     mul-out
-    array-write-out
+    array-set-from-out
     add-i
     loop-less
     loop-again
