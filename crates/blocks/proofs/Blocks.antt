@@ -84,7 +84,7 @@ module _ (pic : Picture) where
         → ((k : ℕ) → blockAt pic (at k) ≡ b → u k ≡ v k)
         → Painted (λ k. InRun pic first (b + 1) (at k)) v old new
     next-in u first b bx by old mid new h st a r e =
-        let in-it = λ k. there b bx by st (at k) in
+        let in-it : (k : ℕ) → InTile pic bx by (at k) → blockAt pic (at k) ≡ b = λ k z. there b bx by st (at k) z in
         also (λ k. InRun pic first b (at k)) (λ k. InTile pic bx by (at k)) (λ k. InRun pic first (b + 1) (at k)) v old mid new a
         (said _ _ u v mid new r (λ k z. z) (λ k z. z) (λ k z. e k (in-it k z)))
         (λ k z. record { within = z .within; from = z .from; to = omega (arith, z .to) })
