@@ -25,6 +25,38 @@ use Rattle.eleven.specs.Lanes.{twice, paired, PaintsBlock}
 abbrev pub valueAt : Bool → List ℕ → ℕ → ℕ
 valueAt signed d k = sixteen (eacWhole signed d (k % 4) (k / 4))
 
+-- with one number to a pixel the tile of a block is its own
+module _ (pic : Picture) (signed : Bool) (d : List ℕ) where
+  alone : (k : ℕ) → k / 1 ≡ k
+  alone k = omega arith
+
+  first : (k : ℕ) → k % 1 ≡ 0
+  first k = omega arith
+
+  here : (x y : ℕ) → (y % 4 * 4 + x % 4 < 16) × ((y % 4 * 4 + x % 4) % 4 ≡ x % 4) × ((y % 4 * 4 + x % 4) / 4 ≡ y % 4)
+  here x y = omega arith
+
+  shown : (t : List ℕ) (k : ℕ) → t ≡ build 16 (valueAt signed d) → getD t (numberIn pic k) 0 ≡ wholePixel signed 0 d (column pic k % 4) (row pic k % 4)
+  unfolding wholePixel
+  shown t k e =
+      let m = here (column pic k) (row pic k) in
+      ap (λ (l : List ℕ). getD l (numberIn pic k) 0) e
+      ∙ getD-build (valueAt signed d) 0 16 (numberIn pic k) (m .0)
+      ∙ ap (λ (u : ℕ). sixteen (eacWhole signed d u (numberIn pic k / 4))) (m .1)
+      ∙ ap (λ (u : ℕ). sixteen (eacWhole signed d (column pic k % 4) u)) (m .2)
+
+  pub one-tile : (bx by : ℕ) (t old new : List ℕ) → t ≡ build 16 (valueAt signed d)
+      → Painted (InTile pic bx by) (λ k. getD t (numberIn pic k) 0) old new
+      → PaintsBlock 1 signed d pic bx by old new
+  one-tile bx by t old new e p =
+      said _ _ _ _ old new p
+      (λ k z. subst (InTile pic bx by) (alone k) z)
+      (λ k z. subst (InTile pic bx by) (sym (alone k)) z)
+      (λ k z.
+      shown t k e
+      ∙ ap (λ (u : ℕ). wholePixel signed 0 d (column pic u % 4) (row pic u % 4)) (sym (alone k))
+      ∙ ap (λ (c : ℕ). wholePixel signed c d (column pic (k / 1) % 4) (row pic (k / 1) % 4)) (sym (first k)))
+
 module _ (pic : Picture) (f : pic .width ≤ pic .pitch) where
   -- an element of the wider picture is in twice the column of its pixel, and in its row
   module _ (k : ℕ) (p : 0 < pic .pitch) where
