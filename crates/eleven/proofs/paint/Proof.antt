@@ -1,47 +1,65 @@
+-- `eleven::paint` meets its contract: turn by paints row by of the blocks.
+-- Assumes nothing.
+use mathlib.Core.Path.{sym, subst}
+use Prim.Native.Nat.{_-_}
+use native.Mathlib.Omega.{arith}
+use denote.Ref.{now}
+use borrow.Author.Needs.{needs}
+use Rattle.eleven.specs.Lanes.{lanes, Ready}
+use Rattle.eleven.proofs.Rows.{Down, top, next-row, bottom}
+use Rattle.eleven.proofs.Checked.{ready}
 use Rattle.eleven.proofs.paint.Statement.{statement}
 use Rattle.eleven.proofs.paint.Tie as tie
-use Rattle.eleven.proofs.paint.Reads as reads
-use Rattle.eleven.proofs.paint.Lts as lts
-use Rattle.checks.proofs.across.Reads as across-reads
-use Rattle.eleven.proofs.paint_row.Reads as paint-row-reads
 
 abbrev Inv-loop : tie.InvT-loop
-Inv-loop green signed «data» pic image₀ rows by₀ image by = ?
+Inv-loop green signed «data» pic image₀ rows by₀ image by = Down (lanes green) signed «data» pic image₀ image by
 
 abbrev μ-loop : tie.MeasureT-loop
-μ-loop green signed «data» pic image₀ rows by₀ image by = ?
+μ-loop green signed «data» pic image₀ rows by₀ image by = rows - by
 
--- src/lib.rt:105:9
 across-requires : tie.Need-across-requires Inv-loop μ-loop
-across-requires c κs = ?
+across-requires c κs = search needs
 
--- src/lib.rt:107:5
 loop-holds : tie.Need-loop-holds Inv-loop μ-loop
-loop-holds c = ?
+loop-holds c =
+    let a = c .before .before .before .args in
+    top (lanes (a .green)) (a .signed) (now (a .«data»)) (a .pic) (now (a .image))
 
--- src/lib.rt:108:9
 paint-row-requires : tie.Need-paint-row-requires Inv-loop μ-loop
-paint-row-requires c κs = ?
+paint-row-requires c κs =
+    let t = c .before in
+    let w = t .before .before in
+    let s = w .before .before .before in (
+      (s .pre .enough, omega (arith, t .loop-test .taken, w .across .ensures), s .pre .low),
+      subst (Ready (lanes (s .args .green)) (s .args .pic)) (sym (t .before .loop .inv .1 .same)) (ready (s .args .green) (s .args .pic) _ _ _ (s .pre)),
+    )
 
--- src/lib.rt:109:9
 add-by : tie.Need-add-by Inv-loop μ-loop
-add-by c = ?
+add-by c = search needs
 
--- src/lib.rt:107:5
 loop-less : tie.Need-loop-less Inv-loop μ-loop
-loop-less c = ?
+loop-less c = search needs
 
--- src/lib.rt:107:5
 loop-again : tie.Need-loop-again Inv-loop μ-loop
-loop-again c = ?
+loop-again c =
+    let p = c .before .before in
+    let t = p .before .before in
+    let w = t .before .before in
+    let a = w .before .before .before .args in
+    let l = t .before .loop in
+    next-row (lanes (a .green)) (a .signed) (now (a .«data»)) (a .pic) (l .by) (now (a .image)) (l .image) _
+    (omega (arith, t .loop-test .taken, w .across .ensures)) (l .inv) (p .paint-row .ensures)
 
--- src/lib.rt:101:1
 same-length : tie.Need-same-length Inv-loop μ-loop
-same-length c = ?
+same-length c = c .before .loop .inv .1 .same
 
--- src/lib.rt:101:1
 returns : tie.Need-returns Inv-loop μ-loop
-returns c = ?
+returns c =
+    let l = c .before in
+    let w = l .before in
+    let a = w .before .before .before .args in
+    bottom (lanes (a .green)) (a .signed) (now (a .«data»)) (a .pic) (l .loop .by) (now (a .image)) (l .loop .image)
+    (omega (arith, c .loop-test .left, w .across .ensures)) (l .loop .inv)
 
 pub paint-spec : {M : Type 1} → statement M
 paint-spec =

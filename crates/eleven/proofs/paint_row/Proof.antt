@@ -55,7 +55,10 @@ there c =
     (c .before .before .before .across .ensures) (size c) (c .loop-test .taken) (s .pre .0 .1) (s .pre .0 .0)
 
 add-at : tie.Need-add-at Inv-loop μ-loop
-add-at c = omega (arith, there c)
+add-at c =
+    let s = start-of c in
+    let w = c .before .before .before .across in
+    omega (arith, small (s .args .pic) (s .args .by) (w .result) (w .ensures) (s .pre .1 .narrow) (s .pre .0 .2) (s .pre .0 .1), c .loop-test .taken, w .ensures, s .pre .1 .narrow)
 
 mul-at : tie.Need-mul-at Inv-loop μ-loop
 mul-at c = omega (arith, there c)
