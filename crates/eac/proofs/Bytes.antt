@@ -12,7 +12,7 @@ use lib.Signed.{mag, nonNeg}
 use mir.Syntax.{w16}
 use Rattle.rules.specs.Notation.{byte, bits, build}
 use Rattle.rules.specs.Channels.{alphaStep, centre, multiplier, eacValue, eacByte}
-use Rattle.whole.specs.Whole.{least, most, between, middle, added, byteFrom, eacWhole}
+use Rattle.rules.specs.Whole.{least, most, between, middle, added, byteFrom, eacWhole}
 use Rattle.laws.proofs.Filled.{getD-build}
 use Rattle.laws.proofs.Signed.{held, held-small, clamp-le}
 use Rattle.values.proofs.Whole.{Raised, raised, not-negative, bytes-stay}

@@ -7,7 +7,7 @@ ghost use Rattle.rules.specs.Notation.{build};
 ghost use Rattle.rules.specs.Pixel.{word};
 ghost use Rattle.rules.specs.Places.{tile};
 ghost use Rattle.rules.specs.Channels.{eacByte, redPixel, redGreenPixel, orChannel};
-ghost use Rattle.whole.specs.Whole.{eacWhole, sixteen};
+ghost use Rattle.rules.specs.Whole.{eacWhole, sixteen};
 
 // The whole value of each pixel, row by row.
 fn eac_wholes(d: &[u8], signed: bool) -> [i16; 16]

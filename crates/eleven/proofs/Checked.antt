@@ -11,7 +11,7 @@ use lib.Dec.{ltb}
 use Rattle.rules.specs.Places.{blocks, needed}
 use Rattle.rules.specs.Answers.{refusal, limitCheck, pitchCheck, dataCheck, judged, verdict, pictureChecks}
 use Rattle.rules.specs.declared.Picture.{Picture}
-use Rattle.whole.specs.Whole.{wholeChecks}
+use Rattle.rules.specs.Whole.{wholeChecks}
 use Rattle.checks.specs.Passed.{Passed}
 use Rattle.eleven.specs.Lanes.{lanes, Ready}
 

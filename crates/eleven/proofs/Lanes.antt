@@ -13,7 +13,7 @@ use lib.ListN.{length, getD, drop}
 use Rattle.rules.specs.Notation.{build}
 use Rattle.rules.specs.Places.{element, column, row, inside, needed}
 use Rattle.rules.specs.declared.Picture.{Picture}
-use Rattle.whole.specs.Whole.{eacWhole, sixteen, wholePixel}
+use Rattle.rules.specs.Whole.{eacWhole, sixteen, wholePixel}
 use Rattle.laws.specs.Painted.{Painted}
 use Rattle.laws.proofs.Paint.{said, also}
 use Rattle.laws.proofs.Filled.{getD-build}

@@ -10,7 +10,7 @@ use lib.ListN.{length, take, drop}
 use Rattle.rules.specs.Places.{column, row, across, blocks, blockAt, bytesOf}
 use Rattle.rules.specs.Answers.{limit}
 use Rattle.rules.specs.declared.Picture.{Picture}
-use Rattle.whole.specs.Whole.{wholePixel, wholeAt, wholePicture}
+use Rattle.rules.specs.Whole.{wholePixel, wholeAt, wholePicture}
 use Rattle.laws.specs.Painted.{Painted}
 use Rattle.laws.proofs.Paint.{none}
 use Rattle.laws.proofs.Parts.{part}

@@ -7,7 +7,7 @@ use lib.ListN.{getD}
 use Rattle.rules.specs.Places.{column, row, needed, pitched}
 use Rattle.rules.specs.Answers.{limit}
 use Rattle.rules.specs.declared.Picture.{Picture}
-use Rattle.whole.specs.Whole.{wholePixel, wholeAt}
+use Rattle.rules.specs.Whole.{wholePixel, wholeAt}
 use Rattle.laws.specs.Painted.{Painted}
 use Rattle.place.specs.Tile.{InTile}
 use Rattle.blocks.specs.Run.{InRun}

@@ -8,7 +8,7 @@ ghost use lib.ListN.{length};
 ghost use Rattle.rules.specs.Notation.{build};
 ghost use Rattle.rules.specs.Places.{across, blocks};
 ghost use Rattle.rules.specs.Answers.{limit};
-ghost use Rattle.whole.specs.Whole.{wholePicture, ReadsWhole};
+ghost use Rattle.rules.specs.Whole.{wholePicture, ReadsWhole};
 ghost use Rattle.checks.specs.Passed.{Passed};
 ghost use Rattle.eleven.specs.Lanes.{lanes, paired, Ready, PaintsBlock, PaintsBlocks};
 

@@ -31,3 +31,4 @@ pub mod Degrees
 pub mod Counting
 pub mod Checking
 pub mod Baking
+pub mod Whole

@@ -12,7 +12,7 @@ use lib.IntN.{ℤ, pos, negsuc, natAbs, subℕ, _+ℤ_, _*ℤ_, +ℤ-assoc, +ℤ
 use lib.Signed.{mag, ltZ, nonNeg}
 use Rattle.rules.specs.Notation.{byte, bits, minus, clamp}
 use Rattle.rules.specs.Channels.{signedBase, centre, multiplier, alphaStep, eacValue, eacByte}
-use Rattle.whole.specs.Whole.{least, most, between, middle, added, byteFrom, sixteen, eacWhole}
+use Rattle.rules.specs.Whole.{least, most, between, middle, added, byteFrom, sixteen, eacWhole}
 use Rattle.laws.proofs.Signed.{neg, nat}
 
 -- what is clamped to a range, with as much added as makes its least 0: the number that it is, and that it is small

@@ -6,7 +6,7 @@ ghost use lib.Dec.{T};
 ghost use lib.IntN.{pos, natAbs, _+ℤ_, _*ℤ_};
 ghost use lib.Signed.{mag, nonNeg};
 ghost use Rattle.rules.specs.Channels.{signedBase, multiplier};
-ghost use Rattle.whole.specs.Whole.{least, most, between, middle, added, sixteen as sixteenOf};
+ghost use Rattle.rules.specs.Whole.{least, most, between, middle, added, sixteen as sixteenOf};
 
 // The signed base: a byte as two's complement, where -128 is read as -127.
 fn signed_byte(b: u8) -> i16

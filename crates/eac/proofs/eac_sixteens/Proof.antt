@@ -4,7 +4,7 @@ use mathlib.Core.Path.{refl, _∙_, ap}
 use Prim.Native.Nat.{_-_, _/_, _%_}
 use native.Mathlib.Omega.{arith}
 use borrow.Author.Needs.{needs}
-use Rattle.whole.specs.Whole.{sixteen, eacWhole}
+use Rattle.rules.specs.Whole.{sixteen, eacWhole}
 use Rattle.laws.proofs.Filling.{Filling, inOrder, begun, stored-next, filled-all}
 use Rattle.eac.proofs.Bytes.{whole-small, whole-raised, whole-at}
 use Rattle.eac.proofs.eac_sixteens.Statement.{statement}

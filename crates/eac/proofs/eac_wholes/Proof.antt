@@ -9,7 +9,7 @@ use lib.IntN.{ℤ, pos, _+ℤ_, _*ℤ_}
 use lib.Signed.{mag}
 use mir.Syntax.{w16}
 use Rattle.rules.specs.Channels.{multiplier}
-use Rattle.whole.specs.Whole.{least, most, between, eacWhole}
+use Rattle.rules.specs.Whole.{least, most, between, eacWhole}
 use Rattle.laws.proofs.Filling.{Filling, inOrder, begun, stored-next, filled-all}
 use Rattle.laws.proofs.Signed.{held-is, held-small}
 use Rattle.channel.proofs.Steps.{step-held, step-small}

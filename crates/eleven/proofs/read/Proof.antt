@@ -7,7 +7,7 @@ use lib.ListN.{length}
 use denote.Ref.{now}
 use Rattle.rules.specs.Answers.{said, accepts, verdict, pictureChecks}
 use Rattle.rules.specs.declared.Answer.{Answer}
-use Rattle.whole.specs.Whole.{wholeVerdict, wholePicture}
+use Rattle.rules.specs.Whole.{wholeVerdict, wholePicture}
 use Rattle.laws.proofs.Outcome.{unchanged, done}
 use Rattle.laws.proofs.Unique.{refusal}
 use Rattle.checks.proofs.Checks.{passed-by}

@@ -1,7 +1,7 @@
 -- The rule's two cases are the code's.
 -- Assumes nothing.
 use mathlib.Core.Path.{sym, ap}
-use Rattle.whole.specs.Whole.{least}
+use Rattle.rules.specs.Whole.{least}
 use Rattle.values.proofs.least_of.Statement.{statement}
 use Rattle.values.proofs.least_of.Tie as tie
 

@@ -11,7 +11,7 @@ use lib.Signed.{mag}
 use mir.Syntax.{w16}
 use mir.Val.{SFits}
 use Rattle.rules.specs.Channels.{signedBase}
-use Rattle.whole.specs.Whole.{middle}
+use Rattle.rules.specs.Whole.{middle}
 use Rattle.laws.proofs.Every.{below}
 use Rattle.laws.proofs.Signed.{held, held-is, held-small, mag-add, mag-mul, by-fits, on-fits, on-held}
 use Rattle.values.proofs.middle_of.Statement.{statement}

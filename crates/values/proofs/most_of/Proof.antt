@@ -1,7 +1,7 @@
 -- The rule's two cases are the code's.
 -- Assumes nothing.
 use mathlib.Core.Path.{sym, ap}
-use Rattle.whole.specs.Whole.{most}
+use Rattle.rules.specs.Whole.{most}
 use Rattle.values.proofs.most_of.Statement.{statement}
 use Rattle.values.proofs.most_of.Tie as tie
 
