@@ -713,7 +713,7 @@ pub extern "C" fn yalivucu_start_etc1(
 ) -> u32
     ensures { λ r. ⌜ Told
         (λ a. StartLent Format.Etc1 (pitched width height pitch) (length (now (image .entry)))
-            a (now (numbers .exit)) (now (kept .exit)))
+        a (now (numbers .exit)) (now (kept .exit)))
         r ⌝ }
 {
     let pic = Picture {
@@ -736,7 +736,7 @@ pub extern "C" fn yalivucu_start_etc2_rgb(
 ) -> u32
     ensures { λ r. ⌜ Told
         (λ a. StartLent Format.Etc2Rgb (pitched width height pitch) (length (now (image .entry)))
-            a (now (numbers .exit)) (now (kept .exit)))
+        a (now (numbers .exit)) (now (kept .exit)))
         r ⌝ }
 {
     let pic = Picture {
@@ -759,7 +759,7 @@ pub extern "C" fn yalivucu_start_etc2_rgba1(
 ) -> u32
     ensures { λ r. ⌜ Told
         (λ a. StartLent Format.Etc2Rgba1 (pitched width height pitch) (length (now (image .entry)))
-            a (now (numbers .exit)) (now (kept .exit)))
+        a (now (numbers .exit)) (now (kept .exit)))
         r ⌝ }
 {
     let pic = Picture {
@@ -782,7 +782,7 @@ pub extern "C" fn yalivucu_start_etc2_rgba8(
 ) -> u32
     ensures { λ r. ⌜ Told
         (λ a. StartLent Format.Etc2Rgba8 (pitched width height pitch) (length (now (image .entry)))
-            a (now (numbers .exit)) (now (kept .exit)))
+        a (now (numbers .exit)) (now (kept .exit)))
         r ⌝ }
 {
     let pic = Picture {
@@ -805,7 +805,7 @@ pub extern "C" fn yalivucu_start_eacr(
 ) -> u32
     ensures { λ r. ⌜ Told
         (λ a. StartLent Format.EacR (pitched width height pitch) (length (now (image .entry)))
-            a (now (numbers .exit)) (now (kept .exit)))
+        a (now (numbers .exit)) (now (kept .exit)))
         r ⌝ }
 {
     let pic = Picture {
@@ -828,7 +828,7 @@ pub extern "C" fn yalivucu_start_eacr_signed(
 ) -> u32
     ensures { λ r. ⌜ Told
         (λ a. StartLent Format.EacRSigned (pitched width height pitch) (length (now (image .entry)))
-            a (now (numbers .exit)) (now (kept .exit)))
+        a (now (numbers .exit)) (now (kept .exit)))
         r ⌝ }
 {
     let pic = Picture {
@@ -851,7 +851,7 @@ pub extern "C" fn yalivucu_start_eacrg(
 ) -> u32
     ensures { λ r. ⌜ Told
         (λ a. StartLent Format.EacRg (pitched width height pitch) (length (now (image .entry)))
-            a (now (numbers .exit)) (now (kept .exit)))
+        a (now (numbers .exit)) (now (kept .exit)))
         r ⌝ }
 {
     let pic = Picture {
@@ -874,7 +874,7 @@ pub extern "C" fn yalivucu_start_eacrg_signed(
 ) -> u32
     ensures { λ r. ⌜ Told
         (λ a. StartLent Format.EacRgSigned (pitched width height pitch) (length (now (image .entry)))
-            a (now (numbers .exit)) (now (kept .exit)))
+        a (now (numbers .exit)) (now (kept .exit)))
         r ⌝ }
 {
     let pic = Picture {
@@ -897,7 +897,7 @@ pub extern "C" fn yalivucu_start_bc1(
 ) -> u32
     ensures { λ r. ⌜ Told
         (λ a. StartLent Format.Bc1 (pitched width height pitch) (length (now (image .entry)))
-            a (now (numbers .exit)) (now (kept .exit)))
+        a (now (numbers .exit)) (now (kept .exit)))
         r ⌝ }
 {
     let pic = Picture {
@@ -920,7 +920,7 @@ pub extern "C" fn yalivucu_start_bc1a(
 ) -> u32
     ensures { λ r. ⌜ Told
         (λ a. StartLent Format.Bc1Alpha (pitched width height pitch) (length (now (image .entry)))
-            a (now (numbers .exit)) (now (kept .exit)))
+        a (now (numbers .exit)) (now (kept .exit)))
         r ⌝ }
 {
     let pic = Picture {
@@ -943,7 +943,7 @@ pub extern "C" fn yalivucu_start_bc3(
 ) -> u32
     ensures { λ r. ⌜ Told
         (λ a. StartLent Format.Bc3 (pitched width height pitch) (length (now (image .entry)))
-            a (now (numbers .exit)) (now (kept .exit)))
+        a (now (numbers .exit)) (now (kept .exit)))
         r ⌝ }
 {
     let pic = Picture {

@@ -90,4 +90,4 @@ pub record Judges (t : Texture) (number : ℕ) : Type 0 where
   pub names-clear : number ≡ 11 → Looked (viewerOf (t .format)) t number
   pub only-then : number ≡ 6 → leftOver (viewerOf (t .format)) t ≡ true
   pub then-always : isAsked (t .format) ≡ true → t .width ≤ fileLimit → t .height ≤ fileLimit
-    → leftOver (viewerOf (t .format)) t ≡ true → number ≡ 6
+      → leftOver (viewerOf (t .format)) t ≡ true → number ≡ 6

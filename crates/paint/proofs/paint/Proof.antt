@@ -79,7 +79,7 @@ before c = ap (λ (z : ℕ). (c .before .loop .b - start-of c .args .first) * z)
 left : (c : tie.In-loop Inv-loop μ-loop)
     → ((c .before .loop .b - start-of c .args .first) * sizeOf (start-of c .args .f) ≤ length (now (start-of c .args .«data»)))
     × ((start-of c .args .last - c .before .loop .b) * sizeOf (start-of c .args .f)
-      ≤ length (now (start-of c .args .«data»)) - (c .before .loop .b - start-of c .args .first) * sizeOf (start-of c .args .f))
+    ≤ length (now (start-of c .args .«data»)) - (c .before .loop .b - start-of c .args .first) * sizeOf (start-of c .args .f))
 left c =
     let s = start-of c in
     let a = s .args in

@@ -139,7 +139,7 @@ returns c =
     let z = j .before .before in
     let a = start-of z .args in
     took (a .p) (now (a .bytes)) (now (a .image)) (s-of z) (G-of z) (L-of z) (c .rest-of .result) _ _
-      (z .before .before .before .size .ensures .0) (got-is z) (later-is z) (c .rest-of .ensures) (omega arith) (j .paint-joined .ensures)
+    (z .before .before .before .size .ensures .0) (got-is z) (later-is z) (c .rest-of .ensures) (omega arith) (j .paint-joined .ensures)
 
 pub take-piece-spec : {M : Type 1} → statement M
 take-piece-spec =
