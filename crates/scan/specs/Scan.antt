@@ -13,7 +13,8 @@ use Rattle.rules.specs.declared.Picture.{Picture}
 use Rattle.rules.specs.declared.Answer.{Answer}
 use Rattle.rules.specs.declared.Answer.the-variants.{ShortData}
 use Rattle.rules.specs.declared.Format.{Format}
-use Rattle.rules.specs.declared.Format.the-variants.{Etc1, Etc2Rgb, Etc2Rgba1, Etc2Rgba8, EacR, EacRSigned, EacRg, EacRgSigned, Bc1, Bc1Alpha, Bc3}
+use Rattle.rules.specs.declared.Format.the-variants.{Etc1, Etc2Rgb, Etc2Rgba1, Etc2Rgba8, EacR, EacRSigned, EacRg, EacRgSigned}
+use Rattle.rules.specs.declared.Format.the-variants.{Bc1, Bc1Alpha, Bc3}
 use Rattle.textures.specs.Textures.{fileLimit}
 use Rattle.textures.specs.declared.Texture.{Texture}
 use Rattle.guard.specs.Viewers.{guardOf}
@@ -89,4 +90,5 @@ pub record Judges (t : Texture) (number : ℕ) : Type 0 where
   pub names : number ≡ 4 → Looked (viewerOf (t .format)) t number
   pub names-clear : number ≡ 11 → Looked (viewerOf (t .format)) t number
   pub only-then : number ≡ 6 → leftOver (viewerOf (t .format)) t ≡ true
-  pub then-always : isAsked (t .format) ≡ true → t .width ≤ fileLimit → t .height ≤ fileLimit → leftOver (viewerOf (t .format)) t ≡ true → number ≡ 6
+  pub then-always : isAsked (t .format) ≡ true → t .width ≤ fileLimit → t .height ≤ fileLimit
+      → leftOver (viewerOf (t .format)) t ≡ true → number ≡ 6
