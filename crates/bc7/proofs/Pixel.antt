@@ -19,11 +19,13 @@ use Rattle.laws.proofs.Tables.{subset-exists}
 use Rattle.rest.specs.Whole.{passedBy, widthBy}
 use Rattle.bptc.specs.Layout.{layoutOf}
 use Rattle.bptc.proofs.Layouts.{subset-said}
-use Rattle.bc7.specs.declared.Head.{Head}
-use Rattle.bc7.specs.declared.Ends.{Ends}
-use Rattle.bc7.specs.Stages.{Sane, Headed, Ended, between, shaded}
+use Rattle.ends.specs.declared.Front.{Front}
+use Rattle.ends.specs.declared.Ends.{Ends}
+use Rattle.ends.specs.Stages.{Sane, Fronted, Ended}
+use Rattle.bc7.specs.Shaded.{between, shaded}
 use Rattle.bc7.proofs.Steps.{same-rotated, each}
-use Rattle.bc7.proofs.Weigh.{index-said, weight-most}
+use Rattle.laws.proofs.Shades.{weight-most}
+use Rattle.bc7.proofs.Weigh.{index-said}
 
 -- the laws of a layout at any number of subsets from 1 to 3
 index-of : (n p d place v b i : ℕ) → 1 ≤ n → n ≤ 3 → p < 64 → b ≤ 4 → i < 16 → v ≡ d / 2 ^ place % 2 ^ 64 → v / 2 ^ passedBy b (layoutOf n p / 4294967296) i % 2 ^ widthBy b (layoutOf n p / 4294967296) i ≡ field d (place + bitsBefore b n p i) (indexBits b n p i)
@@ -92,7 +94,7 @@ module _ (d m : ℕ) (k : Mode) (s : Sane k) where
         ∙ ap (λ (z : ℕ). cond (eqb t 0) x z) h
         ∙ ap (λ (z : ℕ). cond (eqb z 0) x y) q
 
-    module _ (h : Head) (hd : Headed d m k h) (r : Ends) (en : Ended d m k r) where
+    module _ (h : Front) (hd : Fronted d m k h) (r : Ends) (en : Ended d m k r) where
       -- a channel, once its endpoints are known
       channel-said : (l : List ℕ) (g : ℕ → ℕ) (u w' x i : ℕ) → ((e : ℕ) → e < 2 * k .subsets → getD l e 0 ≡ g e) → u ≡ subsetOf d m k i → i < 16 → w' ≡ x → between l u w' ≡ blend (g (2 * subsetOf d m k i)) (g (2 * subsetOf d m k i + 1)) x
       channel-said l g u w' x i p q j z =

@@ -14,36 +14,11 @@ use Rattle.rules.specs.Bptc.{weightRows, weightsOf, subset}
 use Rattle.rules.specs.Notation.{build}
 use Rattle.rules.specs.Bc7.{isAnchor, indexBits, bitsBefore}
 use Rattle.laws.proofs.Every.{both, both-left, both-right}
-use Rattle.laws.proofs.Number.{low-field}
+use Rattle.laws.proofs.Order.{low-field}
 use Rattle.laws.proofs.Filled.{getD-build}
 use Rattle.rest.specs.Whole.{widthBy, passedBy}
 use Rattle.bptc.specs.Layout.{layoutOf}
 use Rattle.bptc.proofs.Layouts.{anchor-said}
-
--- a weight is 64 at most
-most : List ℕ → Bool
-most [] = true
-most (x ∷ l) = both (leb x 64) (most l)
-
-of-list : (l : List ℕ) → T (most l) → (i : ℕ) → getD l i 0 ≤ 64
-unfolding most
-of-list [] t i = lit≤ tt
-of-list (x ∷ l) t zero = leb→le _ _ (both-left (leb x 64) (most l) t)
-of-list (x ∷ l) t (suc i) = of-list l (both-right (leb x 64) (most l) t) i
-
-rows-most : List (List ℕ) → Bool
-rows-most [] = true
-rows-most (l ∷ ls) = both (most l) (rows-most ls)
-
-of-rows : (ls : List (List ℕ)) → T (rows-most ls) → (n i : ℕ) → getD (getD ls n []) i 0 ≤ 64
-unfolding rows-most
-of-rows [] t n i = lit≤ tt
-of-rows (l ∷ ls) t zero i = of-list l (both-left (most l) (rows-most ls) t) i
-of-rows (l ∷ ls) t (suc n) i = of-rows ls (both-right (most l) (rows-most ls) t) n i
-
-pub weight-most : (b i : ℕ) → getD (weightsOf b) i 0 ≤ 64
-unfolding most rows-most
-weight-most b i = of-rows weightRows tt (b - 2) i
 
 -- the 64 bits next hold a field that ends within them
 pub in-word : (x q w : ℕ) → q + w ≤ 64 → x % 2 ^ 64 / 2 ^ q % 2 ^ w ≡ x / 2 ^ q % 2 ^ w

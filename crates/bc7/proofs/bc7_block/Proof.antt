@@ -2,15 +2,15 @@
 -- Assumes nothing.
 use mathlib.Core.Path.{_≡_, _∙_, refl, sym, ap}
 use mathlib.Core.Bool.{Bool, true, false, cond}
-use Prim.Native.Nat.{ℕ, _%_, _^_}
+use Prim.Native.Nat.{ℕ, _+_, _*_, _/_, _%_}
 use borrow.Author.Tests.{lt-ltb, le-ltb}
 use denote.Ref.{now}
 use lib.Dec.{ltb}
 use lib.ListN.{replicate, getD-replicate}
-use Rattle.rules.specs.Bits.{number}
 use Rattle.rules.specs.Notation.{build}
-use Rattle.rules.specs.Bc7.{modeOf, modeAt, pixelIn, bc7Pixel}
-use Rattle.laws.proofs.Filled.{is-build}
+use Rattle.rules.specs.Bc7.{modeOf, modeAt, blockWord, pixelIn, bc7Pixel}
+use Rattle.laws.proofs.Filled.{is-build, build-same}
+use Rattle.bc1.proofs.Shown.{by-row}
 use borrow.Author.Needs.{needs}
 use Rattle.bc7.proofs.bc7_block.Statement.{statement}
 use Rattle.bc7.proofs.bc7_block.Tie as tie
@@ -25,7 +25,11 @@ returns : tie.Need-returns
 unfolding bc7Pixel
 returns c =
     let d = now (c .before .before .before .before .args .d) in
-    is-build (bc7Pixel d) 0 16 (replicate 16 0) refl (λ i h. getD-replicate 16 i 0 0 h ∙ sym (ap (λ (t : Bool). cond t 0 (pixelIn (number d % 2 ^ 128) (modeOf d) (modeAt (modeOf d)) i)) (ap (λ (x : ℕ). ltb 7 x) (sym (c .before .zeros-below .ensures)) ∙ lt-ltb _ _ (c .if1 .taken))))
+    is-build (λ k. bc7Pixel d (k % 4) (k / 4)) 0 16 (replicate 16 0) refl
+    (λ i h.
+    getD-replicate 16 i 0 0 h
+    ∙ sym (ap (λ (t : Bool). cond t 0 (pixelIn (blockWord d) (modeOf d) (modeAt (modeOf d)) (4 * (i / 4) + i % 4)))
+    (ap (λ (x : ℕ). ltb 7 x) (sym (c .before .zeros-below .ensures)) ∙ lt-ltb _ _ (c .if1 .taken))))
 
 words-requires : tie.Need-words-requires
 words-requires c κs = search needs
@@ -41,8 +45,9 @@ returns-2 c =
     let t : ltb 7 (modeOf d) ≡ false = ap (λ (x : ℕ). ltb 7 x) (sym (z .ensures)) ∙ le-ltb _ _ (c .before .before .if1 .left) in
     c .in-mode .ensures
     ∙ ap (λ (x : ℕ). build 16 (pixelIn x (z .result) (modeAt (z .result)))) (c .before .words .ensures)
-    ∙ ap (λ (x : ℕ). build 16 (pixelIn (number d % 2 ^ 128) x (modeAt x))) (z .ensures)
-    ∙ ap (λ (b : Bool). build 16 (λ i. cond b 0 (pixelIn (number d % 2 ^ 128) (modeOf d) (modeAt (modeOf d)) i))) (sym t)
+    ∙ ap (λ (x : ℕ). build 16 (pixelIn (blockWord d) x (modeAt x))) (z .ensures)
+    ∙ ap (λ (b : Bool). build 16 (λ i. cond b 0 (pixelIn (blockWord d) (modeOf d) (modeAt (modeOf d)) i))) (sym t)
+    ∙ build-same 0 _ _ 16 (λ k h. ap (λ (i : ℕ). cond (ltb 7 (modeOf d)) 0 (pixelIn (blockWord d) (modeOf d) (modeAt (modeOf d)) i)) (by-row k))
 
 pub bc7-block-spec : {M : Type 1} → statement M
 bc7-block-spec =

@@ -10,8 +10,8 @@ use Rattle.rules.specs.Bc7.{pixelIn}
 use Rattle.rules.specs.declared.Mode.{Mode}
 use Rattle.rest.specs.Whole.{whole}
 use Rattle.bptc.specs.Layout.{layoutOf}
-use Rattle.bc7.specs.Stages.{Sane}
-use Rattle.bc7.proofs.Fetch.{sane}
+use Rattle.ends.specs.Stages.{Sane}
+use Rattle.ends.proofs.Fetch.{sane}
 use Rattle.bc7.proofs.Pixel.{partition-below, weights-most, one-most, weightsBy, pixels-said}
 use borrow.Author.Needs.{needs}
 use Rattle.bc7.proofs.in_mode.Statement.{statement}
@@ -20,8 +20,8 @@ use Rattle.bc7.proofs.in_mode.Tie as tie
 row-requires : tie.Need-row-requires
 row-requires c κs = search needs
 
-head-of-requires : tie.Need-head-of-requires
-head-of-requires c κs = (c .before .pre, (subst Sane (sym (c .row .ensures)) (sane (c .before .args .m) (c .before .pre))))
+front-of-requires : tie.Need-front-of-requires
+front-of-requires c κs = (c .before .pre, (subst Sane (sym (c .row .ensures)) (sane (c .before .args .m) (c .before .pre))))
 
 ends-of-requires : tie.Need-ends-of-requires
 ends-of-requires c κs = (subst Sane (sym (c .before .row .ensures)) (sane (c .before .before .args .m) (c .before .before .pre)))
@@ -32,7 +32,7 @@ cast-layout c = search needs
 layout-requires : tie.Need-layout-requires
 layout-requires c κs =
     let s = (subst Sane (sym (c .before .before .before .row .ensures)) (sane (c .before .before .before .before .args .m) (c .before .before .before .before .pre))) in
-    let h = c .before .before .head-of in
+    let h = c .before .before .front-of in
     (s .some, s .subsets, subst (λ (x : ℕ). x < 64) (sym (h .ensures .partition)) (partition-below (whole (c .before .before .before .before .args .r)) (c .before .before .before .before .args .m) (c .before .before .before .row .result) s))
 
 word-of-requires : tie.Need-word-of-requires
@@ -57,7 +57,7 @@ shade-requires c κs =
     let mask = c .before .before .before .before .before .before .layout .result / 4294967296 in
     let first = c .before .before .before .weights .result in
     let second = c .before .before .second-weights .result in
-    let t = eqb (c .before .before .before .before .before .before .before .before .before .head-of .result .selection) 0 in
+    let t = eqb (c .before .before .before .before .before .before .before .before .before .front-of .result .selection) 0 in
     let f : (i : ℕ) → getD first i 0 ≤ 64 = λ i. subst (λ (l : List ℕ). getD l i 0 ≤ 64) (sym (c .before .before .before .weights .ensures)) (weights-most (c .before .before .before .before .word-of .result) (k .index) mask i) in
     let v = w / 2 ^ (16 * k .index - k .subsets) % 2 ^ 64 in
     let g : (i : ℕ) → getD second i 0 ≤ 64 = λ i. subst (λ (l : List ℕ). getD l i 0 ≤ 64) (sym (c .before .before .second-weights .ensures)) (one-most (eqb (k .second) 0) first (weightsBy v (k .second) mask) f (λ j. weights-most v (k .second) mask j) i) in
@@ -67,10 +67,10 @@ returns : tie.Need-returns
 returns c =
     let a = c .before .before .before .before .before .before .before .before .before .before .before .before .args in
     let k = c .before .before .before .before .before .before .before .before .before .before .before .row .result in
-    let hd = c .before .before .before .before .before .before .before .before .before .before .head-of .ensures in
+    let hd = c .before .before .before .before .before .before .before .before .before .before .front-of .ensures in
     let en = c .before .before .before .before .before .before .before .before .before .ends-of .ensures (whole (a .r)) (a .m) (hd .rest) in
     c .shade .ensures
-    ∙ pixels-said (whole (a .r)) (a .m) k (subst Sane (sym (c .before .before .before .before .before .before .before .before .before .before .before .row .ensures)) (sane (c .before .before .before .before .before .before .before .before .before .before .before .before .args .m) (c .before .before .before .before .before .before .before .before .before .before .before .before .pre))) (whole (c .before .before .before .before .before .before .before .before .before .ends-of .result .rest)) (c .before .before .before .before .before .word-of .result) (en .rest) (c .before .before .before .before .before .word-of .ensures) (c .before .before .before .before .before .before .before .before .before .before .head-of .result) hd (c .before .before .before .before .before .before .before .before .before .ends-of .result) en
+    ∙ pixels-said (whole (a .r)) (a .m) k (subst Sane (sym (c .before .before .before .before .before .before .before .before .before .before .before .row .ensures)) (sane (c .before .before .before .before .before .before .before .before .before .before .before .before .args .m) (c .before .before .before .before .before .before .before .before .before .before .before .before .pre))) (whole (c .before .before .before .before .before .before .before .before .before .ends-of .result .rest)) (c .before .before .before .before .before .word-of .result) (en .rest) (c .before .before .before .before .before .word-of .ensures) (c .before .before .before .before .before .before .before .before .before .before .front-of .result) hd (c .before .before .before .before .before .before .before .before .before .ends-of .result) en
     (c .before .before .before .before .before .before .before .layout .result) (c .before .before .before .before .weights .result) (c .before .before .before .second-weights .result) (c .before .before .chosen .result) (c .before .chosen2 .result)
     (c .before .before .before .before .before .before .before .layout .ensures ∙ ap (layoutOf (k .subsets)) (hd .partition)) (c .before .before .before .before .weights .ensures) (c .before .before .before .second-weights .ensures) (c .before .before .chosen .ensures) (c .before .chosen2 .ensures)
     ∙ ap (λ (x : Mode). build 16 (pixelIn (whole (a .r)) (a .m) x)) (c .before .before .before .before .before .before .before .before .before .before .before .row .ensures)
@@ -80,7 +80,7 @@ in-mode-spec =
     tie.close
     (tie.spec
     row-requires
-    head-of-requires
+    front-of-requires
     ends-of-requires
     cast-layout
     layout-requires

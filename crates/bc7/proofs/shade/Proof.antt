@@ -7,7 +7,7 @@ use native.Mathlib.Omega.{arith}
 use lib.ListN.{getD, replicate}
 use Rattle.rules.specs.Bc7.{rotated}
 use Rattle.laws.proofs.Filling.{Filling, inOrder, begun, stored-next, filled-all}
-use Rattle.bc7.specs.Stages.{between}
+use Rattle.bc7.specs.Shaded.{between}
 use Rattle.bc7.proofs.shade.Statement.{statement}
 use Rattle.bc7.proofs.shade.Tie as tie
 

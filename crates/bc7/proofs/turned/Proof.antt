@@ -4,39 +4,39 @@ use borrow.Author.Needs.{needs}
 use Rattle.bc7.proofs.turned.Statement.{statement}
 use Rattle.bc7.proofs.turned.Tie as tie
 
-word-requires : tie.Need-word-requires
-word-requires c κs = search needs
+color-requires : tie.Need-color-requires
+color-requires c κs = search needs
 
 returns : tie.Need-returns
-returns c = rw (eq-eqb _ _ (c .before .if1 .taken)) (c .word .ensures)
+returns c = rw (eq-eqb _ _ (c .before .if1 .taken)) (c .color .ensures)
 
-word-requires-2 : tie.Need-word-requires-2
-word-requires-2 c κs = search needs
+color-requires-2 : tie.Need-color-requires-2
+color-requires-2 c κs = search needs
 
 returns-2 : tie.Need-returns-2
-returns-2 c = rw (ne-eqb _ _ (c .before .before .if1 .left), eq-eqb _ _ (c .before .if2 .taken)) (c .word2 .ensures)
+returns-2 c = rw (ne-eqb _ _ (c .before .before .if1 .left), eq-eqb _ _ (c .before .if2 .taken)) (c .color2 .ensures)
 
-word-requires-3 : tie.Need-word-requires-3
-word-requires-3 c κs = search needs
+color-requires-3 : tie.Need-color-requires-3
+color-requires-3 c κs = search needs
 
 returns-3 : tie.Need-returns-3
-returns-3 c = rw (ne-eqb _ _ (c .before .before .before .if1 .left), ne-eqb _ _ (c .before .before .if2 .left), eq-eqb _ _ (c .before .if3 .taken)) (c .word3 .ensures)
+returns-3 c = rw (ne-eqb _ _ (c .before .before .before .if1 .left), ne-eqb _ _ (c .before .before .if2 .left), eq-eqb _ _ (c .before .if3 .taken)) (c .color3 .ensures)
 
-word-requires-4 : tie.Need-word-requires-4
-word-requires-4 c κs = search needs
+color-requires-4 : tie.Need-color-requires-4
+color-requires-4 c κs = search needs
 
 returns-4 : tie.Need-returns-4
-returns-4 c = rw (ne-eqb _ _ (c .before .before .before .if1 .left), ne-eqb _ _ (c .before .before .if2 .left), ne-eqb _ _ (c .before .if3 .left)) (c .word4 .ensures)
+returns-4 c = rw (ne-eqb _ _ (c .before .before .before .if1 .left), ne-eqb _ _ (c .before .before .if2 .left), ne-eqb _ _ (c .before .if3 .left)) (c .color4 .ensures)
 
 pub turned-spec : {M : Type 1} → statement M
 turned-spec =
     tie.close
     (tie.spec
-    word-requires
+    color-requires
     returns
-    word-requires-2
+    color-requires-2
     returns-2
-    word-requires-3
+    color-requires-3
     returns-3
-    word-requires-4
+    color-requires-4
     returns-4)

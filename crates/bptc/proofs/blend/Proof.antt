@@ -1,7 +1,7 @@
 -- Assumes nothing.
 use mathlib.Core.Path.{refl}
 use native.Mathlib.Omega.{arith}
-use Rattle.bptc.proofs.Arithmetic.{blend-most}
+use Rattle.laws.proofs.Shades.{blend-most}
 use borrow.Author.Needs.{needs}
 use Rattle.bptc.proofs.blend.Statement.{statement}
 use Rattle.bptc.proofs.blend.Tie as tie

@@ -1,7 +1,7 @@
 -- Assumes nothing.
 use native.Mathlib.Nat.{lt-trans}
 use lib.Dec.{lit<}
-use Rattle.bptc.proofs.Arithmetic.{shifted, expand-byte}
+use Rattle.laws.proofs.Shades.{shifted, expand-byte}
 use borrow.Author.Needs.{needs}
 use Rattle.bptc.proofs.expand.Statement.{statement}
 use Rattle.bptc.proofs.expand.Tie as tie

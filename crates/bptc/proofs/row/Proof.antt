@@ -3,7 +3,7 @@
 use mathlib.Core.Path.{_≡_, _∙_, ap, sym}
 use native.Mathlib.Omega.{arith}
 use Rattle.rules.specs.Bc7.{modeTable, modeAt}
-use Rattle.bptc.proofs.Arithmetic.{at-least}
+use Rattle.bptc.proofs.Arms.{at-least}
 use borrow.Author.Needs.{needs}
 use Rattle.bptc.proofs.row.Statement.{statement}
 use Rattle.bptc.proofs.row.Tie as tie

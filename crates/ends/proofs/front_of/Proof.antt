@@ -6,8 +6,8 @@ use lib.Pow.{shr-shr}
 use Rattle.rules.specs.Bc7.{rotationPlace, selectionPlace}
 use Rattle.rest.specs.Whole.{whole}
 use borrow.Author.Needs.{needs}
-use Rattle.bc7.proofs.head_of.Statement.{statement}
-use Rattle.bc7.proofs.head_of.Tie as tie
+use Rattle.ends.proofs.front_of.Statement.{statement}
+use Rattle.ends.proofs.front_of.Tie as tie
 
 add-past : tie.Need-add-past
 add-past c = search needs
@@ -54,8 +54,8 @@ returns c =
       rest = p4 .ensures ∙ ap (λ (x : ℕ). x / 2 ^ (k .selection)) e3 ∙ shr-shr w (selectionPlace (a .m) k) (k .selection);
     }
 
-pub head-of-spec : {M : Type 1} → statement M
-head-of-spec =
+pub front-of-spec : {M : Type 1} → statement M
+front-of-spec =
     tie.close
     (tie.spec
     add-past

@@ -1,8 +1,8 @@
 -- Assumes nothing.
 use borrow.Author.Tests.{eq-eqb, ne-eqb}
 use native.Mathlib.Omega.{arith}
-use Rattle.bc7.proofs.shared_or_own.Statement.{statement}
-use Rattle.bc7.proofs.shared_or_own.Tie as tie
+use Rattle.ends.proofs.shared_or_own.Statement.{statement}
+use Rattle.ends.proofs.shared_or_own.Tie as tie
 
 returns : tie.Need-returns
 returns c = (rw (eq-eqb _ _ (c .if1 .taken)), omega arith)

@@ -7,11 +7,11 @@ use lib.ListN.{getD-replicate}
 use Rattle.rules.specs.Bits.{field}
 use Rattle.rules.specs.Bc7.{expand, alphaPlace, pBits, pOf}
 use Rattle.rest.specs.Whole.{whole}
-use Rattle.bc7.proofs.Steps.{below-all}
-use Rattle.bc7.proofs.Fetch.{fetched, colour-end, alpha-end}
+use Rattle.ends.proofs.Steps.{below-all}
+use Rattle.ends.proofs.Fetch.{fetched, colour-end, alpha-end}
 use borrow.Author.Needs.{needs}
-use Rattle.bc7.proofs.ends_of.Statement.{statement}
-use Rattle.bc7.proofs.ends_of.Tie as tie
+use Rattle.ends.proofs.ends_of.Statement.{statement}
+use Rattle.ends.proofs.ends_of.Tie as tie
 
 mul-n : tie.Need-mul-n
 mul-n c = search needs

@@ -3,10 +3,10 @@ use mathlib.Core.Path.{_∙_, ap}
 use Prim.Native.Nat.{ℕ, _+_}
 use native.Mathlib.Omega.{arith}
 use Rattle.rules.specs.Bc7.{expand}
-use Rattle.bc7.proofs.Steps.{put-up, with-p, with-p-byte}
+use Rattle.laws.proofs.Shades.{put-up, with-p, with-p-byte}
 use borrow.Author.Needs.{needs}
-use Rattle.bc7.proofs.endpoint.Statement.{statement}
-use Rattle.bc7.proofs.endpoint.Tie as tie
+use Rattle.ends.proofs.endpoint.Statement.{statement}
+use Rattle.ends.proofs.endpoint.Tie as tie
 
 add-expand : tie.Need-add-expand
 add-expand c = search needs

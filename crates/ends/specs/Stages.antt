@@ -1,18 +1,14 @@
 -- What each stage of reading a block has found, in the words of the definition.
 -- Assumes nothing.
 use mathlib.Core.Path.{_≡_}
-use mathlib.Core.Bool.{cond}
-use mathlib.Core.List.{List}
-use mathlib.Core.Logic.{_⊎_}
 use Prim.Native.Nat.{ℕ, _+_, _*_, _/_, _%_, _^_, _<_, _≤_}
-use lib.Dec.{eqb}
 use lib.ListN.{getD}
-use Rattle.rules.specs.Bc7.{rotationPlace, selectionPlace, colourPlace, indexPlace, colourEnd, alphaEnd, blend, rotated}
+use Rattle.rules.specs.Bc7.{rotationPlace, selectionPlace, colourPlace, indexPlace, colourEnd, alphaEnd}
 use Rattle.rules.specs.Bits.{field}
 use Rattle.rules.specs.declared.Mode.{Mode}
 use Rattle.rest.specs.Whole.{whole}
-use Rattle.bc7.specs.declared.Head.{Head}
-use Rattle.bc7.specs.declared.Ends.{Ends}
+use Rattle.ends.specs.declared.Front.{Front}
+use Rattle.ends.specs.declared.Ends.{Ends}
 
 -- the bounds of a row
 pub record Sane (k : Mode) : Type 0 where
@@ -30,7 +26,7 @@ pub record Sane (k : Mode) : Type 0 where
   pub secondLeast : (k .second ≡ 0 → ⊥) → 2 ≤ k .second
 
 -- the fields in front of the endpoints are read, of the block d of mode m
-pub record Headed (d m : ℕ) (k : Mode) (h : Head) : Type 0 where
+pub record Fronted (d m : ℕ) (k : Mode) (h : Front) : Type 0 where
   pub partition : h .partition ≡ field d (m + 1) (k .partition)
   pub rotation : h .rotation ≡ field d (rotationPlace m k) (k .rotation)
   pub selection : h .selection ≡ field d (selectionPlace m k) (k .selection)
@@ -43,10 +39,3 @@ pub record Ended (d m : ℕ) (k : Mode) (r : Ends) : Type 0 where
   pub blue : (e : ℕ) → e < 2 * k .subsets → getD (r .blue) e 0 ≡ colourEnd d m k 2 e
   pub alpha : (e : ℕ) → e < 2 * k .subsets → getD (r .alpha) e 0 ≡ alphaEnd d m k e
   pub rest : whole (r .rest) ≡ d / 2 ^ indexPlace m k
-
--- a pixel out of the endpoints of four channels, by the subset s, a weight of colour and one of alpha
-abbrev pub between : List ℕ → ℕ → ℕ → ℕ
-between l s w = blend (getD l (2 * s) 0) (getD l (2 * s + 1) 0) w
-
-abbrev pub shaded : ℕ → Ends → ℕ → ℕ → ℕ → ℕ
-shaded t e s c a = rotated t (between (e .alpha) s a) (between (e .red) s c) (between (e .green) s c) (between (e .blue) s c)

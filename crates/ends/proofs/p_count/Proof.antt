@@ -2,8 +2,8 @@
 use borrow.Author.Tests.{eq-eqb, ne-eqb}
 use native.Mathlib.Omega.{arith}
 use borrow.Author.Needs.{needs}
-use Rattle.bc7.proofs.p_count.Statement.{statement}
-use Rattle.bc7.proofs.p_count.Tie as tie
+use Rattle.ends.proofs.p_count.Statement.{statement}
+use Rattle.ends.proofs.p_count.Tie as tie
 
 mul-result : tie.Need-mul-result
 mul-result c = search needs

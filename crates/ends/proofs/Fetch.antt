@@ -13,7 +13,7 @@ use Rattle.rules.specs.Bc7.{expand, modeTable, modeAt, colourPlace, alphaPlace,
 use Rattle.rules.specs.declared.Mode.{Mode}
 use Rattle.laws.proofs.Every.{both, both-left, both-right, below}
 use Rattle.rest.specs.Whole.{fieldOf}
-use Rattle.bc7.specs.Stages.{Sane}
+use Rattle.ends.specs.Stages.{Sane}
 
 -- a field of what is left is a field of the whole
 pub field-at : (d w p b j : ℕ) → w ≡ d / 2 ^ p → fieldOf w b j ≡ field d (p + j * b) b

@@ -7,9 +7,9 @@ use native.Mathlib.Omega.{arith}
 use lib.Dec.{eqb}
 use lib.ListN.{getD}
 use Rattle.rules.specs.Bc7.{expand}
-use Rattle.bc7.proofs.Steps.{Made, make}
-use Rattle.bc7.proofs.channel.Statement.{statement}
-use Rattle.bc7.proofs.channel.Tie as tie
+use Rattle.ends.proofs.Steps.{Made, make}
+use Rattle.ends.proofs.channel.Statement.{statement}
+use Rattle.ends.proofs.channel.Tie as tie
 
 abbrev endOf : List ℕ → List ℕ → ℕ → ℕ → ℕ → ℕ → ℕ → ℕ
 endOf values ps at w shared pb e = expand (w + pb) (getD values (at + e) 0 * 2 ^ pb + getD ps (cond (eqb shared 0) e (e / 2)) 0)
