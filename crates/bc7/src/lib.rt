@@ -10,7 +10,7 @@ ghost use lib.ListN.{length, getD};
 ghost use Rattle.rules.specs.Notation.{build};
 ghost use Rattle.rules.specs.Places.{tile};
 ghost use Rattle.rules.specs.Bptc.{weightsOf};
-ghost use Rattle.rules.specs.Bc7.{rotated, pixelIn, modeAt, bc7Pixel};
+ghost use Rattle.rules.specs.Bc7.{rotated, pixelIn, modeAt, pixelOf, bc7Pixel};
 ghost use Rattle.rest.specs.Whole.{whole, widthBy, passedBy};
 ghost use Rattle.ends.specs.Stages.{Sane};
 ghost use Rattle.bc7.specs.Shaded.{shaded};
@@ -103,14 +103,21 @@ fn in_mode(r: Rest, m: usize) -> [u32; 16]
     shade(h.rotation, layout, e, chosen(h.selection, first, second), chosen(h.selection, second, first))
 }
 
+// The sixteen pixels of a block in two words: none of a mode is 0.
+pub fn of_words(r: Rest) -> [u32; 16]
+    ensures { λ p. ⌜ p ≡ build 16 (pixelOf (whole r)) ⌝ }
+{
+    let m = bptc::zeros_below((r.lo % 256) as u8);
+    if 7 < m {
+        return [0u32; 16];
+    }
+    in_mode(r, m)
+}
+
 // The sixteen pixels of a block.
 pub fn bc7_block(d: &[u8]) -> [u32; 16]
     requires { ⌜ 16 ≤ length (now d) ⌝ }
     ensures { λ p. ⌜ p ≡ tile bc7Pixel (now (d .entry)) ⌝ }
 {
-    let m = bptc::zeros_below(d[0]);
-    if 7 < m {
-        return [0u32; 16];
-    }
-    in_mode(rest::words(d), m)
+    of_words(rest::words(d))
 }

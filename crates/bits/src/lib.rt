@@ -1,10 +1,10 @@
-// Bits of lent bytes, lowest first: over a slice and a place, and held in a struct.
+// Bits of lent bytes, lowest first: the core over a slice and a place, and a reader that holds both.
 use rules::Bits;
 ghost use mathlib.Core.Path.{_≡_};
 ghost use Prim.Native.Nat.{_+_, _*_, _/_, _%_, _^_, _<_, _≤_};
 ghost use lib.ListN.{length, getD};
-ghost use Rattle.rules.specs.Bits.{refuses, readAt, placeAfter};
-ghost use Rattle.bits.specs.Held.{readOn};
+ghost use Rattle.rules.specs.Bits.{refuses, bitsSaid, readVerdict, placeAfter};
+ghost use Rattle.bits.specs.Held.{ReadsBits};
 
 fn wide(b: u8) -> u32
     ensures { λ r. ⌜ (r ≡ b) × (r < 256) ⌝ }
@@ -45,7 +45,7 @@ pub fn refused(s: &[u8], place: usize, n: usize) -> bool
 
 // The n bits at the place.
 pub fn bits_at(s: &[u8], place: usize, n: usize) -> Bits
-    ensures { λ r. ⌜ r ≡ readAt (now (s .entry)) place n ⌝ }
+    ensures { λ r. ⌜ bitsSaid r ≡ readVerdict (now (s .entry)) place n ⌝ }
 {
     if refused(s, place, n) {
         return Bits::Refused;
@@ -65,7 +65,7 @@ pub fn place_after(s: &[u8], place: usize, n: usize) -> usize
     place + n
 }
 
-// A bit reader: it borrows the bytes, and holds the place of the next bit. Each function that has one is a walk by hand.
+// A bit reader: it borrows the bytes, and holds the place of the next bit.
 pub struct BitReader<'a> {
     pub src: &'a [u8],
     pub place: usize,
@@ -87,7 +87,7 @@ pub fn place<'a>(r: BitReader<'a>) -> usize
 
 // The next n bits, and the place moves past them; where that is refused the place is kept.
 pub fn read<'s, 'a>(r: &'s mut BitReader<'a>, n: usize) -> Bits
-    ensures { λ b. ⌜ (b ≡ readAt (now (now (r .entry) .src)) (now (r .entry) .place) n) × (now (r .exit) ≡ readOn (now (r .entry)) n) ⌝ }
+    ensures { λ b. ⌜ ReadsBits (now (r .entry)) n b (now (r .exit)) ⌝ }
 {
     let src = r.src;
     let at = r.place;
@@ -95,4 +95,3 @@ pub fn read<'s, 'a>(r: &'s mut BitReader<'a>, n: usize) -> Bits
     r.place = place_after(src, at, n);
     got
 }
-

@@ -3,11 +3,12 @@
 use mathlib.Core.Path.{_≡_, _∙_, refl, sym, ap, subst}
 use mathlib.Core.List.{List, [], _∷_}
 use Prim.Native.Nat.{ℕ, zero, suc, _+_, _-_, _*_, _/_, _%_, _^_, _<_, _≤_}
-use native.Mathlib.Nat.{mul-comm, div-one, zero-div}
+use native.Mathlib.Nat.{mul-comm, mul-assoc, one-mul, add-comm, zero-add, suc-add, div-one, zero-div}
 use native.Mathlib.Omega.{arith}
+use lib.Dec.{lit<}
 use lib.ListN.{length, getD, drop}
 use lib.Seq.{getD-drop}
-use lib.Pow.{shr-shr, mod-pow-add, high}
+use lib.Pow.{shr-shr, mod-pow-add, pow-add, low, high}
 use Rattle.numbers.specs.Numbers.{little}
 use Rattle.numbers.proofs.Little as little-laws
 use Rattle.rules.specs.Bits.{number, fieldAt}
@@ -64,3 +65,32 @@ in-two d b p n h =
 pub joined : (d : List ℕ) (p m n : ℕ) → fieldAt d p (n + m) ≡ fieldAt d (p + m) n * 2 ^ m + fieldAt d p m
 joined d p m n = mod-pow-add (number d / 2 ^ p) n m ∙ ap (λ (x : ℕ). x % 2 ^ n * 2 ^ m + fieldAt d p m) (shr-shr (number d) p m)
 
+-- the first n bytes, and those behind them
+split : (n m k : ℕ) (d : List ℕ) → little (n + m) k d ≡ little n k d + 2 ^ (8 * n) * little m (n + k) d
+unfolding little
+split zero m k d = omega (arith, ap (λ (z : ℕ). little z k d) (zero-add m), ap (λ (z : ℕ). little m z d) (zero-add k), one-mul (little m k d))
+split (suc n) m k d =
+    let e : little (suc n + m) k d ≡ little (suc (n + m)) k d = ap (λ (z : ℕ). little z k d) (suc-add n m) in
+    let f : little m (n + suc k) d ≡ little m (suc n + k) d = ap (λ (z : ℕ). little m z d) (omega arith) in
+    let p : 8 * suc n ≡ 8 + 8 * n = omega arith in
+    let q : 2 ^ (8 * suc n) ≡ 256 * 2 ^ (8 * n) = ap (λ (z : ℕ). 2 ^ z) p ∙ pow-add 2 8 (8 * n) in
+    let r : 2 ^ (8 * suc n) * little m (suc n + k) d ≡ 256 * (2 ^ (8 * n) * little m (n + suc k) d) =
+      ap (λ (z : ℕ). z * little m (suc n + k) d) q ∙ mul-assoc 256 (2 ^ (8 * n)) (little m (suc n + k) d) ∙ ap (λ (z : ℕ). 256 * (2 ^ (8 * n) * z)) (sym f) in
+    omega (arith, e, split n m (suc k) d, r)
+
+-- n bytes are below 2 ^ (8 * n)
+small : (n k : ℕ) (d : List ℕ) → Bytes d → little n k d < 2 ^ (8 * n)
+unfolding little
+small zero k d b = lit< tt
+small (suc n) k d b =
+    let p : 8 * suc n ≡ 8 + 8 * n = omega arith in
+    let q : 2 ^ (8 * suc n) ≡ 256 * 2 ^ (8 * n) = ap (λ (z : ℕ). 2 ^ z) p ∙ pow-add 2 8 (8 * n) in
+    omega (arith, b k, small n (suc k) d b, q)
+
+-- so the first n bytes are the lowest bits of them all
+pub first-bytes : (n : ℕ) (d : List ℕ) → Bytes d → n ≤ length d → fieldAt d 0 (8 * n) ≡ little n 0 d
+unfolding number
+first-bytes n d b h =
+    let e : length d ≡ n + (length d - n) = omega arith in
+    ap (λ (m : ℕ). m % 2 ^ (8 * n)) (div-one (little (length d) 0 d) ∙ ap (λ (m : ℕ). little m 0 d) e ∙ split n (length d - n) 0 d ∙ add-comm (little n 0 d) _ ∙ ap (λ (m : ℕ). m + little n 0 d) (mul-comm (2 ^ (8 * n)) (little (length d - n) (n + 0) d)))
+    ∙ low (little (length d - n) (n + 0) d) (8 * n) (small n 0 d b)

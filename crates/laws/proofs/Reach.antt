@@ -5,7 +5,7 @@ use mathlib.Core.Bool.{Bool, true, false, cond}
 use mathlib.Core.List.{List, []}
 use Prim.Native.Nat.{ℕ, zero, suc, _+_, _*_, _<_, _≤_}
 use native.Mathlib.Omega.{arith}
-use lib.Dec.{eqb, ltb}
+use lib.Dec.{eqb}
 use lib.ListN.{getD, take, drop}
 use lib.Seq.{getD-take, getD-drop}
 use Rattle.rules.specs.Notation.{byte, build}
@@ -16,7 +16,7 @@ use Rattle.rules.specs.Channels.{withAlpha, alphaStep, alphaByte, rgba8Pixel, e
 use Rattle.numbers.specs.Numbers.{little}
 use Rattle.numbers.proofs.Little.{inside}
 use Rattle.rules.specs.Desktop.{halfWord, paletteIn, colourIndex, alphasIn, alphaIndexIn, bc1Pixel, bc3Alpha, bc3Pixel, replaced}
-use Rattle.rules.specs.Bc7.{lowest, modeOf, modeAt, blockWord, pixelIn, bc7Pixel}
+use Rattle.rules.specs.Bc7.{pixelOf, bc7Pixel}
 use Rattle.rules.specs.Formats.{sizeOf, showsOf}
 use Rattle.rules.specs.declared.Kind.{Kind}
 use Rattle.rules.specs.declared.Kind.the-variants.{Individual, Differential, T, H, Planar}
@@ -183,14 +183,10 @@ bc3 d x y =
     ap (λ (p : ℕ). replaced 3 p (bc3Alpha d x y)) (second (bc1Pixel true false) (bc1 true false) d x y)
     ∙ ap (λ (a : ℕ). replaced 3 (bc1Pixel true false (drop 8 (take 16 d)) x y) a) (first bc3Alpha bc3-alpha 16 (omega arith) d x y)
 
--- BC7 goes by the number that its sixteen bytes make, and by the first of them
+-- BC7 goes by the number that its sixteen bytes make
 bc7 : (d : List ℕ) (x y : ℕ) → bc7Pixel d x y ≡ bc7Pixel (take 16 d) x y
 unfolding bc7Pixel
-bc7 d x y =
-    let w : blockWord d ≡ blockWord (take 16 d) = sym (inside 16 0 16 d (omega arith)) in
-    let b : modeOf d ≡ modeOf (take 16 d) = ap (λ (n : ℕ). lowest 8 n 0) (sym (getD-take 16 d 0 0 (omega arith))) in
-    ap (λ (m : ℕ). cond (ltb 7 m) 0 (pixelIn (blockWord d) m (modeAt m) (4 * y + x))) b
-    ∙ ap (λ (v : ℕ). cond (ltb 7 (modeOf (take 16 d))) 0 (pixelIn v (modeOf (take 16 d)) (modeAt (modeOf (take 16 d))) (4 * y + x))) w
+bc7 d x y = ap (λ (w : ℕ). pixelOf w (4 * y + x)) (sym (inside 16 0 16 d (omega arith)))
 
 -- every format reads the bytes of its block alone
 pub reads-its-block : (f : Format) (d : List ℕ) (x y : ℕ) → showsOf f d x y ≡ showsOf f (take (sizeOf f) d) x y

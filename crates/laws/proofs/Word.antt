@@ -167,7 +167,7 @@ of-mode false d m i e = pixel-word d m (omega (arith, ltb-false 7 m e)) i
 
 bc7 : (d : List ℕ) (x y : ℕ) → Word (bc7Pixel d x y)
 unfolding bc7Pixel
-bc7 d x y = of-mode (ltb 7 (modeOf d)) (blockWord d) (modeOf d) (4 * y + x) refl
+bc7 d x y = of-mode (ltb 7 (modeOf (blockWord d))) (blockWord d) (modeOf (blockWord d)) (4 * y + x) refl
 
 -- every pixel of every format
 pub word-below : (f : Format) (d : List ℕ) (x y : ℕ) → Word (showsOf f d x y)

@@ -6,7 +6,6 @@ use Prim.Native.Nat.{ℕ, zero, suc, _+_, _-_, _*_, _/_, _%_, _^_}
 use lib.Dec.{ltb, eqb}
 use lib.ListN.{getD}
 use Rattle.numbers.specs.Numbers.{little}
-use Rattle.rules.specs.Notation.{byte}
 use Rattle.rules.specs.Pixel.{word}
 use Rattle.rules.specs.Bits.{field}
 use Rattle.rules.specs.Bptc.{weightsOf, subset, anchor}
@@ -43,13 +42,14 @@ rowOf r =
 abbrev pub modeAt : ℕ → Mode
 modeAt m = rowOf (getD modeTable m [])
 
--- the mode: how many bits 0 stand below the lowest bit 1 of the first byte; 8 where there is none
+-- how many bits 0 stand below the lowest bit 1 of a byte; 8 where there is none
 unfoldable pub lowest : ℕ → ℕ → ℕ → ℕ
 lowest zero b p = p
 lowest (suc n) b p = cond (eqb (b / 2 ^ p % 2) 1) p (lowest n b (suc p))
 
-abbrev pub modeOf : List ℕ → ℕ
-modeOf d = lowest 8 (byte d 0) 0
+-- the mode of a block, of which the first byte tells it: the block is a number here, and its first byte is lowest
+abbrev pub modeOf : ℕ → ℕ
+modeOf w = lowest 8 (w % 256) 0
 
 -- where the fields of a row begin, after the m + 1 bits of the mode m
 module _ (m : ℕ) (k : Mode) where
@@ -161,10 +161,13 @@ module _ (d m : ℕ) (k : Mode) where
   pixelIn i =
       rotated (field d (rotationPlace m k) (k .rotation)) (alphaAt i) (colourAt 0 i) (colourAt 1 i) (colourAt 2 i)
 
--- the sixteen bytes of a block as one number, the first byte lowest
+-- pixel i, row by row: "A block whose first byte is 0 has no mode and gives sixteen pixels of 0."
+abbrev pub pixelOf : ℕ → ℕ → ℕ
+pixelOf w i = cond (ltb 7 (modeOf w)) 0 (pixelIn w (modeOf w) (modeAt (modeOf w)) i)
+
+-- the sixteen bytes of a block as one number
 abbrev pub blockWord : List ℕ → ℕ
 blockWord d = little 16 0 d
 
--- "A block whose first byte is 0 has no mode and gives sixteen pixels of 0."
 unfoldable pub bc7Pixel : List ℕ → ℕ → ℕ → ℕ
-bc7Pixel d x y = cond (ltb 7 (modeOf d)) 0 (pixelIn (blockWord d) (modeOf d) (modeAt (modeOf d)) (4 * y + x))
+bc7Pixel d x y = pixelOf (blockWord d) (4 * y + x)

@@ -20,9 +20,13 @@ field v p n = v / 2 ^ p % 2 ^ n
 abbrev pub fieldAt : List ℕ → ℕ → ℕ → ℕ
 fieldAt d p n = field (number d) p n
 
--- "a read of over 8 bits, or past the lent bytes, is refused"; a place beyond 64 bits can't be named, and is past them too
+-- n bits from bit p on are "past the lent bytes"; a place beyond 64 bits can't be named, and is past them too
+abbrev pub lacks : List ℕ → ℕ → ℕ → Bool
+lacks d p n = ltb (length d * 8) (p + n) || ltb 18446744073709551615 (p + n)
+
+-- "a read of over 8 bits, or past the lent bytes, is refused"
 unfoldable pub refuses : List ℕ → ℕ → ℕ → Bool
-refuses d p n = ltb 8 n || (ltb (length d * 8) (p + n) || ltb 18446744073709551615 (p + n))
+refuses d p n = ltb 8 n || lacks d p n
 
 -- a read's answer as document 01 has answers, a number and its values: "is refused with 2"
 abbrev pub bitsSaid : Bits → List ℕ

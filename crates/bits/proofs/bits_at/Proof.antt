@@ -1,13 +1,13 @@
 -- The bits lie in two bytes: `in-two`.
 -- Assumes nothing.
 use mathlib.Core.Path.{_≡_, sym, ap, _∙_}
-use mathlib.Core.Bool.{Bool}
+use mathlib.Core.Bool.{Bool, cond}
+use mathlib.Core.List.{[], _∷_}
 use Prim.Native.Nat.{ℕ, _+_, _*_, _/_, _%_, _^_, _≤_}
 use native.Mathlib.Omega.{arith}
 use lib.ListN.{getD, length}
 use denote.Ref.{now}
-use Rattle.rules.specs.Bits.{fieldAt, answer}
-use Rattle.rules.specs.declared.Bits.the-variants.{Value}
+use Rattle.rules.specs.Bits.{fieldAt}
 use Rattle.laws.proofs.Number.{in-two}
 use Rattle.laws.proofs.Refuse.{allowed}
 use borrow.Author.Needs.{needs}
@@ -53,7 +53,8 @@ returns-2 c =
       ∙ ap (λ (m : ℕ). (m * 256 + c .before .byte-or-02 .result) / 2 ^ (a .place % 8) % 2 ^ (a .n)) (c .before .before .byte-or-0 .ensures .0)
       ∙ ap (λ (m : ℕ). (getD (now (a .s)) (a .place / 8 + 1) 0 * 256 + m) / 2 ^ (a .place % 8) % 2 ^ (a .n)) (c .before .byte-or-02 .ensures .0)
       ∙ sym (in-two (now (a .s)) (λ k. e .before .before .shared-slice-known .given k .fits) (a .place) (a .n) (allowed _ _ _ (sym (e .before .refused .ensures) ∙ e .if1 .left) .0)) in
-    ap Value v ∙ sym (ap (λ (t : Bool). answer t (fieldAt (now (a .s)) (a .place) (a .n))) (sym (e .before .refused .ensures) ∙ e .if1 .left))
+    ap (λ (x : ℕ). 0 ∷ x ∷ []) v
+    ∙ sym (ap (λ (t : Bool). cond t (2 ∷ []) (0 ∷ fieldAt (now (a .s)) (a .place) (a .n) ∷ [])) (sym (e .before .refused .ensures) ∙ e .if1 .left))
 
 pub bits-at-spec : {M : Type 1} → statement M
 bits-at-spec =

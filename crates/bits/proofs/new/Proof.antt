@@ -1,4 +1,4 @@
--- `reader::new` meets its contract: a walk of its MIR, by hand. A `BitReader` is made of the slice passed and 0, in the result's local.
+-- `bits::new` meets its contract: a walk of its MIR, by hand. A `BitReader` is made of the slice passed and 0, in the result's local.
 -- A `&[u8]` is Copy, so what it owns is had twice: once for src at exit, and once inside the result, beside the facts of at.
 -- Assumes nothing.
 use mathlib.Core.Path.{refl}
@@ -38,7 +38,7 @@ use denote.Exit.{yes}
 use Rattle.bits.specs.declared.BitReader.{BitReader}
 use Rattle.bits.proofs.BitReader as T
 use Rattle.bits.proofs.BitReader.Laws as T′
-use Rattle.bits.proofs.new.Key.{name as #reader·new}
+use Rattle.bits.proofs.new.Key.{name as #bits·new}
 use Rattle.bits.proofs.new as new
 use Rattle.bits.proofs.new.Statement as stated
 use Rattle.bits.proofs.new.Code as code
@@ -95,5 +95,5 @@ pub new-spec : {M : Type 1} → stated.statement M
 unfolding code.routine tablesOf
 new-spec 𝓤 H 𝓜 𝓖 𝓡 =
     entered 𝓤 H (tripleOf 𝓤 H (𝓖 .A) new.signature (new.spec 𝓤 H (𝓖 .A) (𝓜 .mem) (𝓡 .run)))
-    (tables 𝓤 H 𝓜 𝓡 code.env .C) (tables 𝓤 H 𝓜 𝓡 code.env .Λ) #reader·new code.function (code.unfolded 𝓤 H 𝓜 𝓡)
+    (tables 𝓤 H 𝓜 𝓡 code.env .C) (tables 𝓤 H 𝓜 𝓡 code.env .Λ) #bits·new code.function (code.unfolded 𝓤 H 𝓜 𝓡)
     (new-meets 𝓤 H (𝓖 .A) (givenOf 𝓤 H 𝓜 𝓖) (𝓜 .mem) (𝓡 .run) (tablesOf 𝓤 H 𝓜 (tables 𝓤 H 𝓜 𝓡 code.env)))

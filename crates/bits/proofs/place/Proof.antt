@@ -1,4 +1,4 @@
--- `reader::place` meets its contract: a walk of its MIR, by hand. A number is read from a field of the struct, and the struct is seen at exit as it was passed.
+-- `bits::place` meets its contract: a walk of its MIR, by hand. A number is read from a field of the struct, and the struct is seen at exit as it was passed.
 -- That the number fits its type is in the struct's relation, at the field's place.
 -- Assumes nothing.
 use mathlib.Core.Path.{refl}
@@ -35,7 +35,7 @@ use denote.Exit.{yes}
 use Rattle.bits.specs.declared.BitReader.{BitReader}
 use Rattle.bits.proofs.BitReader as T
 use Rattle.bits.proofs.BitReader.Laws as T′
-use Rattle.bits.proofs.place.Key.{name as #reader·place}
+use Rattle.bits.proofs.place.Key.{name as #bits·place}
 use Rattle.bits.proofs.place as place
 use Rattle.bits.proofs.place.Statement as stated
 use Rattle.bits.proofs.place.Code as code
@@ -82,5 +82,5 @@ pub place-spec : {M : Type 1} → stated.statement M
 unfolding code.routine tablesOf
 place-spec 𝓤 H 𝓜 𝓖 𝓡 =
     entered 𝓤 H (tripleOf 𝓤 H (𝓖 .A) place.signature (place.spec 𝓤 H (𝓖 .A) (𝓜 .mem) (𝓡 .run)))
-    (tables 𝓤 H 𝓜 𝓡 code.env .C) (tables 𝓤 H 𝓜 𝓡 code.env .Λ) #reader·place code.function (code.unfolded 𝓤 H 𝓜 𝓡)
+    (tables 𝓤 H 𝓜 𝓡 code.env .C) (tables 𝓤 H 𝓜 𝓡 code.env .Λ) #bits·place code.function (code.unfolded 𝓤 H 𝓜 𝓡)
     (place-meets 𝓤 H (𝓖 .A) (givenOf 𝓤 H 𝓜 𝓖) (𝓜 .mem) (𝓡 .run) (tablesOf 𝓤 H 𝓜 (tables 𝓤 H 𝓜 𝓡 code.env)))

@@ -1,4 +1,4 @@
--- `reader::read` meets its contract: a walk of its MIR, by hand. The borrow is opened; the struct is Copy, so what it owns is had twice, once for each call of a covered function, and once to close the borrow at the new place.
+-- `bits::read` meets its contract: a walk of its MIR, by hand. The borrow is opened; the struct is Copy, so what it owns is had twice, once for each call of a covered function, and once to close the borrow at the new place.
 -- All that the proof knows of `bits_at` and `place_after` is that they meet their contracts.
 -- Assumes nothing.
 use mathlib.Core.Path.{_≡_, refl, ap}
@@ -46,22 +46,22 @@ use denote.Triple.Spec.{Meets, tripleOf}
 use denote.Triple.Table.{entered, cited}
 use denote.Triple.Walked.{says, Stays, stay-ref, stay-none, walkOf, goes-none, goes-ref, Walks, ends-at, walked, walk-meets}
 use denote.Exit.{yes}
-use Rattle.rules.specs.Bits.{readAt, placeAfter}
+use Rattle.rules.specs.Bits.{bitsSaid, readVerdict, placeAfter}
 use Rattle.rules.specs.declared.Bits.{Bits}
-use Rattle.laws.proofs.Bits as S
-use Rattle.laws.proofs.Bits.Laws as S′
+use Rattle.rules.proofs.Bits as S
+use Rattle.rules.proofs.Bits.Laws as S′
 use Rattle.bits.specs.declared.BitReader.{BitReader}
 use Rattle.bits.proofs.BitReader as T
 use Rattle.bits.proofs.BitReader.Laws as T′
 use Rattle.bits.proofs.bits_at as bits-at
 use Rattle.bits.proofs.bits_at.Symbol as bits-at-def
-use Rattle.bits.proofs.bits_at.Symbol.{name as #reader·bits-at}
+use Rattle.bits.proofs.bits_at.Symbol.{name as #bits·bits-at}
 use Rattle.bits.proofs.bits_at.Met as bits-at-thm
 use Rattle.bits.proofs.place_after as place-after
 use Rattle.bits.proofs.place_after.Symbol as place-after-def
-use Rattle.bits.proofs.place_after.Symbol.{name as #reader·place-after}
+use Rattle.bits.proofs.place_after.Symbol.{name as #bits·place-after}
 use Rattle.bits.proofs.place_after.Met as place-after-thm
-use Rattle.bits.proofs.read.Key.{name as #reader·read}
+use Rattle.bits.proofs.read.Key.{name as #bits·read}
 use Rattle.bits.proofs.read as read
 use Rattle.bits.proofs.read.Statement as stated
 use Rattle.bits.proofs.read.Code as code
@@ -121,8 +121,8 @@ module _ {M : Type 1} (𝓤 : URA M) (H : Heap 𝓤) (A : Atoms 𝓤) (W : Given
   abbrev v : Val
   v = sliceVal (h .src .ptr) (length (h .src .now))
 
-  abbrev found : Bits
-  found = readAt (now (h .src)) (h .place) n
+  abbrev found : List ℕ
+  found = readVerdict (now (h .src)) (h .place) n
 
   abbrev next : ℕ
   next = placeAfter (now (h .src)) (h .place) n
@@ -157,8 +157,8 @@ module _ {M : Type 1} (𝓤 : URA M) (H : Heap 𝓤) (A : Atoms 𝓤) (W : Given
   asked-place = qed W ((‵ (flft κ′ q′) ⊛ ‵ ftrue) ∷ ‵ (owns (ShrSlice (named 0) κ′ u8 ∷ usize ∷ usize ∷ []) three passed) ∷ []) ∵ join ! $ frame ! $ done !
 
   -- of a callee's `ensured`, the clause alone
-  said-bits : (r : Bits) → ent 𝓤 (ensured 𝓤 H A bits-at.ended (bits-at.clauses 𝓤 H A at-mem run) (κ′, tt) three tt r) (fact 𝓤 (r ≡ found))
-  said-bits r = exE 𝓤 _ (λ ws. snd∗ 𝓤 (sem 𝓤 H A (lasts bits-at.ended (κ′, tt) three ws)) (fact 𝓤 (r ≡ found)))
+  said-bits : (r : Bits) → ent 𝓤 (ensured 𝓤 H A bits-at.ended (bits-at.clauses 𝓤 H A at-mem run) (κ′, tt) three tt r) (fact 𝓤 (bitsSaid r ≡ found))
+  said-bits r = exE 𝓤 _ (λ ws. snd∗ 𝓤 (sem 𝓤 H A (lasts bits-at.ended (κ′, tt) three ws)) (fact 𝓤 (bitsSaid r ≡ found)))
 
   said-place : (m : ℕ) → ent 𝓤 (ensured 𝓤 H A place-after.ended (place-after.clauses 𝓤 H A at-mem run) (κ′, tt) three tt m) (fact 𝓤 (m ≡ next))
   said-place m = exE 𝓤 _ (λ ws. snd∗ 𝓤 (sem 𝓤 H A (lasts place-after.ended (κ′, tt) three ws)) (fact 𝓤 (m ≡ next)))
@@ -167,14 +167,14 @@ module _ {M : Type 1} (𝓤 : URA M) (H : Heap 𝓤) (A : Atoms 𝓤) (W : Given
   again : (m : ℕ) → m < 2 ^ 64 → ent 𝓤 (sem 𝓤 H A Own) (sem 𝓤 H A (B κ′ .own (h′ m) (T′.lowered (h′ m) ∷ [])))
   again m ok = qed W (‵ Own ∷ []) ∵ owned ! usize (Is usize) (uint-makes 𝓤 H A W w64) m _ (refl, ok) $ move ! (1 ∷ 0 ∷ []) $ by ! (own-put 𝓤 H A W D L 1 vd m mach)
 
-  exits : (r : Bits) (u : Val) (m : ℕ) → r ≡ found → m ≡ next → ent 𝓤 (⋆ 𝓤 H A (‵ (fobs γ (B κ′ .coded .code (h′ m))) ∷ ‵ (fbor κ (Body (mem (B κ′)) b o γ)) ∷ ‵ (flft κ q) ∷ (‵ (flft κ′ q′) ⊛ ‵ ftrue) ∷ ‵ (S.the-row .own r (u ∷ [])) ∷ [])) (Post u)
+  exits : (r : Bits) (u : Val) (m : ℕ) → bitsSaid r ≡ found → m ≡ next → ent 𝓤 (⋆ 𝓤 H A (‵ (fobs γ (B κ′ .coded .code (h′ m))) ∷ ‵ (fbor κ (Body (mem (B κ′)) b o γ)) ∷ ‵ (flft κ q) ∷ (‵ (flft κ′ q′) ⊛ ‵ ftrue) ∷ ‵ (S.the-row .own r (u ∷ [])) ∷ [])) (Post u)
   exits r u m e f =
       qed W (‵ (fobs γ (B κ′ .coded .code (h′ m))) ∷ ‵ (fbor κ (Body (mem (B κ′)) b o γ)) ∷ ‵ (flft κ q) ∷ (‵ (flft κ′ q′) ⊛ ‵ ftrue) ∷ ‵ (S.the-row .own r (u ∷ [])) ∷ []) ∵
       suffices ! _ (ends-at 𝓤 H A read.ended stayed (read.clauses 𝓤 H A at-mem run) W (((κ, (κ′, tt)), (q, (q′, tt)), bounds, x, at), tt) u r (h′ m, (tt, tt)) (tt, (tt, tt))) $ says ! (e, (λ i. h′ (f i))) $
       move ! (2 ∷ 3 ∷ []) $ join ! $
       frame ! $ feqI ! (List Val) (vptr b o ∷ []) (vptr b o ∷ []) refl $ fjoin3 ! $ nothing ! $ owned ! usize (Is usize) (uint-makes 𝓤 H A W w64) n _ (refl, gn) $ fjoin ! $ move ! (1 ∷ 0 ∷ []) $ fjoin ! $ frame ! $ done !
 
-  module _ (C : Calls 𝓤 H) (Λ : Loops 𝓤 H) (fm : FmC 𝓤 H (W .laws) C) (known-bits : Triple 𝓤 (C #reader·bits-at) (BitsAt 𝓤 H A at-mem run)) (known-place : Triple 𝓤 (C #reader·place-after) (PlaceAfter 𝓤 H A at-mem run)) where
+  module _ (C : Calls 𝓤 H) (Λ : Loops 𝓤 H) (fm : FmC 𝓤 H (W .laws) C) (known-bits : Triple 𝓤 (C #bits·bits-at) (BitsAt 𝓤 H A at-mem run)) (known-place : Triple 𝓤 (C #bits·place-after) (PlaceAfter 𝓤 H A at-mem run)) where
     walk : ent 𝓤 (onEntry 𝓤 H A read.signature (κ, (κ′, tt)) (q, (q′, tt)) x at) (WpFn 𝓤 H C Λ code.function (vptr b o ∷ vint w64 n ∷ []) Post)
     walk =
         qed W ((‵ (flft κ q) ⊛ ‵ (flft κ′ q′) ⊛ ‵ ftrue) ∷ ‵ (owns (MutRef (named 0) κ (B κ′) ∷ usize ∷ []) x at) ∷ []) ∵ enter ! C Λ code.function (vptr b o ∷ vint w64 n ∷ []) _ $
@@ -189,7 +189,7 @@ module _ {M : Type 1} (𝓤 : URA M) (H : Heap 𝓤) (A : Atoms 𝓤) (W : Given
         move ! (1 ∷ 5 ∷ []) $ use2 W ((‵ (flft κ′ q′) ⊛ ‵ ftrue) ⊛ ‵ (owns (ShrSlice (named 0) κ′ u8 ∷ usize ∷ usize ∷ []) three passed) ⊛ ‵ Own) (apart (was .1 .1 .1 .0 .1)) $ split ! $ move ! (1 ∷ []) $ split ! $ move ! (2 ∷ 0 ∷ []) $ use2 W (raw (BitsAt 𝓤 H A at-mem run .pre to-bits)) asked-bits $
         calls-at ! fm (BitsAt 𝓤 H A at-mem run) known-bits to-bits (and-then ! (load ! (from ! (stop !)) (look ! 13 refl)) (and-then ! (load ! (from ! (stop !)) (look ! 11 refl)) (and-then ! (load ! (from ! (stop !)) (look ! 15 refl)) (no-more !)))) (λ u.
         use1 W (later (some (λ (r : Bits). ((‵ (flft κ′ q′) ⊛ ‵ ftrue) ⊛ ‵ (S.the-row .own r (u ∷ []))) ⊛ raw (ensured 𝓤 H A bits-at.ended (bits-at.clauses 𝓤 H A at-mem run) (κ′, tt) three tt r)))) (id⊢ 𝓤 _) $ await ! tt $ pick ! (λ r.
-        split ! $ move ! (1 ∷ []) $ use1 W (raw (fact 𝓤 (r ≡ found))) (said-bits r) $ heard ! (r ≡ found) (λ e. split ! $ move ! (1 ∷ []) $
+        split ! $ move ! (1 ∷ []) $ use1 W (raw (fact 𝓤 (bitsSaid r ≡ found))) (said-bits r) $ heard ! (bitsSaid r ≡ found) (λ e. split ! $ move ! (1 ∷ []) $
         -- [the result; the token; what the struct owns; the cell; the open borrow; obs; auth; n's; _6; …]
         peeks ! S.the-row (Is S.the-row) (shows 𝓤 H A S.the-row) r (u ∷ []) (λ is.
         land ! (from ! (stop !)) (init ! 10 refl (EL.lawful S.the-type S′.the-laws 𝓤 H A W tt .typed r _ is .0)) $
@@ -211,13 +211,13 @@ module _ {M : Type 1} (𝓤 : URA M) (H : Heap 𝓤) (A : Atoms 𝓤) (W : Given
         keep ! (0 ∷ 1 ∷ 2 ∷ 4 ∷ 5 ∷ []) $ by ! (exits r u m e f))))))))))))))))))
 
 module _ {M : Type 1} (𝓤 : URA M) (H : Heap 𝓤) (A : Atoms 𝓤) (W : Given 𝓤 H A) (mem : Memory → SProp 𝓤) (run : Routine → Fun 𝓤) where
-  read-walks : (C : Calls 𝓤 H) (Λ : Loops 𝓤 H) → FmC 𝓤 H (W .laws) C → Triple 𝓤 (C #reader·bits-at) (BitsAt 𝓤 H A mem run) → Triple 𝓤 (C #reader·place-after) (PlaceAfter 𝓤 H A mem run)
+  read-walks : (C : Calls 𝓤 H) (Λ : Loops 𝓤 H) → FmC 𝓤 H (W .laws) C → Triple 𝓤 (C #bits·bits-at) (BitsAt 𝓤 H A mem run) → Triple 𝓤 (C #bits·place-after) (PlaceAfter 𝓤 H A mem run)
       → Walks 𝓤 H A read.ended stayed (WpFn 𝓤 H C Λ code.function) (read.clauses 𝓤 H A mem run)
   read-walks C Λ fm kb kp = walked 𝓤 H A read.ended stayed (read.clauses 𝓤 H A mem run) (WpFn 𝓤 H C Λ code.function) (λ κs. (ptr-vals, (uint-vals w64, tt))) (λ κs. (mut-tells (named 0) (κs .0) (B (κs .1 .0)), (uint-tells w64, tt)))
       (λ κs qs bounds a _ are. via 𝓤 _ (fst∗ 𝓤 _ (emp 𝓤)) (walk 𝓤 H A W mem run (κs .0) (κs .1 .0) (qs .0) (qs .1 .0) bounds (a .0 .ptr .0) (a .0 .ptr .1) (a .0 .name) (a .0 .now) (a .1 .0) (are .1 .0 .1) C Λ fm kb kp))
 
 read-meets : {M : Type 1} (𝓤 : URA M) (H : Heap 𝓤) (A : Atoms 𝓤) → Given 𝓤 H A → (mem : Memory → SProp 𝓤) (run : Routine → Fun 𝓤) (𝓣 : Tables 𝓤 H)
-    → Triple 𝓤 (𝓣 .C #reader·bits-at) (BitsAt 𝓤 H A mem run) → Triple 𝓤 (𝓣 .C #reader·place-after) (PlaceAfter 𝓤 H A mem run)
+    → Triple 𝓤 (𝓣 .C #bits·bits-at) (BitsAt 𝓤 H A mem run) → Triple 𝓤 (𝓣 .C #bits·place-after) (PlaceAfter 𝓤 H A mem run)
     → Meets 𝓤 H A read.signature (WpFn 𝓤 H (𝓣 .C) (𝓣 .Λ) code.function) (read.spec 𝓤 H A mem run)
 read-meets 𝓤 H A W mem run 𝓣 kb kp = walk-meets 𝓤 H A read.ended stayed W (goes-ref 𝓤 H A W 2 0 tt behind, (goes-none 𝓤 H A W 2 (λ _. usize) yes (λ κs x f. refl), tt)) (read.clauses 𝓤 H A mem run) (WpFn 𝓤 H (𝓣 .C) (𝓣 .Λ) code.function) (WpFn-mono 𝓤 H (W .laws) 𝓣 code.function)
     (read-walks 𝓤 H A W mem run (𝓣 .C) (𝓣 .Λ) (fmOf 𝓤 H (W .laws) 𝓣) kb kp)
@@ -226,7 +226,7 @@ pub read-spec : {M : Type 1} → stated.statement M
 unfolding code.routine tablesOf
 read-spec 𝓤 H 𝓜 𝓖 𝓡 =
     entered 𝓤 H (tripleOf 𝓤 H (𝓖 .A) read.signature (read.spec 𝓤 H (𝓖 .A) (𝓜 .mem) (𝓡 .run)))
-    (tables 𝓤 H 𝓜 𝓡 code.env .C) (tables 𝓤 H 𝓜 𝓡 code.env .Λ) #reader·read code.function (code.unfolded 𝓤 H 𝓜 𝓡)
+    (tables 𝓤 H 𝓜 𝓡 code.env .C) (tables 𝓤 H 𝓜 𝓡 code.env .Λ) #bits·read code.function (code.unfolded 𝓤 H 𝓜 𝓡)
     (read-meets 𝓤 H (𝓖 .A) (givenOf 𝓤 H 𝓜 𝓖) (𝓜 .mem) (𝓡 .run) (tablesOf 𝓤 H 𝓜 (tables 𝓤 H 𝓜 𝓡 code.env))
-    (cited 𝓤 H (BitsAt 𝓤 H (𝓖 .A) (𝓜 .mem) (𝓡 .run)) 𝓜 𝓡 code.env #reader·bits-at bits-at-def.routine code.calls-reader·bits-at (bits-at-thm.met 𝓤 H 𝓜 𝓖 𝓡))
-    (cited 𝓤 H (PlaceAfter 𝓤 H (𝓖 .A) (𝓜 .mem) (𝓡 .run)) 𝓜 𝓡 code.env #reader·place-after place-after-def.routine code.calls-reader·place-after (place-after-thm.met 𝓤 H 𝓜 𝓖 𝓡)))
+    (cited 𝓤 H (BitsAt 𝓤 H (𝓖 .A) (𝓜 .mem) (𝓡 .run)) 𝓜 𝓡 code.env #bits·bits-at bits-at-def.routine code.calls-bits·bits-at (bits-at-thm.met 𝓤 H 𝓜 𝓖 𝓡))
+    (cited 𝓤 H (PlaceAfter 𝓤 H (𝓖 .A) (𝓜 .mem) (𝓡 .run)) 𝓜 𝓡 code.env #bits·place-after place-after-def.routine code.calls-bits·place-after (place-after-thm.met 𝓤 H 𝓜 𝓖 𝓡)))
