@@ -1,8 +1,8 @@
-/* ETC1, ETC2 and EAC textures, read by proved code.
+/* ETC1, ETC2, EAC, BC1 and BC3 textures, read by proved code.
  *
  * Link with the static library that `bindings/archive FILE.a` writes. Every function may be
- * called from several threads at once, allocates nothing, keeps nothing between calls and
- * always returns.
+ * called from several threads at once, allocates nothing, keeps nothing between calls but in what
+ * the caller lends, and always returns.
  *
  * Arguments
  *   data, data_len     the compressed bytes and how many there are. They are only read, and
@@ -36,7 +36,8 @@
  *  12  refused: the pitch is below the width.
  * Pictures test 1, 12, 2, 3, 4 in that order, blocks 5, 2, 3, censuses 1, 2, 3. A sheet is walked
  * front to back and the first fault is the answer, 3 last; the writer tests 8, 1, 10, 3. A refusal
- * touches no element.
+ * touches no element. Pictures in pieces have an order of their own, below, and their last answer,
+ * 2, leaves what is painted.
  *
  * What the caller owes
  *   data points to data_len bytes that may be read, image (out, counts) to image_len (out_len,
@@ -69,17 +70,20 @@ enum yalivucu_answer {
     YALIVUCU_SHORT_PITCH = 12
 };
 
-/* Pictures in blocks of 8 bytes. */
+/* Pictures in blocks of 8 bytes. The last of three BC1 colours is black in bc1, and 0, transparent, in bc1a. */
 uint32_t yalivucu_decode_etc1(const uint8_t *data, size_t data_len, size_t width, size_t height, uint32_t *image, size_t image_len);
 uint32_t yalivucu_decode_etc2_rgb(const uint8_t *data, size_t data_len, size_t width, size_t height, uint32_t *image, size_t image_len);
 uint32_t yalivucu_decode_etc2_rgba1(const uint8_t *data, size_t data_len, size_t width, size_t height, uint32_t *image, size_t image_len);
 uint32_t yalivucu_decode_eacr(const uint8_t *data, size_t data_len, size_t width, size_t height, uint32_t *image, size_t image_len);
 uint32_t yalivucu_decode_eacr_signed(const uint8_t *data, size_t data_len, size_t width, size_t height, uint32_t *image, size_t image_len);
+uint32_t yalivucu_decode_bc1(const uint8_t *data, size_t data_len, size_t width, size_t height, uint32_t *image, size_t image_len);
+uint32_t yalivucu_decode_bc1a(const uint8_t *data, size_t data_len, size_t width, size_t height, uint32_t *image, size_t image_len);
 
 /* Pictures in blocks of 16 bytes. */
 uint32_t yalivucu_decode_etc2_rgba8(const uint8_t *data, size_t data_len, size_t width, size_t height, uint32_t *image, size_t image_len);
 uint32_t yalivucu_decode_eacrg(const uint8_t *data, size_t data_len, size_t width, size_t height, uint32_t *image, size_t image_len);
 uint32_t yalivucu_decode_eacrg_signed(const uint8_t *data, size_t data_len, size_t width, size_t height, uint32_t *image, size_t image_len);
+uint32_t yalivucu_decode_bc3(const uint8_t *data, size_t data_len, size_t width, size_t height, uint32_t *image, size_t image_len);
 
 /* The same with a pitch, for an image whose rows have a gap. With pitch = width each does what the
  * function without one does. */
@@ -91,6 +95,9 @@ uint32_t yalivucu_decode_eacr_signed_pitched(const uint8_t *data, size_t data_le
 uint32_t yalivucu_decode_etc2_rgba8_pitched(const uint8_t *data, size_t data_len, size_t width, size_t height, size_t pitch, uint32_t *image, size_t image_len);
 uint32_t yalivucu_decode_eacrg_pitched(const uint8_t *data, size_t data_len, size_t width, size_t height, size_t pitch, uint32_t *image, size_t image_len);
 uint32_t yalivucu_decode_eacrg_signed_pitched(const uint8_t *data, size_t data_len, size_t width, size_t height, size_t pitch, uint32_t *image, size_t image_len);
+uint32_t yalivucu_decode_bc1_pitched(const uint8_t *data, size_t data_len, size_t width, size_t height, size_t pitch, uint32_t *image, size_t image_len);
+uint32_t yalivucu_decode_bc1a_pitched(const uint8_t *data, size_t data_len, size_t width, size_t height, size_t pitch, uint32_t *image, size_t image_len);
+uint32_t yalivucu_decode_bc3_pitched(const uint8_t *data, size_t data_len, size_t width, size_t height, size_t pitch, uint32_t *image, size_t image_len);
 
 /* An ETC1 picture, in blocks of 8 bytes, that holds no block out of range: what it accepts, an
  * ETC2 decoder shows alike. With answer 4, *block is the number of the first such block, from 0,
@@ -124,11 +131,14 @@ uint32_t yalivucu_decode_etc2_rgb_block(const uint8_t *data, size_t data_len, ui
 uint32_t yalivucu_decode_etc2_rgba1_block(const uint8_t *data, size_t data_len, uint32_t *out, size_t out_len);
 uint32_t yalivucu_decode_eacr_block(const uint8_t *data, size_t data_len, uint32_t *out, size_t out_len);
 uint32_t yalivucu_decode_eacr_signed_block(const uint8_t *data, size_t data_len, uint32_t *out, size_t out_len);
+uint32_t yalivucu_decode_bc1_block(const uint8_t *data, size_t data_len, uint32_t *out, size_t out_len);
+uint32_t yalivucu_decode_bc1a_block(const uint8_t *data, size_t data_len, uint32_t *out, size_t out_len);
 
 /* One block of 16 bytes, into out[0] to out[15]. */
 uint32_t yalivucu_decode_etc2_rgba8_block(const uint8_t *data, size_t data_len, uint32_t *out, size_t out_len);
 uint32_t yalivucu_decode_eacrg_block(const uint8_t *data, size_t data_len, uint32_t *out, size_t out_len);
 uint32_t yalivucu_decode_eacrg_signed_block(const uint8_t *data, size_t data_len, uint32_t *out, size_t out_len);
+uint32_t yalivucu_decode_bc3_block(const uint8_t *data, size_t data_len, uint32_t *out, size_t out_len);
 
 /* An alpha half of 8 bytes: replaces the top byte of out[0] to out[15] and keeps the rest. */
 uint32_t yalivucu_decode_etc2_a8_block(const uint8_t *data, size_t data_len, uint32_t *out, size_t out_len);
@@ -137,6 +147,10 @@ uint32_t yalivucu_decode_etc2_a8_block(const uint8_t *data, size_t data_len, uin
  * out[0] to out[15]. */
 uint32_t yalivucu_decode_eac_block(const uint8_t *data, size_t data_len, size_t channel, uint32_t *out, size_t out_len);
 uint32_t yalivucu_decode_eac_signed_block(const uint8_t *data, size_t data_len, size_t channel, uint32_t *out, size_t out_len);
+
+/* The alpha half of a BC3 block, 8 bytes: puts its bytes in place of channel 0 blue, 1 green, 2 red or
+ * 3 alpha of out[0] to out[15], and keeps the other three. */
+uint32_t yalivucu_decode_bc3_alpha(const uint8_t *data, size_t data_len, size_t channel, uint32_t *out, size_t out_len);
 
 /* Which kinds of blocks a picture of 8-byte blocks has: the count of each kind at its place below,
  * together all blocks of the picture. Nothing is painted. The counts are written with answer 0
@@ -179,6 +193,99 @@ uint32_t yalivucu_read_sheet(const uint8_t *sheet, size_t sheet_len, uint32_t *i
  * number of its bytes; with any other answer it is not written. Here answer 3 means that room_len
  * is less than that. */
 uint32_t yalivucu_write_sheet(size_t format, size_t width, size_t height, const uint8_t *blocks, size_t blocks_len, uint8_t *room, size_t room_len, size_t *written);
+
+/* A picture whose bytes arrive in pieces of any length, 0 included: each block is painted as soon
+ * as it is whole, and at most 15 bytes are kept in between. The caller owns the state, which is of
+ * fixed size, needs no end and may be copied; its members are for the functions below alone.
+ *
+ *     struct yalivucu_pieces state;
+ *     size_t painted, unused;
+ *     uint32_t answer = yalivucu_pieces_etc1(&state, width, height, pitch, image, image_len);
+ *     while (!answer && (n = read(cable, bytes, sizeof bytes)) > 0)
+ *         answer = yalivucu_pieces_take(&state, bytes, n, image, image_len, &painted, &unused);
+ *     if (!answer) answer = yalivucu_pieces_end(&state);
+ *
+ * Starting writes the state and answers 0, 1, 12 or 3; it only measures the image. A piece is lent
+ * the image again: with answer 0 it painted *painted blocks and did not use the last *unused of its
+ * bytes, which lie behind the last block; too short an image is answered 3, and then nothing is
+ * taken or changed, *painted is 0 and *unused is bytes_len. The end is 0 where every block is
+ * painted and 2 where not; what is painted stays. Where the image comes back each time as it was
+ * left, neither the picture nor the answers' total depend on where the bytes were cut.
+ *
+ * Every content of the state is a state: a spoilt one gets another picture, or is answered 1, 12, 3
+ * or 2, and no element outside of what its picture needs is written. The pointers to the state, to
+ * painted and to unused are not NULL, and nothing overlaps. */
+struct yalivucu_pieces {
+    size_t numbers_[5];
+    uint8_t kept_[15];
+};
+
+uint32_t yalivucu_start_etc1(size_t width, size_t height, size_t pitch, const uint32_t *image, size_t image_len, size_t *numbers, uint8_t *kept);
+uint32_t yalivucu_start_etc2_rgb(size_t width, size_t height, size_t pitch, const uint32_t *image, size_t image_len, size_t *numbers, uint8_t *kept);
+uint32_t yalivucu_start_etc2_rgba1(size_t width, size_t height, size_t pitch, const uint32_t *image, size_t image_len, size_t *numbers, uint8_t *kept);
+uint32_t yalivucu_start_etc2_rgba8(size_t width, size_t height, size_t pitch, const uint32_t *image, size_t image_len, size_t *numbers, uint8_t *kept);
+uint32_t yalivucu_start_eacr(size_t width, size_t height, size_t pitch, const uint32_t *image, size_t image_len, size_t *numbers, uint8_t *kept);
+uint32_t yalivucu_start_eacr_signed(size_t width, size_t height, size_t pitch, const uint32_t *image, size_t image_len, size_t *numbers, uint8_t *kept);
+uint32_t yalivucu_start_eacrg(size_t width, size_t height, size_t pitch, const uint32_t *image, size_t image_len, size_t *numbers, uint8_t *kept);
+uint32_t yalivucu_start_eacrg_signed(size_t width, size_t height, size_t pitch, const uint32_t *image, size_t image_len, size_t *numbers, uint8_t *kept);
+uint32_t yalivucu_start_bc1(size_t width, size_t height, size_t pitch, const uint32_t *image, size_t image_len, size_t *numbers, uint8_t *kept);
+uint32_t yalivucu_start_bc1a(size_t width, size_t height, size_t pitch, const uint32_t *image, size_t image_len, size_t *numbers, uint8_t *kept);
+uint32_t yalivucu_start_bc3(size_t width, size_t height, size_t pitch, const uint32_t *image, size_t image_len, size_t *numbers, uint8_t *kept);
+uint32_t yalivucu_take_piece(size_t *numbers, uint8_t *kept, const uint8_t *bytes, size_t bytes_len, uint32_t *image, size_t image_len, size_t *painted, size_t *unused);
+uint32_t yalivucu_end_pieces(const size_t *numbers, const uint8_t *kept);
+
+static inline uint32_t yalivucu_pieces_etc1(struct yalivucu_pieces *state, size_t width, size_t height, size_t pitch, const uint32_t *image, size_t image_len)
+{
+    return yalivucu_start_etc1(width, height, pitch, image, image_len, state->numbers_, state->kept_);
+}
+static inline uint32_t yalivucu_pieces_etc2_rgb(struct yalivucu_pieces *state, size_t width, size_t height, size_t pitch, const uint32_t *image, size_t image_len)
+{
+    return yalivucu_start_etc2_rgb(width, height, pitch, image, image_len, state->numbers_, state->kept_);
+}
+static inline uint32_t yalivucu_pieces_etc2_rgba1(struct yalivucu_pieces *state, size_t width, size_t height, size_t pitch, const uint32_t *image, size_t image_len)
+{
+    return yalivucu_start_etc2_rgba1(width, height, pitch, image, image_len, state->numbers_, state->kept_);
+}
+static inline uint32_t yalivucu_pieces_etc2_rgba8(struct yalivucu_pieces *state, size_t width, size_t height, size_t pitch, const uint32_t *image, size_t image_len)
+{
+    return yalivucu_start_etc2_rgba8(width, height, pitch, image, image_len, state->numbers_, state->kept_);
+}
+static inline uint32_t yalivucu_pieces_eacr(struct yalivucu_pieces *state, size_t width, size_t height, size_t pitch, const uint32_t *image, size_t image_len)
+{
+    return yalivucu_start_eacr(width, height, pitch, image, image_len, state->numbers_, state->kept_);
+}
+static inline uint32_t yalivucu_pieces_eacr_signed(struct yalivucu_pieces *state, size_t width, size_t height, size_t pitch, const uint32_t *image, size_t image_len)
+{
+    return yalivucu_start_eacr_signed(width, height, pitch, image, image_len, state->numbers_, state->kept_);
+}
+static inline uint32_t yalivucu_pieces_eacrg(struct yalivucu_pieces *state, size_t width, size_t height, size_t pitch, const uint32_t *image, size_t image_len)
+{
+    return yalivucu_start_eacrg(width, height, pitch, image, image_len, state->numbers_, state->kept_);
+}
+static inline uint32_t yalivucu_pieces_eacrg_signed(struct yalivucu_pieces *state, size_t width, size_t height, size_t pitch, const uint32_t *image, size_t image_len)
+{
+    return yalivucu_start_eacrg_signed(width, height, pitch, image, image_len, state->numbers_, state->kept_);
+}
+static inline uint32_t yalivucu_pieces_bc1(struct yalivucu_pieces *state, size_t width, size_t height, size_t pitch, const uint32_t *image, size_t image_len)
+{
+    return yalivucu_start_bc1(width, height, pitch, image, image_len, state->numbers_, state->kept_);
+}
+static inline uint32_t yalivucu_pieces_bc1a(struct yalivucu_pieces *state, size_t width, size_t height, size_t pitch, const uint32_t *image, size_t image_len)
+{
+    return yalivucu_start_bc1a(width, height, pitch, image, image_len, state->numbers_, state->kept_);
+}
+static inline uint32_t yalivucu_pieces_bc3(struct yalivucu_pieces *state, size_t width, size_t height, size_t pitch, const uint32_t *image, size_t image_len)
+{
+    return yalivucu_start_bc3(width, height, pitch, image, image_len, state->numbers_, state->kept_);
+}
+static inline uint32_t yalivucu_pieces_take(struct yalivucu_pieces *state, const uint8_t *bytes, size_t bytes_len, uint32_t *image, size_t image_len, size_t *painted, size_t *unused)
+{
+    return yalivucu_take_piece(state->numbers_, state->kept_, bytes, bytes_len, image, image_len, painted, unused);
+}
+static inline uint32_t yalivucu_pieces_end(const struct yalivucu_pieces *state)
+{
+    return yalivucu_end_pieces(state->numbers_, state->kept_);
+}
 
 #ifdef __cplusplus
 }

@@ -79,12 +79,26 @@ build_decoders() {
     GALLIUM_DRIVER=softpipe
     export GALLIUM_DRIVER
     install_packages gcc libc6-dev libegl1 libegl-mesa0 libgles2 libgl1-mesa-dri libegl-dev libgles-dev \
-        android-libetc1-dev
+        android-libetc1-dev g++ libsquish-dev
     gcc -O2 -o "$room/mesa" "$top/oracle/mesa.c" -lEGL -lGLESv2 -lm || die "mesa.c does not build"
     header=$(dpkg -L android-libetc1-dev | grep '/ETC1/etc1\.h$')
     library=$(dpkg -L android-libetc1-dev | grep '/libETC1\.so$')
     gcc -O2 -I "${header%/ETC1/etc1.h}" -o "$room/android" "$top/oracle/android.c" \
         "$library" -Wl,-rpath,"${library%/*}" || die "android.c does not build"
+    g++ -O2 -o "$room/squish" "$top/oracle/squish.cpp" -lsquish || die "squish.cpp does not build"
+}
+
+# The example pictures as Debian's nvcompress encodes them, in BC1 without and with alpha and in BC3.
+encode_pictures() {
+    install_packages libnvtt-bin
+    desktop=$room/desktop
+    rm -rf "$desktop" && mkdir -p "$desktop"
+    for picture in "$top"/examples/*.png; do
+        for format in bc1 bc1a bc3; do
+            nvcompress "-$format" -nomips "$picture" "$desktop/$(basename "$picture" .png)-$format.dds" >"$room/nvcompress.log" 2>&1 ||
+                die "nvcompress fails (target/oracle/nvcompress.log says why)"
+        done
+    done
 }
 
 # piglit takes 2 GB where it is installed, and 18 small files of it are wanted: those

@@ -29,6 +29,12 @@ pub enum Half {
     Punched,
     Alpha,
     Channel,
+    /// Two colours in any order.
+    Desktop,
+    /// Two alphas in any order.
+    DesktopAlpha,
+    /// Two colours of which the first is above the second: there the crate has four in BC3 too.
+    DesktopFour,
 }
 
 #[derive(Clone, Copy)]
@@ -41,11 +47,19 @@ enum Kind {
 }
 
 pub fn random(count: usize, halves: &[Half], random: &mut Random) -> Vec<u8> {
-    (0..count * halves.len() * 8).map(|_| random.next() as u8).collect()
+    let mut data: Vec<u8> = (0..count * halves.len() * 8).map(|_| random.next() as u8).collect();
+    for (block, half) in data.chunks_exact_mut(8).zip(halves.iter().cycle()) {
+        if *half == Half::DesktopFour {
+            block[1] |= 0x80;
+            block[3] &= 0x7f;
+        }
+    }
+    data
 }
 
 /// Runs of 1 to 32 blocks of one kind: 78 % differential, 13 % individual, 3 % each of T, H
-/// and planar; a tenth of the RGBA1 runs and a quarter of the alpha runs are transparent or flat.
+/// and planar; a tenth of the RGBA1 runs and a quarter of the alpha runs are transparent or flat;
+/// a tenth of the BC1 runs have three colours.
 pub fn natural(count: usize, halves: &[Half], random: &mut Random) -> Vec<u8> {
     let mut data = Vec::with_capacity(count * halves.len() * 8);
     let mut left = 0;
@@ -63,6 +77,9 @@ pub fn natural(count: usize, halves: &[Half], random: &mut Random) -> Vec<u8> {
                 Half::Punched => punched(kind, share >= 10, random),
                 Half::Alpha => alpha(share < 25, random),
                 Half::Channel => alpha(false, random),
+                Half::Desktop => desktop(share >= 10, random),
+                Half::DesktopAlpha => desktop_alpha(share < 25, random),
+                Half::DesktopFour => desktop(true, random),
             });
         }
     }
@@ -130,5 +147,28 @@ fn alpha(flat: bool, random: &mut Random) -> [u8; 8] {
     block[6..].copy_from_slice(&(random.next() as u16).to_le_bytes());
     let multiplier = if flat { 0 } else { 1 + random.below(15) as u8 };
     block[1] = multiplier << 4 | block[1] & 15;
+    block
+}
+
+/// Four colours near each other, or three.
+fn desktop(four: bool, random: &mut Random) -> [u8; 8] {
+    let mut block = random.next().to_le_bytes();
+    block[6..].copy_from_slice(&(random.next() as u16).to_le_bytes());
+    let first = u16::from_le_bytes([block[0], block[1]]).clamp(0x2000, 0xdfff);
+    let second = first - 1 - (random.below(0x1000) as u16);
+    let (p, q) = if four { (first, second) } else { (second, first) };
+    block[..2].copy_from_slice(&p.to_le_bytes());
+    block[2..4].copy_from_slice(&q.to_le_bytes());
+    block
+}
+
+/// A flat half is opaque; any other has sevenths.
+fn desktop_alpha(flat: bool, random: &mut Random) -> [u8; 8] {
+    let mut block = random.next().to_le_bytes();
+    block[6..].copy_from_slice(&(random.next() as u16).to_le_bytes());
+    (block[0], block[1]) = (block[0] | 0x80, block[1] & 0x7f);
+    if flat {
+        return [0xff, 0xff, 0, 0, 0, 0, 0, 0];
+    }
     block
 }

@@ -14,7 +14,7 @@ pub struct Format {
     pub given: Reader,
 }
 
-pub const FORMATS: [Format; 7] = [
+pub const FORMATS: [Format; 10] = [
     Format {
         name: "ETC1",
         halves: &[Half::Colour],
@@ -63,6 +63,27 @@ pub const FORMATS: [Format; 7] = [
         library: yalivucu::decode_eacrg,
         pitched: Some(yalivucu::decode_eacrg_pitched),
         given: given::decode_eacrg,
+    },
+    Format {
+        name: "BC1",
+        halves: &[Half::Desktop],
+        library: yalivucu::decode_bc1,
+        pitched: Some(yalivucu::decode_bc1_pitched),
+        given: given::decode_bc1,
+    },
+    Format {
+        name: "BC1a",
+        halves: &[Half::Desktop],
+        library: yalivucu::decode_bc1a,
+        pitched: Some(yalivucu::decode_bc1a_pitched),
+        given: given::decode_bc1a,
+    },
+    Format {
+        name: "BC3",
+        halves: &[Half::DesktopAlpha, Half::DesktopFour],
+        library: yalivucu::decode_bc3,
+        pitched: Some(yalivucu::decode_bc3_pitched),
+        given: given::decode_bc3,
     },
 ];
 

@@ -1,27 +1,54 @@
 //! The readers with a pitch: the same pictures into rows with a gap.
 use crate::blocks::Random;
-use crate::formats::{Format, Pitched};
-use crate::{median, timed, Maker, SEED, SIDE, TURNS};
+use crate::formats::{Format, Pitched, FORMATS};
+use crate::{turn_by_turn, Maker, SEED, SIDE, TURNS};
 use std::hint::black_box;
 
 /// The elements between two rows.
 const GAP: usize = 16;
 const STOOD: u32 = 0x1111_1111;
 
-/// One row, and whether the pixels are those of the twin without a pitch and the gaps as they were.
-pub fn print(format: &Format, make: Maker) -> bool {
-    let Some(pitched) = format.pitched else { return true };
+/// A table of the readers without and with a gap, and whether all pixels are the same and the gaps as they were.
+pub fn print(title: &str, make: Maker) -> bool {
+    println!("{SIDE} x {SIDE}, {title}; milliseconds, medians of {TURNS} turns");
+    println!(
+        "| format | pitch {SIDE} | pitch {} | ratio | same pixels, gaps kept |",
+        SIDE + GAP
+    );
+    println!("|---|---|---|---|---|");
+    let mut alike = true;
+    for format in &FORMATS {
+        if let Some(pitched) = format.pitched {
+            alike &= row(format, pitched, make);
+        }
+    }
+    println!();
+    alike
+}
+
+fn row(format: &Format, pitched: Pitched, make: Maker) -> bool {
     let data = make(SIDE * SIDE / 16, format.halves, &mut Random::new(SEED));
-    let pitch = SIDE + GAP;
-    let mut image = vec![0; pitch * SIDE];
-    let turns = (0..TURNS).map(|_| {
-        timed(&mut image, |image| {
-            pitched(black_box(&data), SIDE, SIDE, pitch, black_box(image)).expect("the library refused");
-        })
-    });
-    let taken = median(turns.collect());
-    let told = if same(format, pitched, &data, &mut image) { "yes" } else { "NO" };
-    println!("| {}, pitch {pitch} | | {:.2} | | {told} |", format.name, taken * 1e3);
+    let mut image = vec![0; (SIDE + GAP) * SIDE];
+    let read = |image: &mut [u32], pitch: usize| {
+        pitched(black_box(&data), SIDE, SIDE, pitch, black_box(image)).expect("the library refused");
+    };
+    let (plain, gapped) = turn_by_turn(
+        TURNS,
+        &mut image,
+        |image| read(image, SIDE),
+        |image| read(image, SIDE + GAP),
+    );
+    let told = if same(format, pitched, &data, &mut image) {
+        "yes"
+    } else {
+        "NO"
+    };
+    let (name, ratio) = (format.name, gapped / plain);
+    println!(
+        "| {name} | {:.2} | {:.2} | {ratio:.2} | {told} |",
+        plain * 1e3,
+        gapped * 1e3
+    );
     told == "yes"
 }
 

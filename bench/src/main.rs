@@ -5,12 +5,13 @@ mod blocks;
 mod clock;
 mod formats;
 mod gap;
+mod pieces;
 mod sheet;
 
 use blocks::Random;
 use formats::{Format, FORMATS};
 use std::hint::black_box;
-use yalivucu::typed::{census_etc2_rgb, census_etc2_rgba1, Picture};
+use yalivucu::typed::{self, census_etc2_rgb, census_etc2_rgba1, Picture};
 
 const SIDE: usize = 2048;
 const TURNS: usize = 31;
@@ -30,9 +31,6 @@ fn main() {
         for format in &FORMATS {
             alike &= compared(format, make);
         }
-        for format in &FORMATS {
-            alike &= gap::print(format, make);
-        }
         android::print(
             SIDE,
             TURNS,
@@ -41,7 +39,15 @@ fn main() {
         counted(make);
         let halves = [blocks::Half::Alpha, blocks::Half::Colour];
         alike &= sheet::print(SIDE, TURNS, &make(SIDE * SIDE / 16, &halves, &mut Random::new(SEED)));
+        for (name, format, halves) in [
+            ("RGB", typed::Format::Etc2Rgb, &[blocks::Half::Colour][..]),
+            ("RGBA8", typed::Format::Etc2Rgba8, &halves),
+        ] {
+            let data = make(SIDE * SIDE / 16, halves, &mut Random::new(SEED));
+            alike &= pieces::print(name, format, SIDE, TURNS, &data);
+        }
         println!();
+        alike &= gap::print(title, make);
     }
     println!("filling the image alone: {:.2} ms\n", filled(SIDE));
     growth();
@@ -113,31 +119,46 @@ fn growth() {
 }
 
 /// The medians of crate and library, in seconds a picture. The data has so many pictures, which
-/// a turn reads with the one and then with the other; the image is cleared before, untimed.
+/// a turn reads with the one and then with the other.
 fn alternated(format: &Format, data: &[u8], side: usize, pictures: usize, turns: usize) -> (f64, f64) {
     let mut image = vec![0; side * side];
-    let mut taken = [vec![], vec![]];
     let each = data.len() / pictures;
-    for _ in 0..turns {
-        let theirs = timed(&mut image, |image| {
+    let (theirs, ours) = turn_by_turn(
+        turns,
+        &mut image,
+        |image| {
             for picture in data.chunks(each) {
                 (format.given)(black_box(picture), side, side, black_box(&mut *image)).expect("the crate refused");
             }
-        });
-        let ours = timed(&mut image, |image| {
+        },
+        |image| {
             for picture in data.chunks(each) {
                 (format.library)(black_box(picture), side, side, black_box(&mut *image)).expect("the library refused");
             }
-        });
-        taken[0].push(theirs / pictures as f64);
-        taken[1].push(ours / pictures as f64);
+        },
+    );
+    (theirs / pictures as f64, ours / pictures as f64)
+}
+
+/// The medians of two ways of working, in seconds: in each turn the one and then the other, so that
+/// a processor whose speed changes serves both alike. The image is cleared before, untimed.
+pub fn turn_by_turn(
+    turns: usize,
+    image: &mut [u32],
+    first: impl Fn(&mut [u32]),
+    second: impl Fn(&mut [u32]),
+) -> (f64, f64) {
+    let mut taken = [vec![], vec![]];
+    for _ in 0..turns {
+        taken[0].push(timed(image, &first));
+        taken[1].push(timed(image, &second));
     }
-    let [theirs, ours] = taken.map(median);
-    (theirs, ours)
+    let [first, second] = taken.map(median);
+    (first, second)
 }
 
 /// Seconds of work on an image that is cleared first.
-pub fn timed(image: &mut [u32], work: impl Fn(&mut [u32])) -> f64 {
+fn timed(image: &mut [u32], work: impl Fn(&mut [u32])) -> f64 {
     image.fill(0);
     let began = clock::seconds();
     work(black_box(image));

@@ -46,6 +46,9 @@ static void pictures(void)
         {"eacr_signed", yalivucu_decode_eacr_signed, 8, 0xff7f0000},
         {"eacrg", yalivucu_decode_eacrg, 16, 0xff000000},
         {"eacrg_signed", yalivucu_decode_eacrg_signed, 16, 0xff7f7f00},
+        {"bc1", yalivucu_decode_bc1, 8, 0xff000000},
+        {"bc1a", yalivucu_decode_bc1a, 8, 0xff000000},
+        {"bc3", yalivucu_decode_bc3, 16, 0x00000000},
     };
     for (size_t k = 0; k < sizeof row / sizeof *row; k++) {
         clear();
@@ -78,6 +81,9 @@ static void pitched(void)
         {"eacr_signed_pitched", yalivucu_decode_eacr_signed_pitched, 8, 0xff7f0000},
         {"eacrg_pitched", yalivucu_decode_eacrg_pitched, 16, 0xff000000},
         {"eacrg_signed_pitched", yalivucu_decode_eacrg_signed_pitched, 16, 0xff7f7f00},
+        {"bc1_pitched", yalivucu_decode_bc1_pitched, 8, 0xff000000},
+        {"bc1a_pitched", yalivucu_decode_bc1a_pitched, 8, 0xff000000},
+        {"bc3_pitched", yalivucu_decode_bc3_pitched, 16, 0x00000000},
     };
     for (size_t k = 0; k < sizeof row / sizeof *row; k++) {
         const char *name = row[k].name;
@@ -178,6 +184,9 @@ static void blocks(void)
         {"eacrg_block", yalivucu_decode_eacrg_block, 16, 0xff000000},
         {"eacrg_signed_block", yalivucu_decode_eacrg_signed_block, 16, 0xff7f7f00},
         {"etc2_a8_block", yalivucu_decode_etc2_a8_block, 8, 0x00111111},
+        {"bc1_block", yalivucu_decode_bc1_block, 8, 0xff000000},
+        {"bc1a_block", yalivucu_decode_bc1a_block, 8, 0xff000000},
+        {"bc3_block", yalivucu_decode_bc3_block, 16, 0x00000000},
     };
     for (size_t k = 0; k < sizeof row / sizeof *row; k++) {
         clear();
@@ -203,6 +212,30 @@ static void channels(void)
     same("eac_signed_block", yalivucu_decode_eac_signed_block(ZERO, 8, 0, image, 16), YALIVUCU_DONE);
     same("eac_signed_block, blue", image[0], 0x117d117f);
     untouched("eac_block", 16);
+}
+
+/* The thirds of black and white whatever their order in BC3, and black or nothing in BC1; the alpha half into a channel. */
+static void desktop(void)
+{
+    const uint8_t block[16] = {0xff, 0, 0, 0, 0, 0, 0, 0, 0, 0, 0xff, 0xff, 0xe4};
+    clear();
+    same("bc3", yalivucu_decode_bc3(block, 16, 4, 1, image, MOST), YALIVUCU_DONE);
+    same("bc3, index 2", image[2], 0xff555555);
+    same("bc3, index 3", image[3], 0xffaaaaaa);
+    same("bc1", yalivucu_decode_bc1(block + 8, 8, 4, 1, image, MOST), YALIVUCU_DONE);
+    same("bc1, index 2", image[2], 0xff7f7f7f);
+    same("bc1, index 3", image[3], 0xff000000);
+    same("bc1a", yalivucu_decode_bc1a(block + 8, 8, 4, 1, image, MOST), YALIVUCU_DONE);
+    same("bc1a, index 3", image[3], 0);
+    untouched("bc1", 4);
+    clear();
+    same("bc3_alpha, channel 4", yalivucu_decode_bc3_alpha(block, 7, 4, image, 15), YALIVUCU_NO_CHANNEL);
+    same("bc3_alpha, short", yalivucu_decode_bc3_alpha(block, 7, 3, image, 15), YALIVUCU_SHORT_DATA);
+    same("bc3_alpha, narrow", yalivucu_decode_bc3_alpha(block, 8, 3, image, 15), YALIVUCU_SHORT_IMAGE);
+    untouched("bc3_alpha, refused", 0);
+    same("bc3_alpha", yalivucu_decode_bc3_alpha(block, 8, 2, image, MOST), YALIVUCU_DONE);
+    same("bc3_alpha, red", image[15], 0x11ff1111);
+    untouched("bc3_alpha", 16);
 }
 
 /* Blocks of the specimens: individual, differential, T, H, planar; and T with its bit clear. */
@@ -278,6 +311,69 @@ static void sheets(void)
     untouched("sheet, refused", 0);
 }
 
+/* A picture of 5 by 5 in rows of 6, in pieces of every length, beside the plain reader. */
+static void pieces(void)
+{
+    const struct {
+        const char *name;
+        uint32_t (*start)(struct yalivucu_pieces *, size_t, size_t, size_t, const uint32_t *, size_t);
+        uint32_t (*read)(const uint8_t *, size_t, size_t, size_t, size_t, uint32_t *, size_t);
+        size_t size;
+    } row[] = {
+        {"pieces_etc1", yalivucu_pieces_etc1, yalivucu_decode_etc1_pitched, 8},
+        {"pieces_etc2_rgb", yalivucu_pieces_etc2_rgb, yalivucu_decode_etc2_rgb_pitched, 8},
+        {"pieces_etc2_rgba1", yalivucu_pieces_etc2_rgba1, yalivucu_decode_etc2_rgba1_pitched, 8},
+        {"pieces_etc2_rgba8", yalivucu_pieces_etc2_rgba8, yalivucu_decode_etc2_rgba8_pitched, 16},
+        {"pieces_eacr", yalivucu_pieces_eacr, yalivucu_decode_eacr_pitched, 8},
+        {"pieces_eacr_signed", yalivucu_pieces_eacr_signed, yalivucu_decode_eacr_signed_pitched, 8},
+        {"pieces_eacrg", yalivucu_pieces_eacrg, yalivucu_decode_eacrg_pitched, 16},
+        {"pieces_eacrg_signed", yalivucu_pieces_eacrg_signed, yalivucu_decode_eacrg_signed_pitched, 16},
+        {"pieces_bc1", yalivucu_pieces_bc1, yalivucu_decode_bc1_pitched, 8},
+        {"pieces_bc1a", yalivucu_pieces_bc1a, yalivucu_decode_bc1a_pitched, 8},
+        {"pieces_bc3", yalivucu_pieces_bc3, yalivucu_decode_bc3_pitched, 16},
+    };
+    uint8_t data[67];
+    uint32_t plain[MOST];
+    for (size_t k = 0; k < sizeof data; k++) data[k] = (uint8_t)(k * k * 5 + 89 * k + 7);
+    for (size_t k = 0; k < sizeof row / sizeof *row; k++) {
+        struct yalivucu_pieces state;
+        const char *name = row[k].name;
+        size_t all = 4 * row[k].size, painted = 77, unused = 77;
+        clear();
+        same(name, row[k].start(&state, 5, 5, 65537, image, 0), YALIVUCU_TOO_LARGE);
+        same(name, row[k].start(&state, 5, 5, 4, image, 0), YALIVUCU_SHORT_PITCH);
+        same(name, row[k].start(&state, 5, 5, 6, image, 28), YALIVUCU_SHORT_IMAGE);
+        same(name, row[k].start(&state, 0, 5, 0, NULL, 0), YALIVUCU_DONE);
+        same(name, yalivucu_pieces_end(&state), YALIVUCU_DONE);
+        same(name, row[k].read(data, all, 5, 5, 6, image, MOST), YALIVUCU_DONE);
+        memcpy(plain, image, sizeof plain);
+        for (size_t length = 1; length <= all + 3; length++) {
+            size_t blocks = 0;
+            clear();
+            same(name, row[k].start(&state, 5, 5, 6, image, MOST), YALIVUCU_DONE);
+            same(name, yalivucu_pieces_end(&state), YALIVUCU_SHORT_DATA);
+            for (size_t at = 0; at < all; at += length) {
+                size_t left = all + 3 - at, n = left < length ? left : length;
+                same(name, yalivucu_pieces_take(&state, data + at, n, image, 28, &painted, &unused), YALIVUCU_SHORT_IMAGE);
+                same(name, (uint32_t)painted, 0);
+                same(name, (uint32_t)unused, (uint32_t)n);
+                same(name, yalivucu_pieces_take(&state, data + at, n, image, MOST, &painted, &unused), YALIVUCU_DONE);
+                same(name, (uint32_t)unused, (uint32_t)(at + n > all ? at + n - all : 0));
+                blocks += painted;
+                same(name, yalivucu_pieces_take(&state, NULL, 0, image, MOST, &painted, &unused), YALIVUCU_DONE);
+                same(name, (uint32_t)painted, 0);
+            }
+            same(name, (uint32_t)blocks, 4);
+            same(name, yalivucu_pieces_end(&state), YALIVUCU_DONE);
+            same(name, (uint32_t)memcmp(plain, image, sizeof plain), 0);
+        }
+        /* a state that somebody spoilt is a state */
+        memset(&state, 0xff, sizeof state);
+        same(name, yalivucu_pieces_take(&state, data, all, image, MOST, &painted, &unused), YALIVUCU_TOO_LARGE);
+        same(name, yalivucu_pieces_end(&state), YALIVUCU_TOO_LARGE);
+    }
+}
+
 int main(void)
 {
     pictures();
@@ -287,8 +383,10 @@ int main(void)
     strict_pitched();
     blocks();
     channels();
+    desktop();
     censuses();
     sheets();
+    pieces();
     puts(failures ? "C: FAILED" : "C: passed");
     return failures != 0;
 }

@@ -1,5 +1,5 @@
-//! ETC1, ETC2 and EAC textures, read by code that is proved to follow the Khronos text: a
-//! drop-in for the ETC part of `texture2ddecoder`, with its function names and their exact types.
+//! ETC1, ETC2, EAC, BC1 and BC3 textures, read by code that is proved to follow the public rules: a
+//! drop-in for those parts of `texture2ddecoder`, with its function names and their exact types.
 //!
 //! A viewer moves over by one line of `Cargo.toml`, and its source does not change:
 //!
@@ -27,6 +27,7 @@
 #![warn(missing_docs)]
 
 mod census;
+mod pieces;
 mod refusal;
 mod sheet;
 mod sys;
@@ -160,6 +161,12 @@ pictures! {
     decode_eacrg, decode_eacrg_pitched = EacRg;
     /// Reads a signed EAC RG picture, in blocks of 16 bytes.
     decode_eacrg_signed, decode_eacrg_signed_pitched = EacRgSigned;
+    /// Reads a BC1 picture without alpha, in blocks of 8 bytes.
+    decode_bc1, decode_bc1_pitched = Bc1;
+    /// Reads a BC1 picture with one bit of alpha, in blocks of 8 bytes.
+    decode_bc1a, decode_bc1a_pitched = Bc1Alpha;
+    /// Reads a BC3 picture, in blocks of 16 bytes.
+    decode_bc3, decode_bc3_pitched = Bc3;
 }
 
 blocks! {
@@ -179,6 +186,12 @@ blocks! {
     decode_eacrg_block = of(Format::EacRg);
     /// Reads a signed EAC RG block of 16 bytes into the elements 0 to 15, row by row.
     decode_eacrg_signed_block = of(Format::EacRgSigned);
+    /// Reads a BC1 block of 8 bytes without alpha into the elements 0 to 15, row by row.
+    decode_bc1_block = of(Format::Bc1);
+    /// Reads a BC1 block of 8 bytes with one bit of alpha into the elements 0 to 15, row by row.
+    decode_bc1a_block = of(Format::Bc1Alpha);
+    /// Reads a BC3 block of 16 bytes into the elements 0 to 15, row by row.
+    decode_bc3_block = of(Format::Bc3);
     /// Reads an alpha half of 8 bytes into the top bytes of the elements 0 to 15, and keeps
     /// the rest of them.
     decode_etc2_a8_block = typed::read_alpha;
@@ -190,4 +203,23 @@ channels! {
     decode_eac_block = typed::read_channel;
     /// The same of a signed EAC block.
     decode_eac_signed_block = typed::read_channel_signed;
+}
+
+/// Reads the alpha half of a BC3 block, 8 bytes, into channel 0 blue, 1 green, 2 red or 3 alpha of the
+/// elements 0 to 15, in place of the byte that stood there. The crate has this function with this type
+/// in a module of its own; it runs over all of `outbuf`, and this one stops after element 15.
+///
+/// # Panics
+///
+/// Where `channel` is above 3, `data` has fewer than 8 bytes, or `outbuf` fewer than 16 elements;
+/// nothing is written then. [`typed::replace_channel`] refuses instead.
+///
+/// ```
+/// let mut pixels = [0x00112233; 17];
+/// yalivucu::decode_bc3_alpha(&[0x80, 0, 0, 0, 0, 0, 0, 0], &mut pixels, 3);
+/// assert_eq!(pixels[..16], [0x80112233; 16]);
+/// assert_eq!(pixels[16], 0x00112233);
+/// ```
+pub fn decode_bc3_alpha(data: &[u8], outbuf: &mut [u32], channel: usize) {
+    shown(typed::replace_channel(data, channel, outbuf));
 }

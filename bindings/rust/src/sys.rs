@@ -2,6 +2,7 @@
 //! pointer and its length.
 
 pub type Picture = unsafe extern "C" fn(*const u8, usize, usize, usize, usize, *mut u32, usize) -> u32;
+pub type Start = unsafe extern "C" fn(usize, usize, usize, *const u32, usize, *mut [usize; 5], *mut [u8; 15]) -> u32;
 pub type Block = unsafe extern "C" fn(*const u8, usize, *mut u32, usize) -> u32;
 pub type Channel = unsafe extern "C" fn(*const u8, usize, usize, *mut u32, usize) -> u32;
 
@@ -20,6 +21,11 @@ macro_rules! declared_channel {
         pub fn $name(data: *const u8, data_len: usize, channel: usize, out: *mut u32, out_len: usize) -> u32;
     )*};
 }
+macro_rules! declared_start {
+    ($($name:ident)*) => {$(
+        pub fn $name(width: usize, height: usize, pitch: usize, image: *const u32, image_len: usize, numbers: *mut [usize; 5], kept: *mut [u8; 15]) -> u32;
+    )*};
+}
 macro_rules! declared_census {
     ($($name:ident)*) => {$(
         pub fn $name(data: *const u8, data_len: usize, width: usize, height: usize, counts: *mut usize, counts_len: usize) -> u32;
@@ -36,6 +42,9 @@ extern "C" {
         yalivucu_decode_eacr_signed_pitched
         yalivucu_decode_eacrg_pitched
         yalivucu_decode_eacrg_signed_pitched
+        yalivucu_decode_bc1_pitched
+        yalivucu_decode_bc1a_pitched
+        yalivucu_decode_bc3_pitched
     }
     declared_block! {
         yalivucu_decode_etc1_block
@@ -46,11 +55,28 @@ extern "C" {
         yalivucu_decode_eacr_signed_block
         yalivucu_decode_eacrg_block
         yalivucu_decode_eacrg_signed_block
+        yalivucu_decode_bc1_block
+        yalivucu_decode_bc1a_block
+        yalivucu_decode_bc3_block
         yalivucu_decode_etc2_a8_block
     }
     declared_channel! {
         yalivucu_decode_eac_block
         yalivucu_decode_eac_signed_block
+        yalivucu_decode_bc3_alpha
+    }
+    declared_start! {
+        yalivucu_start_etc1
+        yalivucu_start_etc2_rgb
+        yalivucu_start_etc2_rgba1
+        yalivucu_start_etc2_rgba8
+        yalivucu_start_eacr
+        yalivucu_start_eacr_signed
+        yalivucu_start_eacrg
+        yalivucu_start_eacrg_signed
+        yalivucu_start_bc1
+        yalivucu_start_bc1a
+        yalivucu_start_bc3
     }
     declared_census! {
         yalivucu_census_etc2_rgb
@@ -84,4 +110,15 @@ extern "C" {
         room_len: usize,
         written: *mut usize,
     ) -> u32;
+    pub fn yalivucu_take_piece(
+        numbers: *mut [usize; 5],
+        kept: *mut [u8; 15],
+        bytes: *const u8,
+        bytes_len: usize,
+        image: *mut u32,
+        image_len: usize,
+        painted: *mut usize,
+        unused: *mut usize,
+    ) -> u32;
+    pub fn yalivucu_end_pieces(numbers: *const [usize; 5], kept: *const [u8; 15]) -> u32;
 }

@@ -11,6 +11,7 @@
 //! # Ok::<(), Refusal>(())
 //! ```
 pub use crate::census::{census_etc2_rgb, census_etc2_rgba1, KindCounts, RgbCounts, Rgba1Counts};
+pub use crate::pieces::{Pieces, Taken};
 pub use crate::refusal::Refusal;
 pub use crate::sheet::{read_sheet, sheet_head, write_sheet, Head};
 use crate::sys;
@@ -35,11 +36,17 @@ pub enum Format {
     EacRg,
     /// Signed EAC RG into red and green, in blocks of 16 bytes.
     EacRgSigned,
+    /// BC1 without alpha, in blocks of 8 bytes; the last of three colours is black.
+    Bc1,
+    /// BC1 with one bit of alpha, in blocks of 8 bytes; the last of three colours is 0.
+    Bc1Alpha,
+    /// BC3, in blocks of 16 bytes; always four colours, and eight bits of alpha.
+    Bc3,
 }
 
 impl Format {
     /// Every format.
-    pub const ALL: [Format; 8] = [
+    pub const ALL: [Format; 11] = [
         Format::Etc1,
         Format::Etc2Rgb,
         Format::Etc2Rgba1,
@@ -48,6 +55,9 @@ impl Format {
         Format::EacRSigned,
         Format::EacRg,
         Format::EacRgSigned,
+        Format::Bc1,
+        Format::Bc1Alpha,
+        Format::Bc3,
     ];
 
     /// The bytes of a block.
@@ -57,7 +67,7 @@ impl Format {
     /// ```
     pub const fn block_size(self) -> usize {
         match self {
-            Format::Etc2Rgba8 | Format::EacRg | Format::EacRgSigned => 16,
+            Format::Etc2Rgba8 | Format::EacRg | Format::EacRgSigned | Format::Bc3 => 16,
             _ => 8,
         }
     }
@@ -72,6 +82,25 @@ impl Format {
             Format::EacRSigned => sys::yalivucu_decode_eacr_signed_pitched,
             Format::EacRg => sys::yalivucu_decode_eacrg_pitched,
             Format::EacRgSigned => sys::yalivucu_decode_eacrg_signed_pitched,
+            Format::Bc1 => sys::yalivucu_decode_bc1_pitched,
+            Format::Bc1Alpha => sys::yalivucu_decode_bc1a_pitched,
+            Format::Bc3 => sys::yalivucu_decode_bc3_pitched,
+        }
+    }
+
+    pub(crate) fn starter(self) -> sys::Start {
+        match self {
+            Format::Etc1 => sys::yalivucu_start_etc1,
+            Format::Etc2Rgb => sys::yalivucu_start_etc2_rgb,
+            Format::Etc2Rgba1 => sys::yalivucu_start_etc2_rgba1,
+            Format::Etc2Rgba8 => sys::yalivucu_start_etc2_rgba8,
+            Format::EacR => sys::yalivucu_start_eacr,
+            Format::EacRSigned => sys::yalivucu_start_eacr_signed,
+            Format::EacRg => sys::yalivucu_start_eacrg,
+            Format::EacRgSigned => sys::yalivucu_start_eacrg_signed,
+            Format::Bc1 => sys::yalivucu_start_bc1,
+            Format::Bc1Alpha => sys::yalivucu_start_bc1a,
+            Format::Bc3 => sys::yalivucu_start_bc3,
         }
     }
 
@@ -85,6 +114,9 @@ impl Format {
             Format::EacRSigned => sys::yalivucu_decode_eacr_signed_block,
             Format::EacRg => sys::yalivucu_decode_eacrg_block,
             Format::EacRgSigned => sys::yalivucu_decode_eacrg_signed_block,
+            Format::Bc1 => sys::yalivucu_decode_bc1_block,
+            Format::Bc1Alpha => sys::yalivucu_decode_bc1a_block,
+            Format::Bc3 => sys::yalivucu_decode_bc3_block,
         }
     }
 }
@@ -277,6 +309,22 @@ pub fn read_channel(data: &[u8], channel: usize, out: &mut [u32]) -> Result<(), 
 /// ```
 pub fn read_channel_signed(data: &[u8], channel: usize, out: &mut [u32]) -> Result<(), Refusal> {
     channel_by(sys::yalivucu_decode_eac_signed_block, data, channel, out)
+}
+
+/// Reads the alpha half of a BC3 block, 8 bytes, into channel 0 blue, 1 green, 2 red or 3 alpha of
+/// the elements 0 to 15, in place of the byte that stood there. Refuses as [`read_channel`] does.
+///
+/// ```
+/// use yalivucu::typed::{replace_channel, Refusal};
+///
+/// let mut out = [0x11223344; 17];
+/// assert_eq!(replace_channel(&[0xff, 0, 0, 0, 0, 0, 0, 0], 2, &mut out), Ok(()));
+/// assert_eq!(out[..16], [0x11ff3344; 16]);
+/// assert_eq!(out[16], 0x11223344);
+/// assert_eq!(replace_channel(&[0; 8], 4, &mut out), Err(Refusal::NoChannel));
+/// ```
+pub fn replace_channel(data: &[u8], channel: usize, out: &mut [u32]) -> Result<(), Refusal> {
+    channel_by(sys::yalivucu_decode_bc3_alpha, data, channel, out)
 }
 
 fn block_by(reader: sys::Block, data: &[u8], out: &mut [u32]) -> Result<(), Refusal> {

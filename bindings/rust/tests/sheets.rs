@@ -20,9 +20,27 @@ fn sheet_of(format: Format, picture: Picture) -> Vec<u8> {
     room
 }
 
+/// The formats that have a number in a sheet, and those that have none.
+fn by_number() -> (Vec<Format>, Vec<Format>) {
+    let none = [Format::Bc1, Format::Bc1Alpha, Format::Bc3];
+    Format::ALL.into_iter().partition(|format| !none.contains(format))
+}
+
+#[test]
+fn a_format_without_a_number_is_refused() {
+    for format in by_number().1 {
+        let mut room = [0xEE; 64];
+        assert_eq!(
+            write_sheet(format, Picture::new(4, 4), &[0; 16], &mut room),
+            Err(Refusal::NoHead)
+        );
+        assert_eq!(room, [0xEE; 64]);
+    }
+}
+
 #[test]
 fn a_sheet_shows_what_the_plain_reader_shows() {
-    for format in Format::ALL {
+    for format in by_number().0 {
         for (width, height) in [(0, 0), (7, 0), (1, 1), (4, 4), (9, 5), (16384, 1)] {
             let picture = Picture::new(width, height);
             let sheet = sheet_of(format, picture);

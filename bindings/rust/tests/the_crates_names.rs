@@ -8,7 +8,7 @@ type Channel = fn(&[u8], usize, &mut [u32]);
 
 const STOOD: u32 = 0x1111_1111;
 
-const PICTURES: [(Picture, usize); 8] = [
+const PICTURES: [(Picture, usize); 11] = [
     (decode_etc1, 8),
     (decode_etc2_rgb, 8),
     (decode_etc2_rgba1, 8),
@@ -17,12 +17,15 @@ const PICTURES: [(Picture, usize); 8] = [
     (decode_eacr_signed, 8),
     (decode_eacrg, 16),
     (decode_eacrg_signed, 16),
+    (decode_bc1, 8),
+    (decode_bc1a, 8),
+    (decode_bc3, 16),
 ];
 
 type Pitched = fn(&[u8], usize, usize, usize, &mut [u32]) -> Result<(), &'static str>;
 
 /// The twins that take a pitch, in the same order.
-const PITCHED: [Pitched; 8] = [
+const PITCHED: [Pitched; 11] = [
     decode_etc1_pitched,
     decode_etc2_rgb_pitched,
     decode_etc2_rgba1_pitched,
@@ -31,9 +34,12 @@ const PITCHED: [Pitched; 8] = [
     decode_eacr_signed_pitched,
     decode_eacrg_pitched,
     decode_eacrg_signed_pitched,
+    decode_bc1_pitched,
+    decode_bc1a_pitched,
+    decode_bc3_pitched,
 ];
 
-const BLOCKS: [(Block, usize); 9] = [
+const BLOCKS: [(Block, usize); 12] = [
     (decode_etc1_block, 8),
     (decode_etc2_rgb_block, 8),
     (decode_etc2_rgba1_block, 8),
@@ -43,9 +49,14 @@ const BLOCKS: [(Block, usize); 9] = [
     (decode_eacr_signed_block, 8),
     (decode_eacrg_block, 16),
     (decode_eacrg_signed_block, 16),
+    (decode_bc1_block, 8),
+    (decode_bc1a_block, 8),
+    (decode_bc3_block, 16),
 ];
 
-const CHANNELS: [Channel; 2] = [decode_eac_block, decode_eac_signed_block];
+const CHANNELS: [Channel; 3] = [decode_eac_block, decode_eac_signed_block, |data, channel, out| {
+    decode_bc3_alpha(data, out, channel)
+}];
 
 #[test]
 fn the_texts_of_refusals() {

@@ -9,7 +9,7 @@ type Reader = fn(&[u8], usize, usize, &mut [u32]) -> Result<(), &'static str>;
 type BlockReader = fn(&[u8], &mut [u32]);
 
 /// A table of function pointers, with the bytes of a block.
-const READERS: [(&str, Reader, usize); 8] = [
+const READERS: [(&str, Reader, usize); 11] = [
     ("etc1", decode_etc1, 8),
     ("etc2_rgb", decode_etc2_rgb, 8),
     ("etc2_rgba1", decode_etc2_rgba1, 8),
@@ -18,6 +18,9 @@ const READERS: [(&str, Reader, usize); 8] = [
     ("eacr_signed", decode_eacr_signed, 8),
     ("eacrg", decode_eacrg, 16),
     ("eacrg_signed", decode_eacrg_signed, 16),
+    ("bc1", decode_bc1, 8),
+    ("bc1a", decode_bc1a, 8),
+    ("bc3", decode_bc3, 16),
 ];
 
 static BLOCK_READERS: &[(&str, BlockReader, usize)] = &[
@@ -30,6 +33,9 @@ static BLOCK_READERS: &[(&str, BlockReader, usize)] = &[
     ("eacr_signed_block", decode_eacr_signed_block, 8),
     ("eacrg_block", decode_eacrg_block, 16),
     ("eacrg_signed_block", decode_eacrg_signed_block, 16),
+    ("bc1_block", decode_bc1_block, 8),
+    ("bc1a_block", decode_bc1a_block, 8),
+    ("bc3_block", decode_bc3_block, 16),
 ];
 
 const CHANNEL_READERS: [(&str, fn(&[u8], usize, &mut [u32])); 2] = [
@@ -85,9 +91,15 @@ impl Random {
 }
 
 /// Blocks of 8 bytes on which the listed differences do not show: an EAC block that reads the
-/// same in both orders of its index bytes, and no signed base of 80 hex. A colour block is free.
-fn blocks(random: &mut Random, bytes: usize, is_eac: bool) -> Vec<u8> {
+/// same in both orders of its index bytes, and no signed base of 80 hex; of BC3 the first colour is above
+/// the second. Any other block is free.
+fn blocks(random: &mut Random, bytes: usize, name: &str) -> Vec<u8> {
+    let is_eac = name.starts_with("eac");
     let mut data: Vec<u8> = (0..bytes).map(|_| random.byte()).collect();
+    for block in data.chunks_exact_mut(16).filter(|_| name.starts_with("bc3")) {
+        block[9] |= 0x80;
+        block[11] &= 0x7f;
+    }
     for block in data.chunks_exact_mut(8).filter(|_| is_eac) {
         if block[0] == 0x80 {
             block[0] = 0x81;
@@ -115,7 +127,7 @@ fn pictures(random: &mut Random) {
         for width in 0..10_usize {
             for height in 0..10_usize {
                 let need = width.div_ceil(4) * height.div_ceil(4) * size;
-                let data = blocks(random, need, name.starts_with("eac"));
+                let data = blocks(random, need, name);
                 let mut image = vec![0x1111_1111; width * height + 3];
                 let told = reader(&data, width, height, &mut image);
                 show(name, told, &image, name == "etc2_rgba1");
@@ -132,15 +144,17 @@ fn pictures(random: &mut Random) {
 fn single_blocks(random: &mut Random) {
     for (name, reader, size) in BLOCK_READERS {
         for _ in 0..1000 {
-            let data = blocks(random, *size, name.starts_with("eac"));
+            let data = blocks(random, *size, name);
+            // the crate's reader of a BC3 block runs on past element 15, which is a listed difference
+            let end = if *name == "bc3_block" { 16 } else { 20 };
             let mut image = [0x0011_1111; 20];
-            reader(&data, &mut image);
+            reader(&data, &mut image[..end]);
             show(name, Ok(()), &image, *name == "etc2_rgba1_block");
         }
     }
     for (name, reader) in CHANNEL_READERS {
         for turn in 0..1000 {
-            let data = blocks(random, 8, true);
+            let data = blocks(random, 8, name);
             let mut image = [0x0102_0304; 20];
             reader(&data, turn % 4, &mut image);
             show(name, Ok(()), &image, false);

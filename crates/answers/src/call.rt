@@ -7,7 +7,7 @@ ghost use Prim.Native.Nat.{_≤_};
 
 // Whether a number names a reader of pictures with a pitch, which stands in the place of a channel.
 fn is_pitched(number: u32) -> bool {
-    number >= 40 && number <= 48
+    number >= 40 && number <= 55
 }
 
 // Calls the reader of a number on the first n bytes and the first m elements.
@@ -47,6 +47,9 @@ fn call(
         };
         return pitched::picture(number, data, pic, image);
     }
+    if number <= 15 {
+        return desktop(number, data, width, height, image);
+    }
     if number <= 20 {
         return colour_block(number, data, image);
     }
@@ -55,6 +58,9 @@ fn call(
     }
     if number == 33 {
         return census::rgba1(data, width, height, image);
+    }
+    if number >= 27 {
+        return desktop_block(number, channel, data, image);
     }
     channel_block(number, channel, data, image)
 }
@@ -87,6 +93,14 @@ fn channels(number: u32, data: &[u8], width: usize, height: usize, image: &mut [
     }
 }
 
+fn desktop(number: u32, data: &[u8], width: usize, height: usize, image: &mut [u32]) -> Answer {
+    match number {
+        13 => etc::decode_bc1(data, width, height, image),
+        14 => etc::decode_bc1a(data, width, height, image),
+        _ => etc::decode_bc3(data, width, height, image),
+    }
+}
+
 fn colour_block(number: u32, data: &[u8], image: &mut [u32]) -> Answer {
     match number {
         16 => etc::decode_etc1_block(data, image),
@@ -105,5 +119,14 @@ fn channel_block(number: u32, channel: usize, data: &[u8], image: &mut [u32]) ->
         24 => etc::decode_eacr_signed_block(data, image),
         25 => etc::decode_eacrg_block(data, image),
         _ => etc::decode_eacrg_signed_block(data, image),
+    }
+}
+
+fn desktop_block(number: u32, channel: usize, data: &[u8], image: &mut [u32]) -> Answer {
+    match number {
+        27 => etc::decode_bc1_block(data, image),
+        28 => etc::decode_bc1a_block(data, image),
+        29 => etc::decode_bc3_block(data, image),
+        _ => etc::decode_bc3_alpha(data, channel, image),
     }
 }

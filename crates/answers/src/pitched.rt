@@ -9,7 +9,18 @@ pub fn picture(number: u32, data: &[u8], pic: Picture, image: &mut [u32]) -> Ans
     if number <= 47 {
         return channels(number, data, pic, image);
     }
+    if number >= 53 {
+        return desktop(number, data, pic, image);
+    }
     etc::decode_etc1_strict_pitched(data, pic, image)
+}
+
+fn desktop(number: u32, data: &[u8], pic: Picture, image: &mut [u32]) -> Answer {
+    match number {
+        53 => etc::decode_bc1_pitched(data, pic, image),
+        54 => etc::decode_bc1a_pitched(data, pic, image),
+        _ => etc::decode_bc3_pitched(data, pic, image),
+    }
 }
 
 fn colours(number: u32, data: &[u8], pic: Picture, image: &mut [u32]) -> Answer {

@@ -1,8 +1,8 @@
 -- Short lists, element by element; and a mixture the other way about.
 -- Assumes nothing.
-use mathlib.Core.Path.{_≡_, ap}
+use mathlib.Core.Path.{_≡_}
 use mathlib.Core.List.{List, [], _∷_}
-use Prim.Native.Nat.{ℕ, _+_, _*_, _/_}
+use Prim.Native.Nat.{ℕ, _*_}
 use native.Mathlib.Nat.{add-comm}
 use lib.ListN.{getD}
 use Rattle.rules.specs.Desktop.{mix, mixture}

@@ -2,7 +2,7 @@
 // seventeen elements of 11111111 (hex) before, so that the last shows what is never touched.
 use rules::Answer;
 
-// The block readers by number; the single channels are 5 and 6.
+// The block readers by number; the single channels are 5 and 6, and the alpha half of BC3 into a channel is 14.
 fn read(reader: u8, channel: usize, data: &[u8], image: &mut [u32]) -> Answer {
     if reader < 5 {
         return colour(reader, data, image);
@@ -13,7 +13,10 @@ fn read(reader: u8, channel: usize, data: &[u8], image: &mut [u32]) -> Answer {
     if reader == 6 {
         return etc::decode_eac_signed_block(data, channel, image);
     }
-    red_and_green(reader, data, image)
+    if reader < 11 {
+        return red_and_green(reader, data, image);
+    }
+    desktop(reader, channel, data, image)
 }
 
 // Readers 0 to 4.
@@ -34,6 +37,16 @@ fn red_and_green(reader: u8, data: &[u8], image: &mut [u32]) -> Answer {
         8 => etc::decode_eacr_signed_block(data, image),
         9 => etc::decode_eacrg_block(data, image),
         _ => etc::decode_eacrg_signed_block(data, image),
+    }
+}
+
+// Readers 11 to 14.
+fn desktop(reader: u8, channel: usize, data: &[u8], image: &mut [u32]) -> Answer {
+    match reader {
+        11 => etc::decode_bc1_block(data, image),
+        12 => etc::decode_bc1a_block(data, image),
+        13 => etc::decode_bc3_block(data, image),
+        _ => etc::decode_bc3_alpha(data, channel, image),
     }
 }
 
@@ -96,6 +109,29 @@ fn channel_specimens() {
         0,
         0x00100000_00000000,
         0x00100000_00000000,
+    );
+}
+
+// Black and white with every index, in both orders, as BC1 without alpha and with it and as BC3, whose alphas are 16 and 243 (10 and F3
+// hex), in both orders too.
+fn desktop_specimens() {
+    case(b"bc1, three", 11, 0, 0x0000FFFF_E4E4E4E4, 0);
+    case(b"bc1, four", 11, 0, 0xFFFF0000_E4E4E4E4, 0);
+    case(b"bc1a, three", 12, 0, 0x0000FFFF_E4E4E4E4, 0);
+    case(b"bc1a, equal", 12, 0, 0xFFFFFFFF_E4E4E4E4, 0);
+    case(
+        b"bc3, fifths",
+        13,
+        0,
+        0x10F388C6_FA538821,
+        0x0000FFFF_E4E4E4E4,
+    );
+    case(
+        b"bc3, sevenths",
+        13,
+        0,
+        0xF31088C6_FA538821,
+        0xFFFF0000_E4E4E4E4,
     );
 }
 
@@ -180,8 +216,10 @@ fn main() {
     channel_specimens();
     channels(5);
     channels(6);
+    desktop_specimens();
+    channels(14);
     let mut reader: u8 = 0;
-    while reader < 11 {
+    while reader < 15 {
         edges(reader);
         reader += 1;
     }

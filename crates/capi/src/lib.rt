@@ -9,10 +9,13 @@ use rules::Rgba1Census;
 use rules::Sheet;
 ghost use mathlib.Core.Path.{_≡_};
 ghost use mathlib.Core.Bool.{true, false};
+ghost use lib.ListN.{length};
 ghost use Rattle.rules.specs.Places.{sized, pitched};
 ghost use Rattle.rules.specs.Readers.{ReadsPicture, ReadsStrict, ReadsBlock, ReadsAlpha, ReadsChannel, ReplacesChannel};
 ghost use Rattle.rules.specs.Census.{rgbTests, rgba1Tests};
 ghost use Rattle.rules.specs.Sheets.{ReadsSheet};
+ghost use Rattle.rules.specs.Pieces.{Ends};
+ghost use Rattle.pieces_lent.specs.Lent.{stateIn, StartLent, PieceLent};
 ghost use Rattle.capi.specs.Census.{CountsInto};
 ghost use Rattle.capi.specs.Told.{Told, blockOr, HeadTold, WriterTold};
 
@@ -716,4 +719,272 @@ pub extern "C" fn yalivucu_write_sheet(
     };
     *written = wrote.bytes;
     0
+}
+
+// Starts to read an ETC1 picture in pieces; the caller keeps the state, in the two arrays.
+#[no_mangle]
+pub extern "C" fn yalivucu_start_etc1(
+    width: usize,
+    height: usize,
+    pitch: usize,
+    image: &[u32],
+    numbers: &mut [usize; 5],
+    kept: &mut [u8; 15],
+) -> u32
+    ensures { λ r. ⌜ Told
+        (λ a. StartLent Format.Etc1 (pitched width height pitch) (length (now (image .entry))) a (now (numbers .exit)) (now (kept .exit)))
+        r ⌝ }
+{
+    let pic = Picture {
+        width: width,
+        height: height,
+        pitch: pitch,
+    };
+    etc::number(pieces_lent::start(Format::Etc1, pic, image, numbers, kept))
+}
+
+// Starts to read an ETC2 RGB picture in pieces; the caller keeps the state, in the two arrays.
+#[no_mangle]
+pub extern "C" fn yalivucu_start_etc2_rgb(
+    width: usize,
+    height: usize,
+    pitch: usize,
+    image: &[u32],
+    numbers: &mut [usize; 5],
+    kept: &mut [u8; 15],
+) -> u32
+    ensures { λ r. ⌜ Told
+        (λ a. StartLent Format.Etc2Rgb (pitched width height pitch) (length (now (image .entry))) a (now (numbers .exit)) (now (kept .exit)))
+        r ⌝ }
+{
+    let pic = Picture {
+        width: width,
+        height: height,
+        pitch: pitch,
+    };
+    etc::number(pieces_lent::start(Format::Etc2Rgb, pic, image, numbers, kept))
+}
+
+// Starts to read an ETC2 RGBA1 picture in pieces; the caller keeps the state, in the two arrays.
+#[no_mangle]
+pub extern "C" fn yalivucu_start_etc2_rgba1(
+    width: usize,
+    height: usize,
+    pitch: usize,
+    image: &[u32],
+    numbers: &mut [usize; 5],
+    kept: &mut [u8; 15],
+) -> u32
+    ensures { λ r. ⌜ Told
+        (λ a. StartLent Format.Etc2Rgba1 (pitched width height pitch) (length (now (image .entry))) a (now (numbers .exit)) (now (kept .exit)))
+        r ⌝ }
+{
+    let pic = Picture {
+        width: width,
+        height: height,
+        pitch: pitch,
+    };
+    etc::number(pieces_lent::start(Format::Etc2Rgba1, pic, image, numbers, kept))
+}
+
+// Starts to read an ETC2 RGBA8 picture in pieces; the caller keeps the state, in the two arrays.
+#[no_mangle]
+pub extern "C" fn yalivucu_start_etc2_rgba8(
+    width: usize,
+    height: usize,
+    pitch: usize,
+    image: &[u32],
+    numbers: &mut [usize; 5],
+    kept: &mut [u8; 15],
+) -> u32
+    ensures { λ r. ⌜ Told
+        (λ a. StartLent Format.Etc2Rgba8 (pitched width height pitch) (length (now (image .entry))) a (now (numbers .exit)) (now (kept .exit)))
+        r ⌝ }
+{
+    let pic = Picture {
+        width: width,
+        height: height,
+        pitch: pitch,
+    };
+    etc::number(pieces_lent::start(Format::Etc2Rgba8, pic, image, numbers, kept))
+}
+
+// Starts to read an EAC R picture in pieces; the caller keeps the state, in the two arrays.
+#[no_mangle]
+pub extern "C" fn yalivucu_start_eacr(
+    width: usize,
+    height: usize,
+    pitch: usize,
+    image: &[u32],
+    numbers: &mut [usize; 5],
+    kept: &mut [u8; 15],
+) -> u32
+    ensures { λ r. ⌜ Told
+        (λ a. StartLent Format.EacR (pitched width height pitch) (length (now (image .entry))) a (now (numbers .exit)) (now (kept .exit)))
+        r ⌝ }
+{
+    let pic = Picture {
+        width: width,
+        height: height,
+        pitch: pitch,
+    };
+    etc::number(pieces_lent::start(Format::EacR, pic, image, numbers, kept))
+}
+
+// Starts to read a signed EAC R picture in pieces; the caller keeps the state, in the two arrays.
+#[no_mangle]
+pub extern "C" fn yalivucu_start_eacr_signed(
+    width: usize,
+    height: usize,
+    pitch: usize,
+    image: &[u32],
+    numbers: &mut [usize; 5],
+    kept: &mut [u8; 15],
+) -> u32
+    ensures { λ r. ⌜ Told
+        (λ a. StartLent Format.EacRSigned (pitched width height pitch) (length (now (image .entry))) a (now (numbers .exit)) (now (kept .exit)))
+        r ⌝ }
+{
+    let pic = Picture {
+        width: width,
+        height: height,
+        pitch: pitch,
+    };
+    etc::number(pieces_lent::start(Format::EacRSigned, pic, image, numbers, kept))
+}
+
+// Starts to read an EAC RG picture in pieces; the caller keeps the state, in the two arrays.
+#[no_mangle]
+pub extern "C" fn yalivucu_start_eacrg(
+    width: usize,
+    height: usize,
+    pitch: usize,
+    image: &[u32],
+    numbers: &mut [usize; 5],
+    kept: &mut [u8; 15],
+) -> u32
+    ensures { λ r. ⌜ Told
+        (λ a. StartLent Format.EacRg (pitched width height pitch) (length (now (image .entry))) a (now (numbers .exit)) (now (kept .exit)))
+        r ⌝ }
+{
+    let pic = Picture {
+        width: width,
+        height: height,
+        pitch: pitch,
+    };
+    etc::number(pieces_lent::start(Format::EacRg, pic, image, numbers, kept))
+}
+
+// Starts to read a signed EAC RG picture in pieces; the caller keeps the state, in the two arrays.
+#[no_mangle]
+pub extern "C" fn yalivucu_start_eacrg_signed(
+    width: usize,
+    height: usize,
+    pitch: usize,
+    image: &[u32],
+    numbers: &mut [usize; 5],
+    kept: &mut [u8; 15],
+) -> u32
+    ensures { λ r. ⌜ Told
+        (λ a. StartLent Format.EacRgSigned (pitched width height pitch) (length (now (image .entry))) a (now (numbers .exit)) (now (kept .exit)))
+        r ⌝ }
+{
+    let pic = Picture {
+        width: width,
+        height: height,
+        pitch: pitch,
+    };
+    etc::number(pieces_lent::start(Format::EacRgSigned, pic, image, numbers, kept))
+}
+
+// Starts to read a BC1 picture without alpha in pieces; the caller keeps the state, in the two arrays.
+#[no_mangle]
+pub extern "C" fn yalivucu_start_bc1(
+    width: usize,
+    height: usize,
+    pitch: usize,
+    image: &[u32],
+    numbers: &mut [usize; 5],
+    kept: &mut [u8; 15],
+) -> u32
+    ensures { λ r. ⌜ Told
+        (λ a. StartLent Format.Bc1 (pitched width height pitch) (length (now (image .entry))) a (now (numbers .exit)) (now (kept .exit)))
+        r ⌝ }
+{
+    let pic = Picture {
+        width: width,
+        height: height,
+        pitch: pitch,
+    };
+    etc::number(pieces_lent::start(Format::Bc1, pic, image, numbers, kept))
+}
+
+// Starts to read a BC1 picture with one bit of alpha in pieces; the caller keeps the state, in the two arrays.
+#[no_mangle]
+pub extern "C" fn yalivucu_start_bc1a(
+    width: usize,
+    height: usize,
+    pitch: usize,
+    image: &[u32],
+    numbers: &mut [usize; 5],
+    kept: &mut [u8; 15],
+) -> u32
+    ensures { λ r. ⌜ Told
+        (λ a. StartLent Format.Bc1Alpha (pitched width height pitch) (length (now (image .entry))) a (now (numbers .exit)) (now (kept .exit)))
+        r ⌝ }
+{
+    let pic = Picture {
+        width: width,
+        height: height,
+        pitch: pitch,
+    };
+    etc::number(pieces_lent::start(Format::Bc1Alpha, pic, image, numbers, kept))
+}
+
+// Starts to read a BC3 picture in pieces; the caller keeps the state, in the two arrays.
+#[no_mangle]
+pub extern "C" fn yalivucu_start_bc3(
+    width: usize,
+    height: usize,
+    pitch: usize,
+    image: &[u32],
+    numbers: &mut [usize; 5],
+    kept: &mut [u8; 15],
+) -> u32
+    ensures { λ r. ⌜ Told
+        (λ a. StartLent Format.Bc3 (pitched width height pitch) (length (now (image .entry))) a (now (numbers .exit)) (now (kept .exit)))
+        r ⌝ }
+{
+    let pic = Picture {
+        width: width,
+        height: height,
+        pitch: pitch,
+    };
+    etc::number(pieces_lent::start(Format::Bc3, pic, image, numbers, kept))
+}
+
+// Takes a piece of a picture that was started.
+#[no_mangle]
+pub extern "C" fn yalivucu_take_piece(
+    numbers: &mut [usize; 5],
+    kept: &mut [u8; 15],
+    bytes: &[u8],
+    image: &mut [u32],
+    painted: &mut usize,
+    unused: &mut usize,
+) -> u32
+    ensures { λ r. ⌜ Told
+        (λ a. PieceLent (now (numbers .entry)) (now (kept .entry)) (now (bytes .entry)) (now (image .entry))
+        a (now (numbers .exit)) (now (kept .exit)) (now (painted .exit)) (now (unused .exit)) (now (image .exit)))
+        r ⌝ }
+{
+    etc::number(pieces_lent::take_piece(numbers, kept, bytes, image, painted, unused))
+}
+
+// Ends a picture that was started.
+#[no_mangle]
+pub extern "C" fn yalivucu_end_pieces(numbers: &[usize; 5], kept: &[u8; 15]) -> u32
+    ensures { λ r. ⌜ Told (λ a. Ends (stateIn (now (numbers .entry)) (now (kept .entry))) a) r ⌝ }
+{
+    etc::number(pieces_lent::end(numbers, kept))
 }

@@ -1,5 +1,5 @@
--- What document 01 claims of the block readers, over the promise that they share: the eight of the formats, the alpha half and the
--- single channels.
+-- What document 01 claims of the block readers, over the promise that they share: those of the formats, the alpha half, the
+-- single channels, and M-106's alpha half into a channel.
 -- Assumes nothing.
 use mathlib.Core.Path.{_≡_, _∙_, sym, ap}
 use mathlib.Core.Bool.{Bool}
@@ -14,13 +14,14 @@ use Rattle.rules.specs.Pixel.{Shows}
 use Rattle.rules.specs.Places.{sized, needed, bytesOf, pixelAt}
 use Rattle.rules.specs.Answers.{Check, refusal, imageCheck, channelCheck, blockChecks, judged, verdict, Outcome}
 use Rattle.rules.specs.Channels.{withAlpha, alphaByte, eacByte, orChannel}
+use Rattle.rules.specs.Desktop.{bc3Alpha, replaced}
 use Rattle.rules.specs.Formats.{sizeOf, showsOf}
-use Rattle.rules.specs.Readers.{blockVerdict, blockPainted, ReadsPicture, ReadsBlock, ReadsAlpha, ReadsChannel}
+use Rattle.rules.specs.Readers.{blockVerdict, blockPainted, ReadsPicture, ReadsBlock, ReadsAlpha, ReadsChannel, ReplacesChannel}
 use Rattle.rules.specs.declared.Answer.{Answer}
 use Rattle.rules.specs.declared.Format.{Format}
 use Rattle.laws.proofs.Paint.{painted-same}
 use Rattle.place.proofs.Plain.{painted-plain}
-use Rattle.laws.proofs.Reach.{reads-its-block, alpha-reads-eight, channel-reads-eight, some-bytes}
+use Rattle.laws.proofs.Reach.{reads-its-block, alpha-reads-eight, channel-reads-eight, bc3-alpha-reads-eight, some-bytes}
 use Rattle.claims.proofs.Outcomes.{Same, same-outcome, the-length-stays, the-rest-stays}
 use Rattle.claims.proofs.Alike.{ends-alike}
 
@@ -62,16 +63,22 @@ alpha =
       before = [];
     }
 
-abbrev single : Bool → ℕ → Reader
-single signed channel =
+abbrev joined : (ℕ → ℕ → ℕ → ℕ) → (gives : Shows) → ((d : List ℕ) (x y : ℕ) → gives d x y ≡ gives (take 8 d) x y) → ℕ → Reader
+joined join gives own channel =
     record {
-      rule = eacByte signed;
+      rule = gives;
       size = 8;
       some = omega arith;
-      own = channel-reads-eight signed;
-      join = λ image k v. orChannel channel (getD image k 0) v;
+      own = own;
+      join = λ image k v. join channel (getD image k 0) v;
       before = channelCheck channel ∷ [];
     }
+
+abbrev single : Bool → ℕ → Reader
+single signed channel = joined orChannel (eacByte signed) (channel-reads-eight signed) channel
+
+abbrev replacing : ℕ → Reader
+replacing channel = joined replaced bc3Alpha bc3-alpha-reads-eight channel
 
 -- the promise that all of them share
 abbrev Reads : Reader → List ℕ → List ℕ → Answer → List ℕ → Type 0
@@ -114,6 +121,10 @@ module _ (d image : List ℕ) (a : Answer) (new : List ℕ) where
   pub a-channel-reader-writes-sixteen : (signed : Bool) (channel : ℕ) → ReadsChannel signed d channel image a new → FirstSixteen image new
   a-channel-reader-writes-sixteen signed channel = sixteen (single signed channel) d image a new
 
+  -- "ours stops after element 15" (M-106)
+  pub the-replacing-reader-writes-sixteen : (channel : ℕ) → ReplacesChannel d channel image a new → FirstSixteen image new
+  the-replacing-reader-writes-sixteen channel = sixteen (replacing channel) d image a new
+
   -- inputs that agree on the bytes of the block have one outcome
   module _ (e : List ℕ) (b : Answer) (new' : List ℕ) where
     pub bytes-behind-a-block-are-not-read : (f : Format) → take (sizeOf f) d ≡ take (sizeOf f) e → ReadsBlock f d image a new → ReadsBlock f e image b new' → Same a b new new'
@@ -125,6 +136,9 @@ module _ (d image : List ℕ) (a : Answer) (new : List ℕ) where
     module _ (signed : Bool) (channel : ℕ) where
       pub bytes-behind-a-channel-are-not-read : take 8 d ≡ take 8 e → ReadsChannel signed d channel image a new → ReadsChannel signed e channel image b new' → Same a b new new'
       bytes-behind-a-channel-are-not-read same p = not-read (single signed channel) d image a new p e b new' same
+
+    pub bytes-behind-a-replacing-half-are-not-read : (channel : ℕ) → take 8 d ≡ take 8 e → ReplacesChannel d channel image a new → ReplacesChannel e channel image b new' → Same a b new new'
+    bytes-behind-a-replacing-half-are-not-read channel same p = not-read (replacing channel) d image a new p e b new' same
 
 -- a place of sixteen, in a picture of 4 by 4: its block is number 0
 small : (k : ℕ) → k < 16 → (k / 4 / 4 * 1 + k % 4 / 4 ≡ 0) × (k % 4 % 4 ≡ k % 4) × (k / 4 % 4 ≡ k / 4)

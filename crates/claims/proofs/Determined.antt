@@ -4,7 +4,7 @@
 use mathlib.Core.Bool.{Bool}
 use mathlib.Core.List.{List}
 use Prim.Native.Nat.{ℕ}
-use Rattle.rules.specs.Readers.{ReadsPicture, ReadsStrict, ReadsBlock, ReadsAlpha, ReadsChannel}
+use Rattle.rules.specs.Readers.{ReadsPicture, ReadsStrict, ReadsBlock, ReadsAlpha, ReadsChannel, ReplacesChannel}
 use Rattle.rules.specs.declared.Answer.{Answer}
 use Rattle.rules.specs.declared.Format.{Format}
 use Rattle.rules.specs.declared.Picture.{Picture}
@@ -12,7 +12,7 @@ use Rattle.laws.proofs.Unique.{no-second-outcome}
 use Rattle.claims.proofs.Outcomes.{Same}
 
 module _ (d image : List ℕ) (a b : Answer) (new new' : List ℕ) where
-  -- the eight picture readers
+  -- the picture readers of the formats
   pub picture-determined : (f : Format) (pic : Picture) → ReadsPicture f d pic image a new → ReadsPicture f d pic image b new' → Same a b new new'
   picture-determined f pic p q = no-second-outcome _ _ image a b new new' p q
 
@@ -20,7 +20,7 @@ module _ (d image : List ℕ) (a b : Answer) (new new' : List ℕ) where
   pub strict-determined : (pic : Picture) → ReadsStrict d pic image a new → ReadsStrict d pic image b new' → Same a b new new'
   strict-determined pic p q = no-second-outcome _ _ image a b new new' p q
 
-  -- the eight block readers of the formats
+  -- the block readers of the formats
   pub block-determined : (f : Format) → ReadsBlock f d image a new → ReadsBlock f d image b new' → Same a b new new'
   block-determined f p q = no-second-outcome _ _ image a b new new' p q
 
@@ -31,3 +31,7 @@ module _ (d image : List ℕ) (a b : Answer) (new new' : List ℕ) where
   -- a single channel, unsigned and signed
   pub channel-determined : (signed : Bool) (channel : ℕ) → ReadsChannel signed d channel image a new → ReadsChannel signed d channel image b new' → Same a b new new'
   channel-determined signed channel p q = no-second-outcome _ _ image a b new new' p q
+
+  -- the alpha half of BC3 into a channel
+  pub replaced-determined : (channel : ℕ) → ReplacesChannel d channel image a new → ReplacesChannel d channel image b new' → Same a b new new'
+  replaced-determined channel p q = no-second-outcome _ _ image a b new new' p q

@@ -12,3 +12,7 @@ pub mod Encoded
 pub mod Back
 pub mod Skipped
 pub mod Lowest
+pub mod Desktop
+pub mod Arrived
+pub mod Step
+pub mod Cuts

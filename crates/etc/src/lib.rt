@@ -1,26 +1,30 @@
 // The public list of src/etc.rs: eleven block readers, eight picture readers and strict ETC1, each of these nine with a twin that takes
-// the description with its pitch; two censuses; and the readers and the writer of sheets. None asks anything of its caller. Each
-// promises the answer and every element of what it is lent afterwards, for all inputs; what that is, crates/rules/specs/Readers.antt,
-// Census.antt and Sheets.antt say for all of them. Refusals: 1 width, height or pitch above 65,536 (of a sheet: width or height above
+// the description with its pitch; two censuses; the readers and the writer of sheets; and the reader of a picture in pieces. None asks
+// anything of its caller. Each promises the answer and every element of what it is lent afterwards, for all inputs; what that is,
+// crates/rules/specs/Readers.antt, Census.antt, Sheets.antt and Pieces.antt say for all of them. Refusals: 1 width, height or pitch above 65,536 (of a sheet: width or height above
 // 16,384); 12 a pitch below the width; 2 too few bytes; 3 too few elements, or too little room for a sheet; 4 a block out of range, with
 // its number (strict only); 5 a channel above 3; of sheets, 7 a record cut short, 8 no head, 9 another kind, 10 not exactly the blocks. A
 // refusal changes nothing.
 use rules::Answer;
 use rules::Format;
 use rules::Picture;
+use rules::Progress;
 use rules::RgbCensus;
 use rules::Rgba1Census;
 use rules::Sheet;
+use rules::Started;
+use rules::Taken;
 use rules::Written;
 use single::Joined;
 ghost use mathlib.Core.Path.{_≡_};
 ghost use mathlib.Core.Bool.{true, false};
-ghost use lib.ListN.{getD};
+ghost use lib.ListN.{length, getD};
 ghost use Rattle.rules.specs.Places.{sized};
 ghost use Rattle.rules.specs.Answers.{said};
 ghost use Rattle.rules.specs.Census.{CountsRgb, CountsRgba1};
 ghost use Rattle.rules.specs.Readers.{ReadsPicture, ReadsStrict, ReadsBlock, ReadsAlpha, ReadsChannel, ReplacesChannel};
 ghost use Rattle.rules.specs.Sheets.{TellsHead, ReadsSheet, WritesSheet};
+ghost use Rattle.rules.specs.Pieces.{Starts, Takes, Ends};
 
 // Document 01's number of an answer.
 pub fn number(answer: Answer) -> u32
@@ -385,4 +389,25 @@ pub fn write_sheet(
     ensures { λ r. ⌜ WritesSheet format (sized width height) (now (blocks .entry)) (now (out .entry)) r (now (out .exit)) ⌝ }
 {
     sheet_write::write_sheet(format, width, height, blocks, out)
+}
+
+// Starts to read a picture of any format whose bytes arrive in pieces.
+pub fn start_pieces(f: Format, pic: Picture, image: &[u32]) -> Started
+    ensures { λ r. ⌜ Starts f pic (length (now (image .entry))) r ⌝ }
+{
+    pieces::start(f, pic, image)
+}
+
+// Takes a piece of any length: paints the blocks that it completes, and says how many they are and how many bytes it did not use.
+pub fn take_piece(p: Progress, bytes: &[u8], image: &mut [u32]) -> Taken
+    ensures { λ r. ⌜ Takes p (now (bytes .entry)) (now (image .entry)) r (now (image .exit)) ⌝ }
+{
+    pieces::piece(p, bytes, image)
+}
+
+// Ends: done where every block is painted, and short of data where not.
+pub fn end_pieces(p: Progress) -> Answer
+    ensures { λ r. ⌜ Ends p r ⌝ }
+{
+    pieces::end(p)
 }

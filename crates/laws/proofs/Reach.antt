@@ -219,3 +219,19 @@ some-bytes Bc1 = omega arith
 some-bytes Bc1Alpha = omega arith
 some-bytes Bc3 = omega arith
 some-bytes Bc7 = omega arith
+
+-- and at most 16
+pub few-bytes : (f : Format) → sizeOf f ≤ 16
+unfolding sizeOf
+few-bytes Etc1 = omega arith
+few-bytes Etc2Rgb = omega arith
+few-bytes Etc2Rgba1 = omega arith
+few-bytes Etc2Rgba8 = omega arith
+few-bytes EacR = omega arith
+few-bytes EacRSigned = omega arith
+few-bytes EacRg = omega arith
+few-bytes EacRgSigned = omega arith
+few-bytes Bc1 = omega arith
+few-bytes Bc1Alpha = omega arith
+few-bytes Bc3 = omega arith
+few-bytes Bc7 = omega arith

@@ -4,7 +4,7 @@ use libc::STDOUT_FILENO;
 use rules::Answer;
 ghost use Prim.Native.Nat.{_<_};
 
-// The picture readers by number, in document 01's order; 8 is strict ETC1.
+// The picture readers by number, in document 01's order; 8 is strict ETC1, and then come BC1, BC1 with alpha and BC3.
 fn read(reader: usize, data: &[u8], width: usize, height: usize, image: &mut [u32]) -> Answer {
     if reader < 4 {
         return colour(reader, data, width, height, image);
@@ -12,7 +12,19 @@ fn read(reader: usize, data: &[u8], width: usize, height: usize, image: &mut [u3
     if reader < 8 {
         return channels(reader, data, width, height, image);
     }
-    etc::decode_etc1_strict(data, width, height, image)
+    if reader == 8 {
+        return etc::decode_etc1_strict(data, width, height, image);
+    }
+    desktop(reader, data, width, height, image)
+}
+
+// Readers 9 to 11.
+fn desktop(reader: usize, data: &[u8], width: usize, height: usize, image: &mut [u32]) -> Answer {
+    match reader {
+        9 => etc::decode_bc1(data, width, height, image),
+        10 => etc::decode_bc1a(data, width, height, image),
+        _ => etc::decode_bc3(data, width, height, image),
+    }
 }
 
 // Readers 0 to 3.
@@ -128,7 +140,7 @@ fn empty(width: usize, height: usize) {
     printing::say_number(height);
     printing::say(b":");
     let mut reader: usize = 0;
-    while reader < 9 {
+    while reader < 12 {
         nothing(reader, width, height);
         reader += 1;
     }
@@ -241,7 +253,7 @@ fn say_digest(digest: u64) {
 
 // One size of one reader, over fresh bytes and a fresh image.
 fn fresh_case(reader: usize, width: usize, height: usize)
-    requires { ⌜ (reader < 9) × (width < 10) × (height < 10) ⌝ }
+    requires { ⌜ (reader < 12) × (width < 10) × (height < 10) ⌝ }
 {
     let mut data = [0u8; 144];
     let mut image = [0x11111111u32; 84];
@@ -251,7 +263,7 @@ fn fresh_case(reader: usize, width: usize, height: usize)
 
 // The heights 0 to 9 of one width.
 fn heights(reader: usize, width: usize)
-    requires { ⌜ (reader < 9) × (width < 10) ⌝ }
+    requires { ⌜ (reader < 12) × (width < 10) ⌝ }
 {
     printing::say(b"reader ");
     printing::say_number(reader);
@@ -267,7 +279,7 @@ fn heights(reader: usize, width: usize)
 }
 
 fn widths(reader: usize)
-    requires { ⌜ reader < 9 ⌝ }
+    requires { ⌜ reader < 12 ⌝ }
 {
     let mut width: usize = 0;
     while width < 10 {
@@ -286,7 +298,7 @@ fn main() {
     s17(31, 24);
     largest();
     let mut reader: usize = 0;
-    while reader < 9 {
+    while reader < 12 {
         widths(reader);
         reader += 1;
     }

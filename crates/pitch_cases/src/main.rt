@@ -6,7 +6,7 @@ use rules::Picture;
 ghost use mathlib.Core.Path.{_≡_};
 ghost use Prim.Native.Nat.{_+_, _<_, _≤_};
 
-// The readers by number, in document 01's order; 8 is strict ETC1.
+// The readers by number, in document 01's order; 8 is strict ETC1, and then come BC1, BC1 with alpha and BC3.
 fn read(reader: usize, data: &[u8], pic: Picture, image: &mut [u32]) -> Answer {
     if reader < 4 {
         return colour(reader, data, pic, image);
@@ -14,7 +14,19 @@ fn read(reader: usize, data: &[u8], pic: Picture, image: &mut [u32]) -> Answer {
     if reader < 8 {
         return channels(reader, data, pic, image);
     }
-    etc::decode_etc1_strict_pitched(data, pic, image)
+    if reader == 8 {
+        return etc::decode_etc1_strict_pitched(data, pic, image);
+    }
+    desktop(reader, data, pic, image)
+}
+
+// Readers 9 to 11.
+fn desktop(reader: usize, data: &[u8], pic: Picture, image: &mut [u32]) -> Answer {
+    match reader {
+        9 => etc::decode_bc1_pitched(data, pic, image),
+        10 => etc::decode_bc1a_pitched(data, pic, image),
+        _ => etc::decode_bc3_pitched(data, pic, image),
+    }
 }
 
 fn colour(reader: usize, data: &[u8], pic: Picture, image: &mut [u32]) -> Answer {
@@ -77,7 +89,7 @@ fn empty(width: usize, height: usize, pitch: usize) {
     let pic = pitched(width, height, pitch);
     say_size(pic);
     let mut reader: usize = 0;
-    while reader < 9 {
+    while reader < 12 {
         nothing(reader, pic);
         reader += 1;
     }
@@ -113,7 +125,7 @@ fn largest() {
 
 // A long picture over fresh bytes: the answer, and how many elements changed.
 fn long(reader: usize, pic: Picture)
-    requires { ⌜ reader < 9 ⌝ }
+    requires { ⌜ reader < 12 ⌝ }
 {
     let mut data = [0u8; 262144];
     let mut image = [0x11111111u32; 65544];
@@ -128,7 +140,7 @@ fn long_of(width: usize, height: usize, pitch: usize) {
     let pic = pitched(width, height, pitch);
     say_size(pic);
     let mut reader: usize = 0;
-    while reader < 9 {
+    while reader < 12 {
         long(reader, pic);
         reader += 1;
     }
@@ -233,7 +245,7 @@ fn elements_of(pic: Picture) -> usize
 // One size with one gap, over fresh bytes and images: the answers to a pitch below the width, to one byte and one element less than
 // enough, and to enough; then how many elements are wrong.
 fn fresh_case(reader: usize, width: usize, height: usize, gap: usize)
-    requires { ⌜ (reader < 9) × (width < 10) × (height < 10) × (gap < 6) ⌝ }
+    requires { ⌜ (reader < 12) × (width < 10) × (height < 10) × (gap < 6) ⌝ }
 {
     let pic = pitched(width, height, width + gap);
     let mut data = [0u8; 144];
@@ -259,7 +271,7 @@ fn fresh_case(reader: usize, width: usize, height: usize, gap: usize)
 
 // The heights 0 to 9 of one width and gap.
 fn heights(reader: usize, width: usize, gap: usize)
-    requires { ⌜ (reader < 9) × (width < 10) × (gap < 6) ⌝ }
+    requires { ⌜ (reader < 12) × (width < 10) × (gap < 6) ⌝ }
 {
     printing::say(b"reader ");
     printing::say_number(reader);
@@ -277,7 +289,7 @@ fn heights(reader: usize, width: usize, gap: usize)
 }
 
 fn gaps(reader: usize, width: usize)
-    requires { ⌜ (reader < 9) × (width < 10) ⌝ }
+    requires { ⌜ (reader < 12) × (width < 10) ⌝ }
 {
     let mut gap: usize = 0;
     while gap < 6 {
@@ -287,7 +299,7 @@ fn gaps(reader: usize, width: usize)
 }
 
 fn widths(reader: usize)
-    requires { ⌜ reader < 9 ⌝ }
+    requires { ⌜ reader < 12 ⌝ }
 {
     let mut width: usize = 0;
     while width < 10 {
@@ -302,7 +314,7 @@ fn main() {
     long_of(1, 65536, 1);
     long_of(4, 2, 65536);
     let mut reader: usize = 0;
-    while reader < 9 {
+    while reader < 12 {
         widths(reader);
         reader += 1;
     }

@@ -14,13 +14,19 @@ five = 0xFF020202 ∷ 0xFF020202 ∷ 0xFFE90202 ∷ 0xFFE90202 ∷ 0xFF020202 �
 abbrev gap : List ℕ
 gap = 0x11111111 ∷ 0x11111111 ∷ []
 
+abbrev nine : List ℕ
+nine = five ++ gap ++ gap
+
 -- "pixel (x, y) is element y * pitch + x"; "Elements in the gaps keep their value", and so do those behind the last pixel: S16 with a
--- pitch, which is of no account in a single row; S17's size, whose block 3 shows only element 32; two rows of S4, seven apart
+-- pitch, which is of no account in a single row; S17's size, whose block 3 shows only element 32, also with a pitch that would be a block
+-- wider than the width; two rows of S4, seven apart
 abbrev pictures : List Row
 pictures =
     shows (padded Etc1 65536) 5 1 (0x0400000200000000 ∷ 0 ∷ []) five 1
     ∷ shows (padded Etc1 7) 5 5 (0x0400000200000000 ∷ 0 ∷ 0 ∷ 0x8000000200000000 ∷ [])
     (five ++ gap ++ five ++ gap ++ five ++ gap ++ five ++ gap ++ (replicate 4 0xFF020202 ++ (0xFF860202 ∷ []))) 3
+    ∷ shows (padded Etc1 9) 5 5 (0x0400000200000000 ∷ 0 ∷ 0 ∷ 0x8000000200000000 ∷ [])
+    (nine ++ nine ++ nine ++ nine ++ (replicate 4 0xFF020202 ++ (0xFF860202 ∷ []))) 0
     ∷ shows (padded Etc2Rgb 7) 4 2 (0x000004020000003F ∷ []) (replicate 4 0xFF000000 ++ replicate 3 0x11111111 ++ replicate 4 0xFF000040) 1
     ∷ shows (paddedStrict 6) 4 2 (0xF800000200000000 ∷ []) (replicate 4 0xFFFF0202 ++ gap ++ replicate 4 0xFFFF0202) 0
     -- the gap is no pixel of a fifth column: a second block, were there one, would be refused

@@ -1,7 +1,7 @@
 -- Document 01's specimens, S1 to S18, 02's one of the lowest signed base, and the table of refusals for every reader, as rows.
 -- Held.antt has the test.
 -- Assumes nothing.
-use mathlib.Core.Bool.{Bool, true, false}
+use mathlib.Core.Bool.{true, false}
 use mathlib.Core.List.{List, [], _∷_, _++_}
 use Prim.Native.Nat.{ℕ}
 use lib.ListN.{replicate}

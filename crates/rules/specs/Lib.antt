@@ -26,3 +26,5 @@ pub mod Census
 -- sheets, of document 02
 pub mod Records
 pub mod Sheets
+-- pictures in pieces, of document 02
+pub mod Pieces

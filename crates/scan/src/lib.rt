@@ -89,6 +89,9 @@ fn is_colour(f: Format) -> bool
         Format::EacRSigned => false,
         Format::EacRg => false,
         Format::EacRgSigned => false,
+        Format::Bc1 => false,
+        Format::Bc1Alpha => false,
+        Format::Bc3 => false,
     }
 }
 

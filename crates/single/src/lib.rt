@@ -1,10 +1,14 @@
-// Single blocks: the checks, then sixteen pixels into the elements 0 to 15. One reader serves the eight formats; the alpha half and
+// Single blocks: the checks, then sixteen pixels into the elements 0 to 15. One reader serves the formats; the alpha half and
 // a single channel, which join what stood there, have one each.
 use rules::Answer;
 use rules::Format;
 ghost use mathlib.Core.Path.{_≡_};
+ghost use Prim.Native.Nat.{_/_, _%_, _≤_, _<_};
+ghost use lib.ListN.{length, getD};
+ghost use Rattle.rules.specs.Notation.{build};
 ghost use Rattle.rules.specs.Answers.{said, verdict, blockChecks};
-ghost use Rattle.rules.specs.Readers.{ReadsBlock, ReadsAlpha, ReadsChannel};
+ghost use Rattle.rules.specs.Readers.{ReadsBlock, ReadsAlpha, JoinsChannel};
+ghost use Rattle.single.specs.Joins.{joinOf, byteOf};
 
 // The checks that all block readers share, whatever the numbers.
 fn verify(size: usize, bytes: usize, elements: usize) -> Answer
@@ -27,7 +31,7 @@ pub fn read_block(f: Format, data: &[u8], image: &mut [u32]) -> Answer
     let Answer::Done = answer else {
         return answer;
     };
-    place::place_block(blocks::block(f, data), image);
+    place::place_block(blocks::block_at(f, data, 0), image);
     Answer::Done
 }
 

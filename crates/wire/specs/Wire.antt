@@ -35,9 +35,10 @@ packed words n bytes = laid (build (n * 4) (byteAt words)) bytes
 abbrev pub atMost : ℕ → ℕ → ℕ
 atMost most n = cond (ltb most n) most n
 
--- the numbers of the table of readers: pictures, blocks, censuses, and pictures with a pitch
+-- the numbers of the table of readers: pictures, BC pictures and then blocks, censuses, and both kinds of pictures with a pitch
 abbrev pub isReader : ℕ → Bool
-isReader n = ((ltb n 9 || (ltb 15 n && ltb n 27)) || (ltb 31 n && ltb n 34)) || (ltb 39 n && ltb n 49)
+isReader n =
+    (((ltb n 9 || (ltb 12 n && ltb n 31)) || (ltb 31 n && ltb n 34)) || (ltb 39 n && ltb n 49)) || (ltb 52 n && ltb n 56)
 
 -- "a reader that is not in the table, or a length above the largest is no case"
 abbrev pub isCase : List ℕ → Bool

@@ -97,10 +97,11 @@ fn is_reader(number: u32) -> bool
     ensures { λ r. ⌜ r ≡ isReader number ⌝ }
 {
     let picture = number < 9;
-    let block = (15 < number) & (number < 27);
+    let desktop_or_block = (12 < number) & (number < 31);
     let census = (31 < number) & (number < 34);
     let pitched = (39 < number) & (number < 49);
-    picture | block | census | pitched
+    let desktop_pitched = (52 < number) & (number < 56);
+    picture | desktop_or_block | census | pitched | desktop_pitched
 }
 
 // Whether the reader is one, and there is room for the lengths.

@@ -81,6 +81,9 @@ fn name(f: Format) {
         Format::EacRSigned => tell(b"EAC R signed"),
         Format::EacRg => tell(b"EAC RG"),
         Format::EacRgSigned => tell(b"EAC RG signed"),
+        Format::Bc1 => tell(b"BC1"),
+        Format::Bc1Alpha => tell(b"BC1 with alpha"),
+        Format::Bc3 => tell(b"BC3"),
     }
 }
 

@@ -10,36 +10,59 @@ use crate::specimens::LOWEST;
 use std::io::Result;
 use std::panic::{catch_unwind, set_hook, take_hook};
 
-/// A picture of one block: reader, side, bytes, element, the other's pixel, and the pixel due.
-type Example = (u32, u32, [u8; 8], usize, u32, u32);
+/// A picture of one block: reader, side, bytes, element, the other's pixel, and the pixel due. Of a block reader the
+/// image has 17 elements, and the channel is 3.
+type Example = (u32, u32, &'static [u8], usize, u32, u32);
 
 /// A red sum of 32.
 const WRAPPED: [u8; 8] = [0xf9, 0, 0, 2, 0, 0, 0, 0];
 
-const OF_CRATE: [Example; 13] = [
-    (RGBA1, 4, [0x80, 0, 0, 0, 0xff, 0xff, 0, 0], 0, 0x0084_0000, 0),
-    (RGBA1, 1, [0, 0, 0x08, 0, 0, 1, 0, 0], 0, 0x0000_0008, 0),
-    (RGBA1, 1, [0x04, 0, 0xf0, 0, 0, 1, 0, 0], 0, 0x00ff_0000, 0),
-    (RGBA1, 1, [0, 0x04, 0, 0, 0, 1, 0, 0], 0, 0x0006_0606, 0),
-    (EACR, 4, [0x80, 0x10, 0, 0, 0, 0, 0, 0], 7, 0xff77_0000, 0xff7d_0000),
-    (EACR, 4, [0x80, 0x10, 0, 0, 0, 0, 0, 0], 14, 0xff7a_0000, 0xff7d_0000),
-    (EACR, 4, [0x80, 0x00, 0, 0, 0, 0, 0, 0], 7, 0xff7f_0000, 0xff80_0000),
-    (EACR_SIGNED, 4, [0x00, 0x10, 0, 0, 0, 0, 0, 0], 14, 0xff79_0000, 0xff7c_0000),
-    (EACR, 1, [0x80, 0x10, 0, 0, 0, 0x20, 0, 0], 0, 0xff7a_0000, 0xff7d_0000),
-    (EACR, 1, [0x80, 0x10, 0x20, 0, 0, 0, 0, 0], 0, 0xff7d_0000, 0xff7a_0000),
-    (EACR, 4, [0x80, 0x10, 0, 0, 0, 0, 0, 7], 15, 0xff7d_0000, 0xff8e_0000),
-    (ETC1, 4, WRAPPED, 2, 0xff02_0202, 0xff02_0202),
-    (EACR_SIGNED, 4, LOWEST, 0, 0xff07_0000, 0xff08_0000),
+const OF_CRATE: [Example; 22] = [
+    (RGBA1, 4, &[0x80, 0, 0, 0, 0xff, 0xff, 0, 0], 0, 0x0084_0000, 0),
+    (RGBA1, 1, &[0, 0, 0x08, 0, 0, 1, 0, 0], 0, 0x0000_0008, 0),
+    (RGBA1, 1, &[0x04, 0, 0xf0, 0, 0, 1, 0, 0], 0, 0x00ff_0000, 0),
+    (RGBA1, 1, &[0, 0x04, 0, 0, 0, 1, 0, 0], 0, 0x0006_0606, 0),
+    (EACR, 4, &[0x80, 0x10, 0, 0, 0, 0, 0, 0], 7, 0xff77_0000, 0xff7d_0000),
+    (EACR, 4, &[0x80, 0x10, 0, 0, 0, 0, 0, 0], 14, 0xff7a_0000, 0xff7d_0000),
+    (EACR, 4, &[0x80, 0x00, 0, 0, 0, 0, 0, 0], 7, 0xff7f_0000, 0xff80_0000),
+    (EACR_SIGNED, 4, &[0x00, 0x10, 0, 0, 0, 0, 0, 0], 14, 0xff79_0000, 0xff7c_0000),
+    (EACR, 1, &[0x80, 0x10, 0, 0, 0, 0x20, 0, 0], 0, 0xff7a_0000, 0xff7d_0000),
+    (EACR, 1, &[0x80, 0x10, 0x20, 0, 0, 0, 0, 0], 0, 0xff7d_0000, 0xff7a_0000),
+    (EACR, 4, &[0x80, 0x10, 0, 0, 0, 0, 0, 7], 15, 0xff7d_0000, 0xff8e_0000),
+    (ETC1, 4, &WRAPPED, 2, 0xff02_0202, 0xff02_0202),
+    (EACR_SIGNED, 4, &LOWEST, 0, 0xff07_0000, 0xff08_0000),
+    (BC3, 1, &[0, 0, 0, 0, 0, 0, 0, 0, 0, 0, 0xff, 0xff, 2, 0, 0, 0], 0, 0x007f_7f7f, 0x0055_5555),
+    (BC3, 1, &[0, 0, 0, 0, 0, 0, 0, 0, 0, 0, 0xff, 0xff, 3, 0, 0, 0], 0, 0, 0x00aa_aaaa),
+    (BC3, 1, &[0, 0, 0, 0, 0, 0, 0, 0, 0xff, 0xff, 0xff, 0xff, 3, 0, 0, 0], 0, 0, 0x00ff_ffff),
+    (BLOCK_BC3_ALPHA, 4, &[1, 0, 0, 0, 0, 0, 0, 0], 16, 0x0100_0000, 0),
+    (BLOCK_BC3, 4, &[1, 0, 0, 0, 0, 0, 0, 0, 0, 0, 0, 0, 0, 0, 0, 0], 16, 0x0100_0000, 0),
+    (BC1, 1, THIRD, 0, 0xff00_0005, 0xff00_0005),
+    (BC1, 1, HALF, 0, 0xff00_0010, 0xff00_0010),
+    (BC3, 1, SEVENTH, 0, 0, 0),
+    (BC3, 1, FIFTH, 0, 0, 0),
 ];
 
-const OF_MESA: [Example; 2] =
-    [(ETC1, 4, WRAPPED, 2, 0xff0a_0202, 0xff02_0202), (EACR_SIGNED, 4, LOWEST, 0, 0xff08_0000, 0xff08_0000)];
+/// 16/3 of blue, 33/2 of blue, 6/7 of alpha and 1/5 of alpha.
+const THIRD: &[u8] = &[1, 0, 0, 0, 2, 0, 0, 0];
+const HALF: &[u8] = &[0, 0, 4, 0, 2, 0, 0, 0];
+const SEVENTH: &[u8] = &[1, 0, 2, 0, 0, 0, 0, 0, 0, 0, 0, 0, 0, 0, 0, 0];
+const FIFTH: &[u8] = &[0, 1, 2, 0, 0, 0, 0, 0, 0, 0, 0, 0, 0, 0, 0, 0];
 
-const OF_ANDROID: [Example; 1] = [(ETC1, 4, WRAPPED, 2, 0xff02_0202, 0xff02_0202)];
+const OF_MESA: [Example; 6] = [
+    (ETC1, 4, &WRAPPED, 2, 0xff0a_0202, 0xff02_0202),
+    (EACR_SIGNED, 4, &LOWEST, 0, 0xff08_0000, 0xff08_0000),
+    (BC1, 1, THIRD, 0, 0xff00_0005, 0xff00_0005),
+    (BC1, 1, HALF, 0, 0xff00_0010, 0xff00_0010),
+    (BC3, 1, SEVENTH, 0, 0, 0),
+    (BC3, 1, FIFTH, 0, 0, 0),
+];
+
+const OF_ANDROID: [Example; 1] = [(ETC1, 4, &WRAPPED, 2, 0xff02_0202, 0xff02_0202)];
 
 fn case_of(&(reader, side, data, ..): &Example) -> Case {
-    let image = vec![0; (side * side) as usize];
-    Case { reader, channel: 0, width: side, height: side, data: data.to_vec(), image }
+    let block = is_block(reader);
+    let image = vec![0; if block { 17 } else { (side * side) as usize }];
+    Case { reader, channel: if block { 3 } else { 0 }, width: side, height: side, data: data.to_vec(), image }
 }
 
 /// The whole answer with only the named element in question.
@@ -86,7 +109,8 @@ pub fn crate_has_no_such_refusal() -> bool {
         let few = reader == BLOCK_BC3_ALPHA || stops(&refused(reader, 0, size, 15));
         stops(&refused(reader, 0, size - 1, 16)) && few
     });
-    let channels = [BLOCK_EAC, BLOCK_EAC_SIGNED, BLOCK_BC3_ALPHA].into_iter().all(|reader| stops(&refused(reader, 4, 8, 16)));
+    let channels =
+        [BLOCK_EAC, BLOCK_EAC_SIGNED, BLOCK_BC3_ALPHA].into_iter().all(|reader| stops(&refused(reader, 4, 8, 16)));
     set_hook(hook);
     let wide = Case { width: 65_537, ..refused(ETC1, 0, 0, 0) };
     let alpha = Case { data: vec![0x80, 0], ..refused(BLOCK_A8, 0, 2, 1) };

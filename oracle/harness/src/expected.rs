@@ -55,7 +55,15 @@ fn by_equation(case: &Case, given: &[u32], listed: &[String]) -> Vec<u32> {
         Half::Eac if is_listed(listed, EAC_LOWEST_BASE) => in_listed_order(&lowest_base_raised(case), listed),
         Half::Eac => in_listed_order(case, listed),
         Half::DesktopAlpha if case.reader == BLOCK_BC3_ALPHA => first_sixteen(case, given, listed),
-        Half::DesktopAlpha if is_listed(listed, BC3_FOUR_COLOURS) => by_crate(&colours_exchanged(case)),
+        Half::DesktopAlpha => {
+            let four = is_listed(listed, BC3_FOUR_COLOURS).then(|| by_crate(&colours_exchanged(case)));
+            let given = four.unwrap_or_else(|| given.to_vec());
+            if is_block(case.reader) {
+                first_sixteen(case, &given, listed)
+            } else {
+                given
+            }
+        }
         _ => given.to_vec(),
     }
 }
@@ -105,7 +113,7 @@ fn colours_exchanged(case: &Case) -> Case {
     exchanged
 }
 
-/// The BC3 alpha half: the crate's elements 0 to 15, and behind them what stood there.
+/// BC3's alpha half, alone or in a block: the crate's elements 0 to 15, and behind them what stood there.
 fn first_sixteen(case: &Case, given: &[u32], listed: &[String]) -> Vec<u32> {
     let end = if is_listed(listed, BC3_ALPHA_END) { 16 } else { given.len() };
     [&given[..end], &case.image[end..]].concat()

@@ -5,6 +5,7 @@
 mod blocks;
 mod cases;
 mod census;
+mod desktop;
 mod examples;
 mod expected;
 mod pictures;
@@ -32,7 +33,10 @@ pub struct Options {
     /// Programs that speak the protocol, and the folder of published pictures.
     mesa: String,
     android: String,
+    squish: String,
     pictures: String,
+    /// The folder of pictures that nvcompress wrote.
+    desktop: String,
     program: String,
     /// What the stored list says of itself, and the folder that it goes to.
     about: String,
@@ -50,7 +54,9 @@ fn options(words: &[String]) -> Options {
         eleven: words.iter().any(|word| word == "--eleven"),
         mesa: text("--mesa"),
         android: text("--android"),
+        squish: text("--squish"),
         pictures: text("--pictures"),
+        desktop: text("--desktop"),
         program: text("--program"),
         about: text("--about"),
         folder: text("--folder"),
@@ -122,6 +128,8 @@ fn second(options: &Options) -> Result<bool> {
     same &= second::android(options)?;
     same &= second::mesa(options)?;
     same &= second::every_base(options)?;
+    same &= second::squish(options)?;
+    same &= desktop::compare(options)?;
     same &= second::with_a_pitch(options)?;
     Ok(same)
 }

@@ -41,8 +41,7 @@ pub const CENSUS_RGBA1: u32 = 33;
 pub const PITCHED: u32 = 40;
 
 /// The formats: those of document 01 in its order, and M-106's.
-pub const FORMATS: [u32; 11] =
-    [ETC1, RGB, RGBA1, RGBA8, EACR, EACR_SIGNED, EACRG, EACRG_SIGNED, BC1, BC1A, BC3];
+pub const FORMATS: [u32; 11] = [ETC1, RGB, RGBA1, RGBA8, EACR, EACR_SIGNED, EACRG, EACRG_SIGNED, BC1, BC1A, BC3];
 pub const PICTURES: [u32; 12] =
     [ETC1, RGB, RGBA1, RGBA8, EACR, EACR_SIGNED, EACRG, EACRG_SIGNED, STRICT, BC1, BC1A, BC3];
 pub const BLOCKS: std::ops::RangeInclusive<u32> = BLOCK_ETC1..=BLOCK_BC3_ALPHA;

@@ -27,6 +27,15 @@ pub fn android(options: &crate::Options) -> Result<bool> {
     against(ETC1, options, &options.android, "Android", ETC1)
 }
 
+/// libsquish, which has one rule for BC1, with alpha, and reads BC3.
+pub fn squish(options: &crate::Options) -> Result<bool> {
+    let mut same = true;
+    for reader in [BC1A, BC3] {
+        same &= against(reader, options, &options.squish, "squish", reader)?;
+    }
+    Ok(same)
+}
+
 /// Pictures with a pitch, in all formats by Mesa, and in ETC1 by Android too. The other decoder is given
 /// the rows without their gaps.
 pub fn with_a_pitch(options: &crate::Options) -> Result<bool> {

@@ -2,12 +2,7 @@
 -- Assumes nothing.
 use mathlib.Core.Path.{_∙_}
 use mathlib.Core.Bool.{false}
-use mathlib.Core.List.{List}
-use Prim.Native.Nat.{ℕ}
 use denote.Ref.{now}
-use lib.ListN.{getD}
-use Rattle.rules.specs.Notation.{build}
-use Rattle.rules.specs.Desktop.{paletteIn, colourIndex}
 use Rattle.bc1.proofs.Shown.{shown}
 use borrow.Author.Needs.{needs}
 use Rattle.bc1.proofs.bc1_block.Statement.{statement}

@@ -1,14 +1,13 @@
 -- The words of the two halves, what they make, and the two picks of each pixel.
 -- Assumes nothing.
-use mathlib.Core.Path.{_≡_, _∙_, ap}
-use mathlib.Core.Bool.{true, false}
+use mathlib.Core.Path.{_∙_, ap}
 use mathlib.Core.List.{List}
-use Prim.Native.Nat.{ℕ, _+_, _*_, _%_, _<_, _≤_}
+use Prim.Native.Nat.{ℕ, _*_, _%_, _<_, _≤_}
 use native.Mathlib.Omega.{arith}
-use lib.ListN.{getD, drop}
+use lib.ListN.{getD}
 use denote.Ref.{now}
 use Rattle.rules.specs.Notation.{build}
-use Rattle.rules.specs.Desktop.{halfWord, paletteIn, alphasIn}
+use Rattle.rules.specs.Desktop.{halfWord}
 use Rattle.laws.proofs.Parts.{rest}
 use Rattle.bc3.proofs.Turns.{at-most, shown}
 use borrow.Author.Needs.{needs}

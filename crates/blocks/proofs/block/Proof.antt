@@ -64,6 +64,27 @@ eacrg-block-requires-2 : tie.Need-eacrg-block-requires-2
 unfolding sizeOf
 eacrg-block-requires-2 c κs = enough (c .enum-told8 .given .1) (c .before .before .before .pre)
 
+enum-told-9 : tie.Need-enum-told-9
+enum-told-9 c = search needs
+
+bc1-block-requires : tie.Need-bc1-block-requires
+unfolding sizeOf
+bc1-block-requires c κs = enough (c .enum-told9 .given .1) (c .before .before .before .pre)
+
+enum-told-10 : tie.Need-enum-told-10
+enum-told-10 c = search needs
+
+bc1-block-requires-2 : tie.Need-bc1-block-requires-2
+unfolding sizeOf
+bc1-block-requires-2 c κs = enough (c .enum-told10 .given .1) (c .before .before .before .pre)
+
+enum-told-11 : tie.Need-enum-told-11
+enum-told-11 c = search needs
+
+bc3-block-requires : tie.Need-bc3-block-requires
+unfolding sizeOf
+bc3-block-requires c κs = enough (c .enum-told11 .given .1) (c .before .before .before .pre)
+
 returns : tie.Need-returns
 unfolding showsOf
 returns c = c .etc1-block .ensures ∙ shown (now (c .before .before .before .before .args .«data»)) (c .before .enum-told .given .1)
@@ -96,6 +117,18 @@ returns-8 : tie.Need-returns-8
 unfolding showsOf
 returns-8 c = c .eacrg-block2 .ensures ∙ shown (now (c .before .before .before .before .args .«data»)) (c .before .enum-told8 .given .1)
 
+returns-9 : tie.Need-returns-9
+unfolding showsOf
+returns-9 c = c .bc1-block .ensures ∙ shown (now (c .before .before .before .before .args .«data»)) (c .before .enum-told9 .given .1)
+
+returns-10 : tie.Need-returns-10
+unfolding showsOf
+returns-10 c = c .bc1-block2 .ensures ∙ shown (now (c .before .before .before .before .args .«data»)) (c .before .enum-told10 .given .1)
+
+returns-11 : tie.Need-returns-11
+unfolding showsOf
+returns-11 c = c .bc3-block .ensures ∙ shown (now (c .before .before .before .before .args .«data»)) (c .before .enum-told11 .given .1)
+
 pub block-spec : {M : Type 1} → statement M
 block-spec =
     tie.close
@@ -116,6 +149,12 @@ block-spec =
     eacrg-block-requires
     enum-told-8
     eacrg-block-requires-2
+    enum-told-9
+    bc1-block-requires
+    enum-told-10
+    bc1-block-requires-2
+    enum-told-11
+    bc3-block-requires
     returns
     returns-2
     returns-3
@@ -123,4 +162,7 @@ block-spec =
     returns-5
     returns-6
     returns-7
-    returns-8)
+    returns-8
+    returns-9
+    returns-10
+    returns-11)

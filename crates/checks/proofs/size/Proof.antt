@@ -37,6 +37,15 @@ enum-told-7 c = search needs
 enum-told-8 : tie.Need-enum-told-8
 enum-told-8 c = search needs
 
+enum-told-9 : tie.Need-enum-told-9
+enum-told-9 c = search needs
+
+enum-told-10 : tie.Need-enum-told-10
+enum-told-10 c = search needs
+
+enum-told-11 : tie.Need-enum-told-11
+enum-told-11 c = search needs
+
 returns : tie.Need-returns
 unfolding sizeOf
 returns c = sized (c .enum-told .given .1) (lit≤ tt) (lit< tt)
@@ -69,6 +78,18 @@ returns-8 : tie.Need-returns-8
 unfolding sizeOf
 returns-8 c = sized (c .enum-told8 .given .1) (lit≤ tt) (lit< tt)
 
+returns-9 : tie.Need-returns-9
+unfolding sizeOf
+returns-9 c = sized (c .enum-told9 .given .1) (lit≤ tt) (lit< tt)
+
+returns-10 : tie.Need-returns-10
+unfolding sizeOf
+returns-10 c = sized (c .enum-told10 .given .1) (lit≤ tt) (lit< tt)
+
+returns-11 : tie.Need-returns-11
+unfolding sizeOf
+returns-11 c = sized (c .enum-told11 .given .1) (lit≤ tt) (lit< tt)
+
 pub size-spec : {M : Type 1} → statement M
 size-spec =
     tie.close
@@ -81,6 +102,9 @@ size-spec =
     enum-told-6
     enum-told-7
     enum-told-8
+    enum-told-9
+    enum-told-10
+    enum-told-11
     returns
     returns-2
     returns-3
@@ -88,4 +112,7 @@ size-spec =
     returns-5
     returns-6
     returns-7
-    returns-8)
+    returns-8
+    returns-9
+    returns-10
+    returns-11)

@@ -7,7 +7,9 @@ use denote.Ref.{now}
 use Rattle.laws.proofs.Outcome.{unchanged, done}
 use Rattle.laws.proofs.Unique.{refusal}
 use Rattle.single.proofs.Block.{Passed, passed, sixteen}
+use native.Mathlib.Omega.{arith}
 use Rattle.rules.specs.Formats.{sizeOf, showsOf}
+use Rattle.single.proofs.First.{first-block}
 use borrow.Author.Needs.{needs}
 use Rattle.single.proofs.read_block.Statement.{statement}
 use Rattle.single.proofs.read_block.Tie as tie
@@ -35,8 +37,8 @@ returns c =
     let v = c .before in
     unchanged _ _ (now (start v .args .image)) (v .verify .result) (rw (v .before .size .ensures .0) at (v .verify .ensures)) (refusal (v .verify .result) (c .match .keys2))
 
-block-requires : tie.Need-block-requires
-block-requires c κs = clear c .enough
+block-at-requires : tie.Need-block-at-requires
+block-at-requires c κs = omega (arith, clear c .enough)
 
 place-block-requires : tie.Need-place-block-requires
 place-block-requires c κs = clear (c .before .before) .room
@@ -51,7 +53,7 @@ returns-2 c =
     let d = now (a .«data») in
     done _ _ (now (a .image)) _ (clear t .zero)
     (c .before .before .place-block .ensures
-    ∙ sixteen (λ k. showsOf (a .f) d (k % 4) (k / 4)) _ (now (a .image)) (c .before .before .before .before .block .ensures))
+    ∙ sixteen (λ k. showsOf (a .f) d (k % 4) (k / 4)) _ (now (a .image)) (c .before .before .before .before .block-at .ensures ∙ first-block (a .f) d))
 
 pub read-block-spec : {M : Type 1} → statement M
 read-block-spec =
@@ -61,7 +63,7 @@ read-block-spec =
     verify-requires
     enum-told
     returns
-    block-requires
+    block-at-requires
     place-block-requires
     same-length
     returns-2)

@@ -13,7 +13,7 @@ use mathlib.Core.Path.{refl}
 use borrow.Author.Tests.{lt-ltb}
 use Rattle.rules.specs.Notation.{build}
 use Rattle.rules.specs.Readers.{blockVerdict, channelVerdict}
-use Rattle.rules.specs.Channels.{orChannel, eacByte}
+use Rattle.single.specs.Joins.{joinOf, byteOf}
 use Rattle.rules.specs.declared.Answer.the-variants.{NoChannel}
 use Rattle.single.proofs.Block.{channel-checked}
 use borrow.Author.Needs.{needs}
@@ -52,8 +52,8 @@ returns-2 c =
 first-sixteen-requires : tie.Need-first-sixteen-requires
 first-sixteen-requires c κs = clear (c .before) .room
 
-eac-onto-requires : tie.Need-eac-onto-requires
-eac-onto-requires c κs = (clear (c .before .before) .enough, search needs)
+onto-requires : tie.Need-onto-requires
+onto-requires c κs = (clear (c .before .before) .enough, search needs)
 
 place-block-requires : tie.Need-place-block-requires
 place-block-requires c κs = clear (c .before .before .before .before) .room
@@ -68,10 +68,10 @@ returns-3 c =
     let d = now (a .«data») in
     let l = now (a .image) in
     let e =
-    c .before .before .before .before .eac-onto .ensures
-    ∙ ap (λ (s : List ℕ). build 16 (λ k. orChannel (a .channel) (getD s k 0) (eacByte (a .signed) d (k % 4) (k / 4)))) (c .before .before .before .before .before .first-sixteen .ensures) in
+    c .before .before .before .before .onto .ensures
+    ∙ ap (λ (s : List ℕ). build 16 (λ k. joinOf (a .j) (a .channel) (getD s k 0) (byteOf (a .j) d (k % 4) (k / 4)))) (c .before .before .before .before .before .first-sixteen .ensures) in
     done _ _ l _ (clear t .zero ∙ four (t .before .before))
-    (c .before .before .place-block .ensures ∙ sixteen (λ k. orChannel (a .channel) (getD l k 0) (eacByte (a .signed) d (k % 4) (k / 4))) _ l e)
+    (c .before .before .place-block .ensures ∙ sixteen (λ k. joinOf (a .j) (a .channel) (getD l k 0) (byteOf (a .j) d (k % 4) (k / 4))) _ l e)
 
 pub read-channel-spec : {M : Type 1} → statement M
 read-channel-spec =
@@ -82,7 +82,7 @@ read-channel-spec =
     enum-told
     returns-2
     first-sixteen-requires
-    eac-onto-requires
+    onto-requires
     place-block-requires
     same-length
     returns-3)
