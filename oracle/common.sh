@@ -63,7 +63,7 @@ build_harness() { # FOLDER OF THE CRATE
     cp "$top/oracle/harness/Cargo.toml" "$build/"
     cp -R "$top/oracle/harness/src" "$build/src"
     cp "$top/oracle/harness/given/lib.rs" "$build/given/"
-    for part in color.rs macros.rs etc.rs etc bcn; do
+    for part in bitreader.rs color.rs macros.rs etc.rs etc bcn; do
         ln -s "$files/$part" "$build/given/$part"
     done
     registry=$(dpkg -L librust-paste-dev | grep '/registry$')

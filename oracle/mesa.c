@@ -1,4 +1,4 @@
-/* Mesa as a decoder, speaking PROTOCOL.md for the eleven picture readers that have a format,
+/* Mesa as a decoder, speaking PROTOCOL.md for the twelve picture readers that have a format,
    and accepted cases alone. Textures go in compressed; a shader hands out the bits of each texel as
    whole numbers, so nothing is rounded on the way back. Eight-bit formats come back as
    pixel words. Of EAC an element is red16 + 65536 * green16, the sixteen bits that Mesa
@@ -14,9 +14,10 @@
 
 enum { MOST_DATA = 262144, MOST_IMAGE = 65536 };
 
-/* In the order of the readers; the first is ETC1 from its own extension, the last three are those of S3TC. */
-static const GLenum FORMAT[16] = {0x8D64, 0x9274, 0x9276, 0x9278, 0x9270, 0x9271, 0x9272, 0x9273,
-                                  0,      0,      0,      0,      0,      0x83F0, 0x83F1, 0x83F3};
+/* By the readers' numbers; the first is ETC1 from its own extension, then three are those of S3TC, and the last is BPTC's. */
+enum { READERS = 35 };
+static const GLenum FORMAT[READERS] = {0x8D64, 0x9274, 0x9276, 0x9278, 0x9270, 0x9271, 0x9272, 0x9273,
+                                       [13] = 0x83F0, [14] = 0x83F1, [15] = 0x83F3, [34] = 0x8E8C};
 
 static void need(int fact, const char *what)
 {
@@ -136,7 +137,7 @@ int main(void)
     start();
     use_program();
     while (fread(head, 4, 6, stdin) == 6) {
-        need(head[0] < 16 && FORMAT[head[0]] && head[4] <= MOST_DATA && head[5] <= MOST_IMAGE, "no such case here");
+        need(head[0] < READERS && FORMAT[head[0]] && head[4] <= MOST_DATA && head[5] <= MOST_IMAGE, "no such case here");
         need(fread(data, 1, head[4], stdin) == head[4], "data cut short");
         need(fread(image, 4, head[5], stdin) == head[5], "image cut short");
         need(head[2] && head[3] && head[5] == head[2] * head[3], "only pictures that show something");

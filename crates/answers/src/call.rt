@@ -7,7 +7,7 @@ ghost use Prim.Native.Nat.{_≤_};
 
 // Whether a number names a reader of pictures with a pitch, which stands in the place of a channel.
 fn is_pitched(number: u32) -> bool {
-    number >= 40 && number <= 55
+    number >= 40 && number <= 55 || number == 74
 }
 
 // Calls the reader of a number on the first n bytes and the first m elements.
@@ -58,6 +58,9 @@ fn call(
     }
     if number == 33 {
         return census::rgba1(data, width, height, image);
+    }
+    if number == 34 {
+        return etc::decode_bc7(data, width, height, image);
     }
     if number >= 27 {
         return desktop_block(number, channel, data, image);
@@ -127,6 +130,7 @@ fn desktop_block(number: u32, channel: usize, data: &[u8], image: &mut [u32]) ->
         27 => etc::decode_bc1_block(data, image),
         28 => etc::decode_bc1a_block(data, image),
         29 => etc::decode_bc3_block(data, image),
-        _ => etc::decode_bc3_alpha(data, channel, image),
+        30 => etc::decode_bc3_alpha(data, channel, image),
+        _ => etc::decode_bc7_block(data, image),
     }
 }

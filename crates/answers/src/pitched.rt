@@ -9,6 +9,9 @@ pub fn picture(number: u32, data: &[u8], pic: Picture, image: &mut [u32]) -> Ans
     if number <= 47 {
         return channels(number, data, pic, image);
     }
+    if number == 74 {
+        return etc::decode_bc7_pitched(data, pic, image);
+    }
     if number >= 53 {
         return desktop(number, data, pic, image);
     }

@@ -128,9 +128,9 @@ module _ (d m : ℕ) (k : Mode) (s : Sane k) where
       pixels-said layout first second colour alpha l p q x y =
           let p' : first ≡ firsts = p ∙ ap (λ (z : ℕ). weightsBy v (k .index) (z / 4294967296)) l in
           let q' : second ≡ seconds =
-            q
-            ∙ ap (λ (z : List ℕ). cond (eqb (k .second) 0) z (weightsBy (w / 2 ^ (16 * k .index - k .subsets) % 2 ^ 64) (k .second) (layout / 4294967296))) p'
-            ∙ ap (λ (z : ℕ). cond (eqb (k .second) 0) firsts (weightsBy (w / 2 ^ (16 * k .index - k .subsets) % 2 ^ 64) (k .second) (z / 4294967296))) l in
+          q
+          ∙ ap (λ (z : List ℕ). cond (eqb (k .second) 0) z (weightsBy (w / 2 ^ (16 * k .index - k .subsets) % 2 ^ 64) (k .second) (layout / 4294967296))) p'
+          ∙ ap (λ (z : ℕ). cond (eqb (k .second) 0) firsts (weightsBy (w / 2 ^ (16 * k .index - k .subsets) % 2 ^ 64) (k .second) (z / 4294967296))) l in
           let x' : colour ≡ cond (eqb (h .selection) 0) firsts seconds = x ∙ ap (λ (z : List ℕ). cond (eqb (h .selection) 0) z second) p' ∙ ap (λ (z : List ℕ). cond (eqb (h .selection) 0) firsts z) q' in
           let y' : alpha ≡ cond (eqb (h .selection) 0) seconds firsts = y ∙ ap (λ (z : List ℕ). cond (eqb (h .selection) 0) z first) q' ∙ ap (λ (z : List ℕ). cond (eqb (h .selection) 0) seconds z) p' in
           build-same 0 (λ i. shaded (h .rotation) r (layout / 2 ^ (2 * i) % 4) (getD colour i 0) (getD alpha i 0)) (pixelIn d m k) 16

@@ -1,7 +1,7 @@
 // A BC7 block: all eight modes are one reading, by the record of the mode.
-use rules::Mode;
-use rest::Rest;
 use ends::Ends;
+use rest::Rest;
+use rules::Mode;
 ghost use mathlib.Core.Path.{_≡_};
 ghost use mathlib.Core.Bool.{cond};
 ghost use Prim.Native.Nat.{ℕ, _-_, _*_, _/_, _%_, _^_, _<_, _≤_};
@@ -100,7 +100,13 @@ fn in_mode(r: Rest, m: usize) -> [u32; 16]
     let left = e.rest;
     let first = weights(rest::word_of(left), k.index, mask);
     let second = second_weights(left, k, mask, first);
-    shade(h.rotation, layout, e, chosen(h.selection, first, second), chosen(h.selection, second, first))
+    shade(
+        h.rotation,
+        layout,
+        e,
+        chosen(h.selection, first, second),
+        chosen(h.selection, second, first),
+    )
 }
 
 // The sixteen pixels of a block in two words: none of a mode is 0.

@@ -23,6 +23,7 @@ pub fn block(f: Format, data: &[u8]) -> [u32; 16]
         Format::Bc1 => bc1::bc1_block(data, false),
         Format::Bc1Alpha => bc1::bc1_block(data, true),
         Format::Bc3 => bc3::bc3_block(data),
+        Format::Bc7 => bc7::bc7_block(data),
     }
 }
 

@@ -243,7 +243,9 @@ pub fn blend(a: u8, b: u8, w: u8) -> u32
 }
 
 const TWO_BITS: [u8; 16] = [0, 21, 43, 64, 0, 0, 0, 0, 0, 0, 0, 0, 0, 0, 0, 0];
+
 const THREE_BITS: [u8; 16] = [0, 9, 18, 27, 37, 46, 55, 64, 0, 0, 0, 0, 0, 0, 0, 0];
+
 const FOUR_BITS: [u8; 16] = [0, 4, 9, 13, 17, 21, 26, 30, 34, 38, 43, 47, 51, 55, 60, 64];
 
 // The weights of an index of n bits, and 0 after them.

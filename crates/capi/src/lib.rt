@@ -415,6 +415,42 @@ pub extern "C" fn yalivucu_decode_bc3_pitched(
     etc::number(etc::decode_bc3_pitched(data, pic, image))
 }
 
+// Reads a BC7 picture.
+#[no_mangle]
+pub extern "C" fn yalivucu_decode_bc7(
+    data: &[u8],
+    width: usize,
+    height: usize,
+    image: &mut [u32],
+) -> u32
+    ensures { λ r. ⌜ Told
+        (λ a. ReadsPicture Format.Bc7 (now («data» .entry)) (sized width height) (now (image .entry)) a (now (image .exit)))
+        r ⌝ }
+{
+    etc::number(etc::decode_bc7(data, width, height, image))
+}
+
+// The same of a picture with a pitch.
+#[no_mangle]
+pub extern "C" fn yalivucu_decode_bc7_pitched(
+    data: &[u8],
+    width: usize,
+    height: usize,
+    pitch: usize,
+    image: &mut [u32],
+) -> u32
+    ensures { λ r. ⌜ Told
+        (λ a. ReadsPicture Format.Bc7 (now («data» .entry)) (pitched width height pitch) (now (image .entry)) a (now (image .exit)))
+        r ⌝ }
+{
+    let pic = Picture {
+        width: width,
+        height: height,
+        pitch: pitch,
+    };
+    etc::number(etc::decode_bc7_pitched(data, pic, image))
+}
+
 // The strict reader of a picture with any pitch: the block that an answer names is written, and any other answer writes none.
 fn strict(data: &[u8], pic: Picture, image: &mut [u32], block: &mut usize) -> u32
     ensures { λ r. ⌜ Told
@@ -562,6 +598,14 @@ pub extern "C" fn yalivucu_decode_bc3_block(data: &[u8], out: &mut [u32]) -> u32
     ensures { λ r. ⌜ Told (λ a. ReadsBlock Format.Bc3 (now («data» .entry)) (now (out .entry)) a (now (out .exit))) r ⌝ }
 {
     etc::number(etc::decode_bc3_block(data, out))
+}
+
+// Reads a BC7 block of 16 bytes into the elements 0 to 15.
+#[no_mangle]
+pub extern "C" fn yalivucu_decode_bc7_block(data: &[u8], out: &mut [u32]) -> u32
+    ensures { λ r. ⌜ Told (λ a. ReadsBlock Format.Bc7 (now («data» .entry)) (now (out .entry)) a (now (out .exit))) r ⌝ }
+{
+    etc::number(etc::decode_bc7_block(data, out))
 }
 
 // Reads an alpha half of 8 bytes into the top bytes of the elements 0 to 15, and keeps the rest of them.

@@ -35,7 +35,7 @@ module _ (d m : ℕ) (k : Mode) where
   fetched cv av pv w₁ w₂ w₃ w₄ n e₁ c e₂ a e₃ q p e₄ =
       let s : 3 * (2 * k .subsets) ≡ 6 * k .subsets = omega arith in
       let f₂ : w₂ ≡ d / 2 ^ alphaPlace m k =
-        e₂ ∙ ap (λ (x : ℕ). x / 2 ^ (3 * (2 * k .subsets) * k .colour)) e₁ ∙ shr-shr d (colourPlace m k) (3 * (2 * k .subsets) * k .colour) ∙ ap (λ (x : ℕ). d / 2 ^ (colourPlace m k + x * k .colour)) s in
+      e₂ ∙ ap (λ (x : ℕ). x / 2 ^ (3 * (2 * k .subsets) * k .colour)) e₁ ∙ shr-shr d (colourPlace m k) (3 * (2 * k .subsets) * k .colour) ∙ ap (λ (x : ℕ). d / 2 ^ (colourPlace m k + x * k .colour)) s in
       let f₃ : w₃ ≡ d / 2 ^ pPlace m k = e₃ ∙ ap (λ (x : ℕ). x / 2 ^ (2 * k .subsets * k .alpha)) f₂ ∙ shr-shr d (alphaPlace m k) (2 * k .subsets * k .alpha) in
       record {
         colours = λ j h. c j (omega arith) ∙ field-at d w₁ (colourPlace m k) (k .colour) j e₁;

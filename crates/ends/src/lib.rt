@@ -1,6 +1,6 @@
 // The fields of a BC7 block in front of its endpoints, and the endpoints widened to bytes, by the record of its mode.
-use rules::Mode;
 use rest::Rest;
+use rules::Mode;
 ghost use mathlib.Core.Path.{_≡_};
 ghost use mathlib.Core.Bool.{cond};
 ghost use Prim.Native.Nat.{ℕ, _+_, _*_, _/_, _^_, _<_, _≤_};
@@ -66,7 +66,15 @@ fn endpoint(v: u8, p: u8, w: usize, pb: usize) -> u8
 }
 
 // The endpoints of one channel, which stand from `at` on.
-fn channel(values: [u8; 24], at: usize, count: usize, w: usize, ps: [u8; 24], shared: usize, pb: usize) -> [u8; 8]
+fn channel(
+    values: [u8; 24],
+    at: usize,
+    count: usize,
+    w: usize,
+    ps: [u8; 24],
+    shared: usize,
+    pb: usize,
+) -> [u8; 8]
     requires { ⌜ (count ≤ 6) × (at ≤ 12) × (w + pb ≤ 8) × (pb ≤ 1) ⌝ }
     requires { ⌜ ((k : ℕ) → getD values k 0 < 2 ^ w) ⌝ }
     requires { ⌜ ((k : ℕ) → getD ps k 0 < 2 ^ pb) ⌝ }

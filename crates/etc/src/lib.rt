@@ -213,6 +213,20 @@ pub fn decode_bc3_pitched(data: &[u8], pic: Picture, image: &mut [u32]) -> Answe
     picture::read(Format::Bc3, data, pic, image)
 }
 
+// Reads a BC7 picture.
+pub fn decode_bc7(data: &[u8], width: usize, height: usize, image: &mut [u32]) -> Answer
+    ensures { λ r. ⌜ ReadsPicture Format.Bc7 (now («data» .entry)) (sized width height) (now (image .entry)) r (now (image .exit)) ⌝ }
+{
+    read(Format::Bc7, data, width, height, image)
+}
+
+// The same of a picture with a pitch.
+pub fn decode_bc7_pitched(data: &[u8], pic: Picture, image: &mut [u32]) -> Answer
+    ensures { λ r. ⌜ ReadsPicture Format.Bc7 (now («data» .entry)) pic (now (image .entry)) r (now (image .exit)) ⌝ }
+{
+    picture::read(Format::Bc7, data, pic, image)
+}
+
 // Reads an ETC1 picture that holds no block out of range, and refuses any other with the number of the first such block. Each
 // pixel that it paints is the one that the ETC2 RGB rule gives.
 pub fn decode_etc1_strict(data: &[u8], width: usize, height: usize, image: &mut [u32]) -> Answer
@@ -308,6 +322,13 @@ pub fn decode_bc3_block(data: &[u8], image: &mut [u32]) -> Answer
     ensures { λ r. ⌜ ReadsBlock Format.Bc3 (now («data» .entry)) (now (image .entry)) r (now (image .exit)) ⌝ }
 {
     single::read_block(Format::Bc3, data, image)
+}
+
+// Reads a BC7 block of 16 bytes into the elements 0 to 15.
+pub fn decode_bc7_block(data: &[u8], image: &mut [u32]) -> Answer
+    ensures { λ r. ⌜ ReadsBlock Format.Bc7 (now («data» .entry)) (now (image .entry)) r (now (image .exit)) ⌝ }
+{
+    single::read_block(Format::Bc7, data, image)
 }
 
 // Reads an alpha half of 8 bytes into the top bytes of the elements 0 to 15, and keeps the rest of them.

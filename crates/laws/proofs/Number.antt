@@ -75,7 +75,7 @@ split (suc n) m k d =
     let p : 8 * suc n ≡ 8 + 8 * n = omega arith in
     let q : 2 ^ (8 * suc n) ≡ 256 * 2 ^ (8 * n) = ap (λ (z : ℕ). 2 ^ z) p ∙ pow-add 2 8 (8 * n) in
     let r : 2 ^ (8 * suc n) * little m (suc n + k) d ≡ 256 * (2 ^ (8 * n) * little m (n + suc k) d) =
-      ap (λ (z : ℕ). z * little m (suc n + k) d) q ∙ mul-assoc 256 (2 ^ (8 * n)) (little m (suc n + k) d) ∙ ap (λ (z : ℕ). 256 * (2 ^ (8 * n) * z)) (sym f) in
+    ap (λ (z : ℕ). z * little m (suc n + k) d) q ∙ mul-assoc 256 (2 ^ (8 * n)) (little m (suc n + k) d) ∙ ap (λ (z : ℕ). 256 * (2 ^ (8 * n) * z)) (sym f) in
     omega (arith, e, split n m (suc k) d, r)
 
 -- n bytes are below 2 ^ (8 * n)

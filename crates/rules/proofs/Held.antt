@@ -17,6 +17,8 @@ use Rattle.rules.specs.Modes.{rgbPixel, rgba1Pixel, etc1Pixel}
 use Rattle.rules.specs.Channels.{alphaStep, alphaByte, rgba8Pixel, eacValue, eacByte, redPixel, redGreenPixel}
 use Rattle.numbers.specs.Numbers.{little}
 use Rattle.rules.specs.Desktop.{bc1Pixel, bc3Alpha, bc3Pixel}
+use Rattle.rules.specs.Bptc.{two, three, anchorOfTwo, anchorOfThree1, anchorOfThree2, subset, anchor}
+use Rattle.rules.specs.Bc7.{modeTable, lowest, bitsBefore, pixelIn, bc7Pixel}
 use Rattle.rules.specs.Formats.{sizeOf, showsOf}
 use Rattle.rules.specs.Readers.{pictureOf, pictureVerdict, ReadsPicture, strictVerdict, ReadsStrict}
 use Rattle.rules.specs.Readers.{blockVerdict, blockPainted, ReadsBlock, alphaPainted, ReadsAlpha, channelVerdict, channelPainted, ReadsChannel}
@@ -163,5 +165,5 @@ orders =
     && notLess (5 ∷ 3 ∷ 9 ∷ []) (4 ∷ 2 ∷ 1 ∷ [])
 
 hold : T (numbers && words && orders && places && every (bench ++ recorded ++ table ++ pitches))
-unfolding numbers words orders places every bench table pitches recorded verdictOf paints leaves holds marked needed painted firstOf differential wrapped kindBySums outOfRange tBases tDistance hBases hDistance planarBases planarChannel indexed rgbPixel rgba1Pixel etc1Pixel alphaStep alphaByte rgba8Pixel eacValue eacByte redPixel redGreenPixel little bc1Pixel bc3Alpha bc3Pixel sizeOf showsOf
+unfolding numbers words orders places every bench table pitches recorded verdictOf paints leaves holds marked needed painted firstOf differential wrapped kindBySums outOfRange tBases tDistance hBases hDistance planarBases planarChannel indexed rgbPixel rgba1Pixel etc1Pixel alphaStep alphaByte rgba8Pixel eacValue eacByte redPixel redGreenPixel little bc1Pixel bc3Alpha bc3Pixel two three anchorOfTwo anchorOfThree1 anchorOfThree2 subset anchor modeTable lowest bitsBefore pixelIn bc7Pixel sizeOf showsOf
 hold = tt

@@ -12,7 +12,7 @@ use Rattle.rules.specs.declared.Picture.{Picture}
 use Rattle.rules.specs.declared.Answer.{Answer}
 use Rattle.rules.specs.declared.Answer.the-variants.{ShortData}
 use Rattle.rules.specs.declared.Format.{Format}
-use Rattle.rules.specs.declared.Format.the-variants.{Etc1, Etc2Rgb, Etc2Rgba1, Etc2Rgba8, EacR, EacRSigned, EacRg, EacRgSigned, Bc1, Bc1Alpha, Bc3}
+use Rattle.rules.specs.declared.Format.the-variants.{Etc1, Etc2Rgb, Etc2Rgba1, Etc2Rgba8, EacR, EacRSigned, EacRg, EacRgSigned, Bc1, Bc1Alpha, Bc3, Bc7}
 use Rattle.rows.specs.Rows.{scanned, scannedRow}
 
 -- the formats whose blocks an ETC1 reader may be handed
@@ -28,6 +28,7 @@ isColour EacRgSigned = false
 isColour Bc1 = false
 isColour Bc1Alpha = false
 isColour Bc3 = false
+isColour Bc7 = false
 
 -- the number of an answer
 abbrev pub numberOf : Answer → ℕ

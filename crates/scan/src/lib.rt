@@ -92,6 +92,7 @@ fn is_colour(f: Format) -> bool
         Format::Bc1 => false,
         Format::Bc1Alpha => false,
         Format::Bc3 => false,
+        Format::Bc7 => false,
     }
 }
 

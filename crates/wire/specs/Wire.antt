@@ -3,7 +3,7 @@
 use mathlib.Core.Bool.{Bool, cond, _&&_, _||_}
 use mathlib.Core.List.{List, [], _∷_}
 use Prim.Native.Nat.{ℕ, _+_, _*_, _/_, _%_}
-use lib.Dec.{ltb}
+use lib.Dec.{ltb, eqb}
 use lib.ListN.{getD}
 use Rattle.rules.specs.Notation.{build}
 use Rattle.lay.specs.Lays.{laid}
@@ -35,10 +35,10 @@ packed words n bytes = laid (build (n * 4) (byteAt words)) bytes
 abbrev pub atMost : ℕ → ℕ → ℕ
 atMost most n = cond (ltb most n) most n
 
--- the numbers of the table of readers: pictures, BC pictures and then blocks, censuses, and both kinds of pictures with a pitch
+-- the numbers of the table of readers: pictures, BC pictures and then blocks, censuses and BC7, and the pictures with a pitch
 abbrev pub isReader : ℕ → Bool
 isReader n =
-    (((ltb n 9 || (ltb 12 n && ltb n 31)) || (ltb 31 n && ltb n 34)) || (ltb 39 n && ltb n 49)) || (ltb 52 n && ltb n 56)
+    (((ltb n 9 || (ltb 12 n && ltb n 35)) || (ltb 39 n && ltb n 49)) || (ltb 52 n && ltb n 56)) || eqb n 74
 
 -- "a reader that is not in the table, or a length above the largest is no case"
 abbrev pub isCase : List ℕ → Bool

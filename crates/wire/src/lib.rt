@@ -97,11 +97,11 @@ fn is_reader(number: u32) -> bool
     ensures { λ r. ⌜ r ≡ isReader number ⌝ }
 {
     let picture = number < 9;
-    let desktop_or_block = (12 < number) & (number < 31);
-    let census = (31 < number) & (number < 34);
+    let desktop_or_block = (12 < number) & (number < 35);
     let pitched = (39 < number) & (number < 49);
     let desktop_pitched = (52 < number) & (number < 56);
-    picture | desktop_or_block | census | pitched | desktop_pitched
+    let bc7_pitched = number == 74;
+    picture | desktop_or_block | pitched | desktop_pitched | bc7_pitched
 }
 
 // Whether the reader is one, and there is room for the lengths.

@@ -136,7 +136,7 @@ fn for_ours(mut case: Case, asked: u32) -> Case {
 /// Mesa's answer in the form of the reader asked.
 pub fn from_mesa(case: &Case, seen: Answer, asked: u32) -> Answer {
     let image = match case.reader {
-        ETC1 | RGB | RGBA1 | RGBA8 | BC1 | BC1A | BC3 => seen.image,
+        ETC1 | RGB | RGBA1 | RGBA8 | BC1 | BC1A | BC3 | BC7 => seen.image,
         reader if asked == reader => seen.image.iter().map(|&both| pixel(reader, both)).collect(),
         reader => seen.image.iter().flat_map(|&both| values(reader, both)).collect(),
     };

@@ -20,10 +20,11 @@ indices-requires c κs = search needs
 
 weigh-requires : tie.Need-weigh-requires
 weigh-requires c κs =
-    let a = c .before .args in
-    (c .before .pre,
-    λ k. subst (λ (l : List ℕ). getD l k 0 < 16) (sym (c .indices .ensures))
-    (each (λ x. x < 16) (λ i. a .v / 2 ^ passedBy (a .b) (a .mask) i % 2 ^ widthBy (a .b) (a .mask) i) 16 (λ i h. lt-of-lt-of-le (mod-lt (a .v / 2 ^ passedBy (a .b) (a .mask) i) (pow-pos (widthBy (a .b) (a .mask) i))) (pow-mono {j = 4} (omega arith))) (lit< tt) k))
+    let a = c .before .args in (
+      c .before .pre,
+      λ k. subst (λ (l : List ℕ). getD l k 0 < 16) (sym (c .indices .ensures))
+          (each (λ x. x < 16) (λ i. a .v / 2 ^ passedBy (a .b) (a .mask) i % 2 ^ widthBy (a .b) (a .mask) i) 16 (λ i h. lt-of-lt-of-le (mod-lt (a .v / 2 ^ passedBy (a .b) (a .mask) i) (pow-pos (widthBy (a .b) (a .mask) i))) (pow-mono {j = 4} (omega arith))) (lit< tt) k),
+    )
 
 returns : tie.Need-returns
 returns c =

@@ -49,10 +49,10 @@ returns-2 c =
     let e = c .before .before .before in
     let a = e .before .before .before .args in
     let v : c .part .result ≡ fieldAt (now (a .s)) (a .place) (a .n) =
-      c .part .ensures
-      ∙ ap (λ (m : ℕ). (m * 256 + c .before .byte-or-02 .result) / 2 ^ (a .place % 8) % 2 ^ (a .n)) (c .before .before .byte-or-0 .ensures .0)
-      ∙ ap (λ (m : ℕ). (getD (now (a .s)) (a .place / 8 + 1) 0 * 256 + m) / 2 ^ (a .place % 8) % 2 ^ (a .n)) (c .before .byte-or-02 .ensures .0)
-      ∙ sym (in-two (now (a .s)) (λ k. e .before .before .shared-slice-known .given k .fits) (a .place) (a .n) (allowed _ _ _ (sym (e .before .refused .ensures) ∙ e .if1 .left) .0)) in
+    c .part .ensures
+    ∙ ap (λ (m : ℕ). (m * 256 + c .before .byte-or-02 .result) / 2 ^ (a .place % 8) % 2 ^ (a .n)) (c .before .before .byte-or-0 .ensures .0)
+    ∙ ap (λ (m : ℕ). (getD (now (a .s)) (a .place / 8 + 1) 0 * 256 + m) / 2 ^ (a .place % 8) % 2 ^ (a .n)) (c .before .byte-or-02 .ensures .0)
+    ∙ sym (in-two (now (a .s)) (λ k. e .before .before .shared-slice-known .given k .fits) (a .place) (a .n) (allowed _ _ _ (sym (e .before .refused .ensures) ∙ e .if1 .left) .0)) in
     ap (λ (x : ℕ). 0 ∷ x ∷ []) v
     ∙ sym (ap (λ (t : Bool). cond t (2 ∷ []) (0 ∷ fieldAt (now (a .s)) (a .place) (a .n) ∷ [])) (sym (e .before .refused .ensures) ∙ e .if1 .left))
 

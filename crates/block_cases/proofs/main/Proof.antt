@@ -6,10 +6,10 @@ use Rattle.block_cases.proofs.main.Statement.{statement}
 use Rattle.block_cases.proofs.main.Tie as tie
 
 abbrev Inv-loop : tie.InvT-loop
-Inv-loop reader₀ reader = reader ≤ 15
+Inv-loop reader₀ reader = reader ≤ 16
 
 abbrev μ-loop : tie.MeasureT-loop
-μ-loop reader₀ reader = 15 - reader
+μ-loop reader₀ reader = 16 - reader
 
 colour-specimens-requires : tie.Need-colour-specimens-requires Inv-loop μ-loop
 colour-specimens-requires c κs = search needs

@@ -85,6 +85,13 @@ bc3-block-requires : tie.Need-bc3-block-requires
 unfolding sizeOf
 bc3-block-requires c κs = enough (c .enum-told11 .given .1) (c .before .before .before .pre)
 
+enum-told-12 : tie.Need-enum-told-12
+enum-told-12 c = search needs
+
+bc7-block-requires : tie.Need-bc7-block-requires
+unfolding sizeOf
+bc7-block-requires c κs = enough (c .enum-told12 .given .1) (c .before .before .before .pre)
+
 returns : tie.Need-returns
 unfolding showsOf
 returns c = c .etc1-block .ensures ∙ shown (now (c .before .before .before .before .args .«data»)) (c .before .enum-told .given .1)
@@ -129,6 +136,10 @@ returns-11 : tie.Need-returns-11
 unfolding showsOf
 returns-11 c = c .bc3-block .ensures ∙ shown (now (c .before .before .before .before .args .«data»)) (c .before .enum-told11 .given .1)
 
+returns-12 : tie.Need-returns-12
+unfolding showsOf
+returns-12 c = c .bc7-block .ensures ∙ shown (now (c .before .before .before .before .args .«data»)) (c .before .enum-told12 .given .1)
+
 pub block-spec : {M : Type 1} → statement M
 block-spec =
     tie.close
@@ -155,6 +166,8 @@ block-spec =
     bc1-block-requires-2
     enum-told-11
     bc3-block-requires
+    enum-told-12
+    bc7-block-requires
     returns
     returns-2
     returns-3
@@ -165,4 +178,5 @@ block-spec =
     returns-8
     returns-9
     returns-10
-    returns-11)
+    returns-11
+    returns-12)

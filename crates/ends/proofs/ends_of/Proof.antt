@@ -36,34 +36,46 @@ several-requires-3 c κs = search needs
 
 channel-requires : tie.Need-channel-requires
 channel-requires c κs =
-    let p = c .before .before .before .before .before .before .before .before .before .pre in
-    ((omega (arith, p .subsets), omega arith, p .colour, p .p),
-    (below-all (c .before .before .before .before .before .before .several .result .values) _ _ _ (c .before .before .before .before .before .before .several .ensures .0) (c .before .before .before .before .before .before .several .ensures .1 .0),
-    below-all (c .before .before .before .several3 .result .values) _ _ _ (c .before .before .before .several3 .ensures .0) (c .before .before .before .several3 .ensures .1 .0)))
+    let p = c .before .before .before .before .before .before .before .before .before .pre in (
+      (omega (arith, p .subsets), omega arith, p .colour, p .p),
+      (
+        below-all (c .before .before .before .before .before .before .several .result .values) _ _ _ (c .before .before .before .before .before .before .several .ensures .0) (c .before .before .before .before .before .before .several .ensures .1 .0),
+        below-all (c .before .before .before .several3 .result .values) _ _ _ (c .before .before .before .several3 .ensures .0) (c .before .before .before .several3 .ensures .1 .0),
+      ),
+    )
 
 channel-requires-2 : tie.Need-channel-requires-2
 channel-requires-2 c κs =
-    let p = c .before .before .before .before .before .before .before .before .before .before .pre in
-    ((omega (arith, p .subsets), omega (arith, p .subsets), p .colour, p .p),
-    (below-all (c .before .before .before .before .before .before .before .several .result .values) _ _ _ (c .before .before .before .before .before .before .before .several .ensures .0) (c .before .before .before .before .before .before .before .several .ensures .1 .0),
-    below-all (c .before .before .before .before .several3 .result .values) _ _ _ (c .before .before .before .before .several3 .ensures .0) (c .before .before .before .before .several3 .ensures .1 .0)))
+    let p = c .before .before .before .before .before .before .before .before .before .before .pre in (
+      (omega (arith, p .subsets), omega (arith, p .subsets), p .colour, p .p),
+      (
+        below-all (c .before .before .before .before .before .before .before .several .result .values) _ _ _ (c .before .before .before .before .before .before .before .several .ensures .0) (c .before .before .before .before .before .before .before .several .ensures .1 .0),
+        below-all (c .before .before .before .before .several3 .result .values) _ _ _ (c .before .before .before .before .several3 .ensures .0) (c .before .before .before .before .several3 .ensures .1 .0),
+      ),
+    )
 
 mul-channel : tie.Need-mul-channel
 mul-channel c = search needs
 
 channel-requires-3 : tie.Need-channel-requires-3
 channel-requires-3 c κs =
-    let p = c .before .before .before .before .before .before .before .before .before .before .before .pre in
-    ((omega (arith, p .subsets), omega (arith, p .subsets), p .colour, p .p),
-    (below-all (c .before .before .before .before .before .before .before .before .several .result .values) _ _ _ (c .before .before .before .before .before .before .before .before .several .ensures .0) (c .before .before .before .before .before .before .before .before .several .ensures .1 .0),
-    below-all (c .before .before .before .before .before .several3 .result .values) _ _ _ (c .before .before .before .before .before .several3 .ensures .0) (c .before .before .before .before .before .several3 .ensures .1 .0)))
+    let p = c .before .before .before .before .before .before .before .before .before .before .before .pre in (
+      (omega (arith, p .subsets), omega (arith, p .subsets), p .colour, p .p),
+      (
+        below-all (c .before .before .before .before .before .before .before .before .several .result .values) _ _ _ (c .before .before .before .before .before .before .before .before .several .ensures .0) (c .before .before .before .before .before .before .before .before .several .ensures .1 .0),
+        below-all (c .before .before .before .before .before .several3 .result .values) _ _ _ (c .before .before .before .before .before .several3 .ensures .0) (c .before .before .before .before .before .several3 .ensures .1 .0),
+      ),
+    )
 
 channel-requires-4 : tie.Need-channel-requires-4
 channel-requires-4 c κs =
-    let p = c .before .before .before .before .before .before .before .before .before .before .before .before .before .before .before .pre in
-    ((omega (arith, p .subsets), omega arith, p .alpha, p .p),
-    (below-all (c .before .before .before .before .before .before .before .before .before .before .before .several2 .result .values) _ _ _ (c .before .before .before .before .before .before .before .before .before .before .before .several2 .ensures .0) (c .before .before .before .before .before .before .before .before .before .before .before .several2 .ensures .1 .0),
-    below-all (c .before .before .before .before .before .before .before .before .before .several3 .result .values) _ _ _ (c .before .before .before .before .before .before .before .before .before .several3 .ensures .0) (c .before .before .before .before .before .before .before .before .before .several3 .ensures .1 .0)))
+    let p = c .before .before .before .before .before .before .before .before .before .before .before .before .before .before .before .pre in (
+      (omega (arith, p .subsets), omega arith, p .alpha, p .p),
+      (
+        below-all (c .before .before .before .before .before .before .before .before .before .before .before .several2 .result .values) _ _ _ (c .before .before .before .before .before .before .before .before .before .before .before .several2 .ensures .0) (c .before .before .before .before .before .before .before .before .before .before .before .several2 .ensures .1 .0),
+        below-all (c .before .before .before .before .before .before .before .before .before .several3 .result .values) _ _ _ (c .before .before .before .before .before .before .before .before .before .several3 .ensures .0) (c .before .before .before .before .before .before .before .before .before .several3 .ensures .1 .0),
+      ),
+    )
 
 returns : tie.Need-returns
 returns c =

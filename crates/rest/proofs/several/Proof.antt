@@ -43,10 +43,13 @@ loop-again c =
 returns : tie.Need-returns Inv-loop μ-loop
 returns c =
     let l = c .before .loop in
-    let e : l .i ≡ c .before .before .args .count = omega arith in
-    (λ k h. l .inv .passed k (omega arith),
-     (λ k h. l .inv .others k (omega arith),
-     l .inv .left ∙ ap (λ (m : ℕ). whole (c .before .before .args .r) / 2 ^ (m * c .before .before .args .b)) e))
+    let e : l .i ≡ c .before .before .args .count = omega arith in (
+      λ k h. l .inv .passed k (omega arith),
+      (
+        λ k h. l .inv .others k (omega arith),
+        l .inv .left ∙ ap (λ (m : ℕ). whole (c .before .before .args .r) / 2 ^ (m * c .before .before .args .b)) e,
+      ),
+    )
 
 pub several-spec : {M : Type 1} → statement M
 several-spec =
