@@ -14,7 +14,7 @@ pub struct Format {
     pub given: Reader,
 }
 
-pub const FORMATS: [Format; 10] = [
+pub const FORMATS: [Format; 11] = [
     Format {
         name: "ETC1",
         halves: &[Half::Colour],
@@ -84,6 +84,13 @@ pub const FORMATS: [Format; 10] = [
         library: yalivucu::decode_bc3,
         pitched: Some(yalivucu::decode_bc3_pitched),
         given: given::decode_bc3,
+    },
+    Format {
+        name: "BC7",
+        halves: &[Half::Bc7, Half::Bc7Rest],
+        library: yalivucu::decode_bc7,
+        pitched: Some(yalivucu::decode_bc7_pitched),
+        given: given::decode_bc7,
     },
 ];
 

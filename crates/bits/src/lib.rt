@@ -51,7 +51,9 @@ pub fn bits_at(s: &[u8], place: usize, n: usize) -> Bits
         return Bits::Refused;
     }
     let at = place / 8;
-    let pair = byte_or_0(s, at + 1) * 256 + byte_or_0(s, at);
+    let high = byte_or_0(s, at + 1);
+    let low = byte_or_0(s, at);
+    let pair = high * 256 + low;
     Bits::Value(part(pair, (place % 8) as u32, n as u32))
 }
 

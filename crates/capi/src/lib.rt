@@ -1007,6 +1007,28 @@ pub extern "C" fn yalivucu_start_bc3(
     etc::number(pieces_lent::start(Format::Bc3, pic, image, numbers, kept))
 }
 
+// Starts to read a BC7 picture in pieces; the caller keeps the state, in the two arrays.
+#[no_mangle]
+pub extern "C" fn yalivucu_start_bc7(
+    width: usize,
+    height: usize,
+    pitch: usize,
+    image: &[u32],
+    numbers: &mut [usize; 5],
+    kept: &mut [u8; 15],
+) -> u32
+    ensures { λ r. ⌜ Told
+        (λ a. StartLent Format.Bc7 (pitched width height pitch) (length (now (image .entry))) a (now (numbers .exit)) (now (kept .exit)))
+        r ⌝ }
+{
+    let pic = Picture {
+        width: width,
+        height: height,
+        pitch: pitch,
+    };
+    etc::number(pieces_lent::start(Format::Bc7, pic, image, numbers, kept))
+}
+
 // Takes a piece of a picture that was started.
 #[no_mangle]
 pub extern "C" fn yalivucu_take_piece(

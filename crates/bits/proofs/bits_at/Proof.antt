@@ -20,17 +20,17 @@ refused-requires c κs = search needs
 returns : tie.Need-returns
 returns c = rw (sym (c .before .refused .ensures) ∙ c .if1 .taken)
 
-add-byte-or-0 : tie.Need-add-byte-or-0
-add-byte-or-0 c = search needs
+add-high : tie.Need-add-high
+add-high c = search needs
 
 byte-or-0-requires : tie.Need-byte-or-0-requires
 byte-or-0-requires c κs = search needs
 
-mul-pair : tie.Need-mul-pair
-mul-pair c = search needs
-
 byte-or-0-requires-2 : tie.Need-byte-or-0-requires-2
 byte-or-0-requires-2 c κs = search needs
+
+mul-pair : tie.Need-mul-pair
+mul-pair c = search needs
 
 add-pair : tie.Need-add-pair
 add-pair c = search needs
@@ -62,10 +62,10 @@ bits-at-spec =
     (tie.spec
     refused-requires
     returns
-    add-byte-or-0
+    add-high
     byte-or-0-requires
-    mul-pair
     byte-or-0-requires-2
+    mul-pair
     add-pair
     cast-part
     cast-part-2
