@@ -28,7 +28,7 @@ zeros-below-requires c κs = search needs
 returns : tie.Need-returns
 returns c =
     let z = c .before .zeros-below in
-    let r = c .before .before .args .r in
+    let r = c .before .before .before .args .r in
     let w = whole r in
     let m : z .result ≡ modeOf w = z .ensures ∙ ap (λ (b : ℕ). lowest 8 b 0) (first (r .hi) (r .lo)) in
     let t : ltb 7 (modeOf w) ≡ true = ap (λ (x : ℕ). ltb 7 x) (sym m) ∙ lt-ltb _ _ (c .if1 .taken) in
@@ -41,7 +41,7 @@ in-mode-requires c κs = search needs
 returns-2 : tie.Need-returns-2
 returns-2 c =
     let z = c .before .before .zeros-below in
-    let r = c .before .before .before .args .r in
+    let r = c .before .before .before .before .args .r in
     let w = whole r in
     let m : z .result ≡ modeOf w = z .ensures ∙ ap (λ (b : ℕ). lowest 8 b 0) (first (r .hi) (r .lo)) in
     let t : ltb 7 (modeOf w) ≡ false = ap (λ (x : ℕ). ltb 7 x) (sym m) ∙ le-ltb _ _ (c .before .if1 .left) in

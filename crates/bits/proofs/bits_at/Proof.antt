@@ -20,8 +20,8 @@ refused-requires c κs = search needs
 returns : tie.Need-returns
 returns c = rw (sym (c .before .refused .ensures) ∙ c .if1 .taken)
 
-add-high : tie.Need-add-high
-add-high c = search needs
+add-byte-or-0 : tie.Need-add-byte-or-0
+add-byte-or-0 c = search needs
 
 byte-or-0-requires : tie.Need-byte-or-0-requires
 byte-or-0-requires c κs = search needs
@@ -62,7 +62,7 @@ bits-at-spec =
     (tie.spec
     refused-requires
     returns
-    add-high
+    add-byte-or-0
     byte-or-0-requires
     byte-or-0-requires-2
     mul-pair
