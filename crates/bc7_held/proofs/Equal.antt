@@ -8,7 +8,7 @@ use native.Mathlib.Omega.{arith}
 use lib.Dec.{ltb}
 use lib.ListN.{length}
 use borrow.Author.Tests.{le-ltb}
-use Rattle.rules.specs.Bits.{lacks}
+use Rattle.rules.specs.Bits.{lacks, fieldAt}
 use Rattle.rules.specs.Places.{tile}
 use Rattle.rules.specs.Bc7.{pixelOf, blockWord, bc7Pixel}
 use Rattle.rules.specs.declared.Answer.the-variants.{Done}
@@ -28,6 +28,6 @@ shown d =
 
 pub same-as-fast : (d : List ℕ) → Bytes d → 16 ≤ length d → blockFrom d 0 ≡ record { answer = Done; pixels = tile bc7Pixel d }
 same-as-fast d b h =
-    ap (λ (t : Bool). sixteenOf t _) (present d 0 (omega arith) (omega arith))
+    ap (λ (t : Bool). sixteenOf t (fieldAt d 0 128)) (present d 0 (omega arith) (omega arith))
     ∙ ap (sixteenOf false) (first-bytes 16 d b h)
     ∙ shown d

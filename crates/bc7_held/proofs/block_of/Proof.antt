@@ -162,4 +162,4 @@ block-of-spec 𝓤 H 𝓜 𝓖 𝓡 =
     entered 𝓤 H (tripleOf 𝓤 H (𝓖 .A) block-of.signature (block-of.spec 𝓤 H (𝓖 .A) (𝓜 .mem) (𝓡 .run)))
     (tables 𝓤 H 𝓜 𝓡 code.env .C) (tables 𝓤 H 𝓜 𝓡 code.env .Λ) #bc7_held·block-of code.function (code.unfolded 𝓤 H 𝓜 𝓡)
     (block-of-meets 𝓤 H (𝓖 .A) (givenOf 𝓤 H 𝓜 𝓖) (𝓜 .mem) (𝓡 .run) (tablesOf 𝓤 H 𝓜 (tables 𝓤 H 𝓜 𝓡 code.env))
-    (cited 𝓤 H (BlockFrom 𝓤 H (𝓖 .A) (𝓜 .mem) (𝓡 .run)) 𝓜 𝓡 code.env #bc7_held·block-from from-def.routine code.calls-bc7_held·block-from (from-thm.met 𝓤 H 𝓜 𝓖 𝓡)))
+    (cited 𝓤 H (BlockFrom 𝓤 H (𝓖 .A) (𝓜 .mem) (𝓡 .run)) 𝓜 𝓡 code.env #bc7_held·block-from from-def.routine code.calls-bc7-held·block-from (from-thm.met 𝓤 H 𝓜 𝓖 𝓡)))
