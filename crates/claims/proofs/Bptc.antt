@@ -32,13 +32,12 @@ pub each-modes-fields-fill-128-bits : (m : ℕ) → m < 8 → endPlace m (modeAt
 each-modes-fields-fill-128-bits = fields-fill
 
 -- "A block whose first byte is 0 has no mode and gives sixteen pixels of 0."
+first-byte : (d : List ℕ) → getD d 0 0 ≡ 0 → blockWord d % 256 ≡ 0
+unfolding little
+first-byte d h = omega arith
+
 pub a-block-without-a-mode-is-0 : (d : List ℕ) (x y : ℕ) → getD d 0 0 ≡ 0 → bc7Pixel d x y ≡ 0
 unfolding bc7Pixel lowest
 a-block-without-a-mode-is-0 d x y h =
     let w = blockWord d in
-    let e : w % 256 ≡ 0 = first-byte d h in
-    ap (λ (b : ℕ). cond (ltb 7 (lowest 8 b 0)) 0 (pixelIn w (modeOf w) (modeAt (modeOf w)) (4 * y + x))) e
-  where
-    first-byte : (d : List ℕ) → getD d 0 0 ≡ 0 → blockWord d % 256 ≡ 0
-    unfolding little
-    first-byte d h = omega arith
+    ap (λ (b : ℕ). cond (ltb 7 (lowest 8 b 0)) 0 (pixelIn w (modeOf w) (modeAt (modeOf w)) (4 * y + x))) (first-byte d h)

@@ -58,8 +58,8 @@ returns-2 c =
     let lo = c .before .before .word-at in
     let hi = c .before .word-at2 in
     let v : hi .result * 18446744073709551616 + lo .result ≡ fieldAt d (a .place) 128 =
-      add-comm (hi .result * 18446744073709551616) (lo .result)
-      ∙ both _ _ _ _ _ 18446744073709551616 (lo .ensures) (hi .ensures) (joined d (a .place) 64 64) in
+    add-comm (hi .result * 18446744073709551616) (lo .result)
+    ∙ both _ _ _ _ _ 18446744073709551616 (lo .ensures) (hi .ensures) (joined d (a .place) 64 64) in
     ap (λ (l : List ℕ). sixteenIn l) (c .of-words .ensures ∙ ap (λ (w : ℕ). build 16 (pixelOf w)) v)
     ∙ sym (ap (λ (t : Bool). sixteenOf t (fieldAt d (a .place) 128)) (sym (e .before .missing .ensures) ∙ e .if1 .left))
 

@@ -64,7 +64,7 @@ returns c =
     let d = now (s .args .s) in
     let p = s .args .place in
     let e : (c .before .before .before .byte-at .result + c .before .before .byte-at2 .result * 256 + c .before .byte-at3 .result * 65536 + c .byte-at4 .result * 16777216) ≡ fieldAt d p 32 =
-      rw (c .before .before .before .byte-at .ensures .0, c .before .before .byte-at2 .ensures .0, c .before .byte-at3 .ensures .0, c .byte-at4 .ensures .0) (four d p) in
+    rw (c .before .before .before .byte-at .ensures .0, c .before .before .byte-at2 .ensures .0, c .before .byte-at3 .ensures .0, c .byte-at4 .ensures .0) (four d p) in
     (e, subst (λ (x : ℕ). x < 4294967296) (sym e) (below d p))
 
 pub four-at-spec : {M : Type 1} → statement M
