@@ -6,7 +6,7 @@ ghost use mathlib.Core.Path.{_≡_};
 ghost use mathlib.Core.Bool.{cond};
 ghost use Prim.Native.Nat.{ℕ, _-_, _*_, _/_, _%_, _^_, _<_, _≤_};
 ghost use lib.Dec.{eqb};
-ghost use lib.ListN.{length, getD};
+ghost use lib.ListN.{length, getD, replicate};
 ghost use Rattle.rules.specs.Notation.{build};
 ghost use Rattle.rules.specs.Places.{tile};
 ghost use Rattle.rules.specs.Bptc.{weightsOf};
@@ -109,13 +109,20 @@ fn in_mode(r: Rest, m: usize) -> [u32; 16]
     )
 }
 
-// The sixteen pixels of a block in two words: none of a mode is 0.
+// A block without a mode.
+fn nothing() -> [u32; 16]
+    ensures { λ r. ⌜ r ≡ replicate 16 0 ⌝ }
+{
+    [0u32; 16]
+}
+
+// The sixteen pixels of a block in two words.
 pub fn of_words(r: Rest) -> [u32; 16]
     ensures { λ p. ⌜ p ≡ build 16 (pixelOf (whole r)) ⌝ }
 {
     let m = bptc::zeros_below((r.lo % 256) as u8);
     if 7 < m {
-        return [0u32; 16];
+        return nothing();
     }
     in_mode(r, m)
 }

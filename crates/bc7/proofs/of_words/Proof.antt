@@ -25,14 +25,18 @@ cast-zeros-below c = search needs
 zeros-below-requires : tie.Need-zeros-below-requires
 zeros-below-requires c κs = search needs
 
+nothing-requires : tie.Need-nothing-requires
+nothing-requires c κs = search needs
+
 returns : tie.Need-returns
 returns c =
-    let z = c .before .zeros-below in
-    let r = c .before .before .before .args .r in
+    let z = c .before .before .zeros-below in
+    let r = c .before .before .before .before .args .r in
     let w = whole r in
     let m : z .result ≡ modeOf w = z .ensures ∙ ap (λ (b : ℕ). lowest 8 b 0) (first (r .hi) (r .lo)) in
-    let t : ltb 7 (modeOf w) ≡ true = ap (λ (x : ℕ). ltb 7 x) (sym m) ∙ lt-ltb _ _ (c .if1 .taken) in
-    is-build (pixelOf w) 0 16 (replicate 16 0) refl
+    let t : ltb 7 (modeOf w) ≡ true = ap (λ (x : ℕ). ltb 7 x) (sym m) ∙ lt-ltb _ _ (c .before .if1 .taken) in
+    c .nothing .ensures
+    ∙ is-build (pixelOf w) 0 16 (replicate 16 0) refl
     (λ i h. getD-replicate 16 i 0 0 h ∙ sym (ap (λ (b : Bool). cond b 0 (pixelIn w (modeOf w) (modeAt (modeOf w)) i)) t))
 
 in-mode-requires : tie.Need-in-mode-requires
@@ -50,4 +54,4 @@ returns-2 c =
     ∙ ap (λ (b : Bool). build 16 (λ i. cond b 0 (pixelIn w (modeOf w) (modeAt (modeOf w)) i))) (sym t)
 
 pub of-words-spec : {M : Type 1} → statement M
-of-words-spec = tie.close (tie.spec cast-zeros-below zeros-below-requires returns in-mode-requires returns-2)
+of-words-spec = tie.close (tie.spec cast-zeros-below zeros-below-requires nothing-requires returns in-mode-requires returns-2)
