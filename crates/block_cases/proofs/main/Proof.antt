@@ -26,6 +26,15 @@ channels-requires c κs = search needs
 channels-requires-2 : tie.Need-channels-requires-2 Inv-loop μ-loop
 channels-requires-2 c κs = search needs
 
+desktop-specimens-requires : tie.Need-desktop-specimens-requires Inv-loop μ-loop
+desktop-specimens-requires c κs = search needs
+
+channels-requires-3 : tie.Need-channels-requires-3 Inv-loop μ-loop
+channels-requires-3 c κs = search needs
+
+bc7-specimens-requires : tie.Need-bc7-specimens-requires Inv-loop μ-loop
+bc7-specimens-requires c κs = search needs
+
 loop-holds : tie.Need-loop-holds Inv-loop μ-loop
 loop-holds c = search needs
 
@@ -55,6 +64,9 @@ main-spec =
     channel-specimens-requires
     channels-requires
     channels-requires-2
+    desktop-specimens-requires
+    channels-requires-3
+    bc7-specimens-requires
     loop-holds
     edges-requires
     add-reader
