@@ -1,0 +1,28 @@
+-- A list that is built says something of each element; and equal channels make equal pixels.
+-- Assumes nothing.
+use mathlib.Core.Path.{_≡_, _∙_, refl, sym, ap, subst}
+use mathlib.Core.List.{List}
+use mathlib.Core.Logic.{⊎-elim}
+use Prim.Native.Nat.{ℕ, zero, suc, _+_, _-_, _*_, _/_, _%_, _^_, _<_, _≤_}
+use native.Mathlib.Nat.{lt-of-lt-of-le, mod-lt}
+use native.Mathlib.Decide.{decLt}
+use native.Mathlib.Omega.{arith}
+use lib.Arith.{digits-lt}
+use lib.ListN.{length, getD, set, length-set, List·getD-eq-default}
+use lib.Pow.{pow-add, pow-pos, pow-mono, shl-exact, shr-shr}
+use Rattle.rules.specs.Notation.{build}
+use Rattle.rules.specs.Bc7.{rotated}
+use Rattle.laws.proofs.Filled.{length-build, getD-build, fills}
+use Rattle.rest.specs.Whole.{fieldOf}
+
+-- what holds of each f k and of 0 holds at each place of the list
+pub each : (P : ℕ → Type 0) (f : ℕ → ℕ) (n : ℕ) → ((k : ℕ) → k < n → P (f k)) → P 0 → (k : ℕ) → P (getD (build n f) k 0)
+each P f n h z k =
+    elim (decLt k n) [
+      | yes l ↦ subst P (sym (getD-build f 0 n k l)) (h k l)
+      | no l ↦ subst P (sym (List·getD-eq-default (build n f) 0 (subst (λ (m : ℕ). m ≤ k) (sym (length-build f 0 n)) (omega (arith, l))))) z
+    ]
+
+pub same-rotated : (t : ℕ) {a a' r r' g g' b b' : ℕ} → a ≡ a' → r ≡ r' → g ≡ g' → b ≡ b' → rotated t a r g b ≡ rotated t a' r' g' b'
+same-rotated t {a} {a'} {r} {r'} {g} {g'} {b} {b'} p q s u =
+    ap (λ (x : ℕ). rotated t x r g b) p ∙ ap (λ (x : ℕ). rotated t a' x g b) q ∙ ap (λ (x : ℕ). rotated t a' r' x b) s ∙ ap (λ (x : ℕ). rotated t a' r' g' x) u
