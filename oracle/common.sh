@@ -100,7 +100,8 @@ encode_pictures() {
         done
         # Godot keeps logs in the folder that it is run in
         (cd "$room" && HOME=$room godot3-server --no-window -s "$top/oracle/encode.gd" "$picture" \
-            "$desktop/$(basename "$picture" .png)-bc7.dds") >"$room/godot.log" 2>&1 || die "godot3-server fails (target/oracle/godot.log says why)"
+            "$desktop/$(basename "$picture" .png)-bc7.dds") >"$room/godot.log" 2>&1 ||
+            die "godot3-server fails (target/oracle/godot.log says why)"
     done
 }
 

@@ -12,7 +12,8 @@ use lib.Pow.{shr-shr, pow-pos, pow-mono}
 use Rattle.rules.specs.Bits.{field}
 use Rattle.rules.specs.Bptc.{weightsOf, subset}
 use Rattle.rules.specs.Notation.{build}
-use Rattle.rules.specs.Bc7.{indexBits, bitsBefore, partitionOf, indexPlace, secondPlace, weightAt, firstWeight, secondWeight, selected, subsetOf, colourEnd, alphaEnd, blend, rotated, alphaAt, colourAt, pixelIn}
+use Rattle.rules.specs.Bc7.{indexBits, bitsBefore, partitionOf, indexPlace, secondPlace, weightAt, firstWeight, secondWeight}
+use Rattle.rules.specs.Bc7.{selected, subsetOf, colourEnd, alphaEnd, blend, rotated, alphaAt, colourAt, pixelIn}
 use Rattle.rules.specs.declared.Mode.{Mode}
 use Rattle.laws.proofs.Filled.{getD-build, build-same}
 use Rattle.laws.proofs.Tables.{subset-exists}
@@ -28,7 +29,8 @@ use Rattle.laws.proofs.Shades.{weight-most}
 use Rattle.bc7.proofs.Weigh.{index-said}
 
 -- the laws of a layout at any number of subsets from 1 to 3
-index-of : (n p d place v b i : ℕ) → 1 ≤ n → n ≤ 3 → p < 64 → b ≤ 4 → i < 16 → v ≡ d / 2 ^ place % 2 ^ 64 → v / 2 ^ passedBy b (layoutOf n p / 4294967296) i % 2 ^ widthBy b (layoutOf n p / 4294967296) i ≡ field d (place + bitsBefore b n p i) (indexBits b n p i)
+index-of : (n p d place v b i : ℕ) → 1 ≤ n → n ≤ 3 → p < 64 → b ≤ 4 → i < 16 → v ≡ d / 2 ^ place % 2 ^ 64
+    → v / 2 ^ passedBy b (layoutOf n p / 4294967296) i % 2 ^ widthBy b (layoutOf n p / 4294967296) i ≡ field d (place + bitsBefore b n p i) (indexBits b n p i)
 index-of zero p d place v b i s t l k j e = absurd (omega arith)
 index-of (suc n) p d place v b i s t l k j e = index-said n p (omega arith) l d place v b i k j e
 
@@ -84,7 +86,8 @@ module _ (d m : ℕ) (k : Mode) (s : Sane k) where
         pick-at (eqb (k .second) 0) firsts (weightsBy (w / 2 ^ (16 * k .index - k .subsets) % 2 ^ 64) (k .second) maskOf) i
         ∙ ap (λ (x : ℕ). cond (eqb (k .second) 0) x (getD (weightsBy (w / 2 ^ (16 * k .index - k .subsets) % 2 ^ 64) (k .second) maskOf) i 0)) (first-said i j)
         ∙ ap (λ (x : ℕ). cond (eqb (k .second) 0) (firstWeight d m k i) x)
-        (weight-said (secondPlace m k) (w / 2 ^ (16 * k .index - k .subsets) % 2 ^ 64) (k .second) i (s .second) j (ap (λ (x : ℕ). x % 2 ^ 64) (ap (λ (x : ℕ). x / 2 ^ (16 * k .index - k .subsets)) e ∙ shr-shr d (indexPlace m k) (16 * k .index - k .subsets))))
+        (weight-said (secondPlace m k) (w / 2 ^ (16 * k .index - k .subsets) % 2 ^ 64) (k .second) i (s .second) j
+        (ap (λ (x : ℕ). x % 2 ^ 64) (ap (λ (x : ℕ). x / 2 ^ (16 * k .index - k .subsets)) e ∙ shr-shr d (indexPlace m k) (16 * k .index - k .subsets))))
 
     -- the chosen ones, for colour and for alpha
     chosen-said : (t : ℕ) → t ≡ selected d m k → (a b : List ℕ) (x y : ℕ) (i : ℕ) → getD a i 0 ≡ x → getD b i 0 ≡ y → getD (cond (eqb t 0) a b) i 0 ≡ cond (eqb (selected d m k) 0) x y
@@ -96,7 +99,8 @@ module _ (d m : ℕ) (k : Mode) (s : Sane k) where
 
     module _ (h : Front) (hd : Fronted d m k h) (r : Ends) (en : Ended d m k r) where
       -- a channel, once its endpoints are known
-      channel-said : (l : List ℕ) (g : ℕ → ℕ) (u w' x i : ℕ) → ((e : ℕ) → e < 2 * k .subsets → getD l e 0 ≡ g e) → u ≡ subsetOf d m k i → i < 16 → w' ≡ x → between l u w' ≡ blend (g (2 * subsetOf d m k i)) (g (2 * subsetOf d m k i + 1)) x
+      channel-said : (l : List ℕ) (g : ℕ → ℕ) (u w' x i : ℕ) → ((e : ℕ) → e < 2 * k .subsets → getD l e 0 ≡ g e) → u ≡ subsetOf d m k i → i < 16 → w' ≡ x
+          → between l u w' ≡ blend (g (2 * subsetOf d m k i)) (g (2 * subsetOf d m k i + 1)) x
       channel-said l g u w' x i p q j z =
           let b : subsetOf d m k i < k .subsets = exists-of (k .subsets) (partitionOf d m k) i (s .some) (s .subsets) partition-below j in
           ap (λ (y : ℕ). between l y w') q
@@ -104,7 +108,8 @@ module _ (d m : ℕ) (k : Mode) (s : Sane k) where
           ∙ ap (λ (y : ℕ). blend (g (2 * subsetOf d m k i)) y w') (p (2 * subsetOf d m k i + 1) (omega arith))
           ∙ ap (λ (y : ℕ). blend (g (2 * subsetOf d m k i)) (g (2 * subsetOf d m k i + 1)) y) z
 
-      pub pixel-said : (i : ℕ) → i < 16 → shaded (h .rotation) r (layoutOf (k .subsets) (partitionOf d m k) / 2 ^ (2 * i) % 4) (getD (cond (eqb (h .selection) 0) firsts seconds) i 0) (getD (cond (eqb (h .selection) 0) seconds firsts) i 0) ≡ pixelIn d m k i
+      pub pixel-said : (i : ℕ) → i < 16 → shaded (h .rotation) r (layoutOf (k .subsets) (partitionOf d m k) / 2 ^ (2 * i) % 4) (getD (cond (eqb (h .selection) 0) firsts seconds) i 0)
+          (getD (cond (eqb (h .selection) 0) seconds firsts) i 0) ≡ pixelIn d m k i
       unfolding pixelIn
       pixel-said i j =
           let u : layoutOf (k .subsets) (partitionOf d m k) / 2 ^ (2 * i) % 4 ≡ subsetOf d m k i = subset-of (k .subsets) (partitionOf d m k) i (s .some) (s .subsets) partition-below j in
@@ -131,8 +136,10 @@ module _ (d m : ℕ) (k : Mode) (s : Sane k) where
           q
           ∙ ap (λ (z : List ℕ). cond (eqb (k .second) 0) z (weightsBy (w / 2 ^ (16 * k .index - k .subsets) % 2 ^ 64) (k .second) (layout / 4294967296))) p'
           ∙ ap (λ (z : ℕ). cond (eqb (k .second) 0) firsts (weightsBy (w / 2 ^ (16 * k .index - k .subsets) % 2 ^ 64) (k .second) (z / 4294967296))) l in
-          let x' : colour ≡ cond (eqb (h .selection) 0) firsts seconds = x ∙ ap (λ (z : List ℕ). cond (eqb (h .selection) 0) z second) p' ∙ ap (λ (z : List ℕ). cond (eqb (h .selection) 0) firsts z) q' in
-          let y' : alpha ≡ cond (eqb (h .selection) 0) seconds firsts = y ∙ ap (λ (z : List ℕ). cond (eqb (h .selection) 0) z first) q' ∙ ap (λ (z : List ℕ). cond (eqb (h .selection) 0) seconds z) p' in
+          let x' : colour ≡ cond (eqb (h .selection) 0) firsts seconds = x ∙ ap (λ (z : List ℕ). cond (eqb (h .selection) 0) z second) p'
+          ∙ ap (λ (z : List ℕ). cond (eqb (h .selection) 0) firsts z) q' in
+          let y' : alpha ≡ cond (eqb (h .selection) 0) seconds firsts = y ∙ ap (λ (z : List ℕ). cond (eqb (h .selection) 0) z first) q'
+          ∙ ap (λ (z : List ℕ). cond (eqb (h .selection) 0) seconds z) p' in
           build-same 0 (λ i. shaded (h .rotation) r (layout / 2 ^ (2 * i) % 4) (getD colour i 0) (getD alpha i 0)) (pixelIn d m k) 16
           (λ i j.
           ap (λ (z : ℕ). shaded (h .rotation) r (z / 2 ^ (2 * i) % 4) (getD colour i 0) (getD alpha i 0)) l

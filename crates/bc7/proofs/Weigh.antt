@@ -44,7 +44,8 @@ module _ (n p : ℕ) (h : n < 3) (l : p < 64) where
       ap (λ (x : ℕ). x + widthBy b maskOf i) (passed-said b i (omega arith)) ∙ ap (λ (x : ℕ). bitsBefore b (suc n) p i + x) (width-said b i (omega arith))
 
   -- the index of pixel i, of b bits, read from the 64 bits at a place
-  pub index-said : (d place v b i : ℕ) → b ≤ 4 → i < 16 → v ≡ d / 2 ^ place % 2 ^ 64 → v / 2 ^ passedBy b maskOf i % 2 ^ widthBy b maskOf i ≡ field d (place + bitsBefore b (suc n) p i) (indexBits b (suc n) p i)
+  pub index-said : (d place v b i : ℕ) → b ≤ 4 → i < 16 → v ≡ d / 2 ^ place % 2 ^ 64
+      → v / 2 ^ passedBy b maskOf i % 2 ^ widthBy b maskOf i ≡ field d (place + bitsBefore b (suc n) p i) (indexBits b (suc n) p i)
   index-said d place v b i k j e =
       let most-said : passedBy b maskOf i + widthBy b maskOf i ≤ 64 = omega (arith, passed-most b maskOf i k) in
       ap (λ (x : ℕ). x / 2 ^ passedBy b maskOf i % 2 ^ widthBy b maskOf i) e

@@ -26,7 +26,8 @@ fn weights(v: u64, b: usize, mask: u64) -> [u8; 16]
 // The weights by a second index, or the first ones where there is none.
 fn second_weights(r: Rest, k: Mode, mask: u64, first: [u8; 16]) -> [u8; 16]
     requires { ⌜ Sane k ⌝ }
-    ensures { λ r2. ⌜ r2 ≡ cond (eqb (k .second) 0) first (build 16 (λ i. getD (weightsOf (k .second)) (whole r / 2 ^ (16 * k .index - k .subsets) % 2 ^ 64 / 2 ^ passedBy (k .second) mask i % 2 ^ widthBy (k .second) mask i) 0)) ⌝ }
+    ensures { λ r2. ⌜ r2 ≡ cond (eqb (k .second) 0) first (build 16 (λ i. getD (weightsOf (k .second))
+        (whole r / 2 ^ (16 * k .index - k .subsets) % 2 ^ 64 / 2 ^ passedBy (k .second) mask i % 2 ^ widthBy (k .second) mask i) 0)) ⌝ }
 {
     if k.second == 0 {
         return first;
@@ -35,6 +36,7 @@ fn second_weights(r: Rest, k: Mode, mask: u64, first: [u8; 16]) -> [u8; 16]
     weights(rest::word_of(q), k.second, mask)
 }
 
+// The weights of colour, or of alpha: the index selection changes the two about.
 fn chosen(s: u8, a: [u8; 16], b: [u8; 16]) -> [u8; 16]
     ensures { λ r. ⌜ r ≡ cond (eqb s 0) a b ⌝ }
 {

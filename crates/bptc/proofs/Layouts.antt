@@ -21,8 +21,10 @@ at-each m p i h j l = below (said m p) 16 (below (λ p. every (said m p) 16) 64 
 
 pub subset-said : (m p i : ℕ) → m < 3 → p < 64 → i < 16 → layoutOf (suc m) p / 2 ^ (2 * i) % 4 ≡ subset (suc m) p i
 unfolding said
-subset-said m p i h j l = eqb→eq _ _ (both-left (eqb (layoutOf (suc m) p / 2 ^ (2 * i) % 4) (subset (suc m) p i)) (eqb (layoutOf (suc m) p / 4294967296 / 2 ^ i % 2) (isAnchor (suc m) p i)) (at-each m p i h j l))
+subset-said m p i h j l = eqb→eq _ _ (both-left (eqb (layoutOf (suc m) p / 2 ^ (2 * i) % 4) (subset (suc m) p i)) (eqb (layoutOf (suc m) p / 4294967296 / 2 ^ i % 2) (isAnchor (suc m) p i))
+    (at-each m p i h j l))
 
 pub anchor-said : (m p i : ℕ) → m < 3 → p < 64 → i < 16 → layoutOf (suc m) p / 4294967296 / 2 ^ i % 2 ≡ isAnchor (suc m) p i
 unfolding said
-anchor-said m p i h j l = eqb→eq _ _ (both-right (eqb (layoutOf (suc m) p / 2 ^ (2 * i) % 4) (subset (suc m) p i)) (eqb (layoutOf (suc m) p / 4294967296 / 2 ^ i % 2) (isAnchor (suc m) p i)) (at-each m p i h j l))
+anchor-said m p i h j l = eqb→eq _ _ (both-right (eqb (layoutOf (suc m) p / 2 ^ (2 * i) % 4) (subset (suc m) p i)) (eqb (layoutOf (suc m) p / 4294967296 / 2 ^ i % 2) (isAnchor (suc m) p i))
+    (at-each m p i h j l))

@@ -35,7 +35,8 @@ module _ (d m : ℕ) (k : Mode) where
   fetched cv av pv w₁ w₂ w₃ w₄ n e₁ c e₂ a e₃ q p e₄ =
       let s : 3 * (2 * k .subsets) ≡ 6 * k .subsets = omega arith in
       let f₂ : w₂ ≡ d / 2 ^ alphaPlace m k =
-      e₂ ∙ ap (λ (x : ℕ). x / 2 ^ (3 * (2 * k .subsets) * k .colour)) e₁ ∙ shr-shr d (colourPlace m k) (3 * (2 * k .subsets) * k .colour) ∙ ap (λ (x : ℕ). d / 2 ^ (colourPlace m k + x * k .colour)) s in
+      e₂ ∙ ap (λ (x : ℕ). x / 2 ^ (3 * (2 * k .subsets) * k .colour)) e₁ ∙ shr-shr d (colourPlace m k) (3 * (2 * k .subsets) * k .colour)
+      ∙ ap (λ (x : ℕ). d / 2 ^ (colourPlace m k + x * k .colour)) s in
       let f₃ : w₃ ≡ d / 2 ^ pPlace m k = e₃ ∙ ap (λ (x : ℕ). x / 2 ^ (2 * k .subsets * k .alpha)) f₂ ∙ shr-shr d (alphaPlace m k) (2 * k .subsets * k .alpha) in
       record {
         colours = λ j h. c j (omega arith) ∙ field-at d w₁ (colourPlace m k) (k .colour) j e₁;
@@ -58,7 +59,8 @@ module _ (d m : ℕ) (k : Mode) where
         → x ≡ colourEnd d m k c e
     colour-end c at e x q h l y =
         y
-        ∙ ap (λ (z : ℕ). expand (k .colour + pBits m k) (z * 2 ^ pBits m k + getD pv (cond (eqb (k .shared) 0) e (e / 2)) 0)) (ap (λ (z : ℕ). getD cv (z + e) 0) q ∙ f .colours (c * (2 * k .subsets) + e) h)
+        ∙ ap (λ (z : ℕ). expand (k .colour + pBits m k) (z * 2 ^ pBits m k + getD pv (cond (eqb (k .shared) 0) e (e / 2)) 0))
+        (ap (λ (z : ℕ). getD cv (z + e) 0) q ∙ f .colours (c * (2 * k .subsets) + e) h)
         ∙ ap (λ (z : ℕ). expand (k .colour + pBits m k) (field d (colourPlace m k + (c * (2 * k .subsets) + e) * k .colour) (k .colour) * 2 ^ pBits m k + z)) (p-at e l)
 
     pub alpha-end : (e x : ℕ) → eqb (k .alpha) 0 ≡ false → e < 2 * k .subsets
@@ -75,7 +77,8 @@ module _ (d m : ℕ) (k : Mode) where
 test : Mode → Bool
 test k =
     both (leb 1 (k .subsets)) (both (leb (k .subsets) 3) (both (leb (k .partition) 6) (both (leb (k .rotation) 2) (both (leb (k .selection) 1) (both (leb (k .own + k .shared) 1)
-    (both (leb (k .colour + (k .own + k .shared)) 8) (both (leb (k .alpha + (k .own + k .shared)) 8) (both (leb 2 (k .index)) (both (leb (k .index) 4) (both (leb (k .second) 4) (eqb (k .second) 0 || leb 2 (k .second))))))))))))
+    (both (leb (k .colour + (k .own + k .shared)) 8) (both (leb (k .alpha + (k .own + k .shared)) 8)
+    (both (leb 2 (k .index)) (both (leb (k .index) 4) (both (leb (k .second) 4) (eqb (k .second) 0 || leb 2 (k .second))))))))))))
 
 either : (s : ℕ) → T (eqb s 0 || leb 2 s) → (s ≡ 0 → ⊥) → 2 ≤ s
 either zero t n = absurd (n refl)

@@ -78,7 +78,8 @@ fn channel(
     requires { ⌜ (count ≤ 6) × (at ≤ 12) × (w + pb ≤ 8) × (pb ≤ 1) ⌝ }
     requires { ⌜ ((k : ℕ) → getD values k 0 < 2 ^ w) ⌝ }
     requires { ⌜ ((k : ℕ) → getD ps k 0 < 2 ^ pb) ⌝ }
-    ensures { λ r. ⌜ ((e : ℕ) → e < count → getD r e 0 ≡ expand (w + pb) (getD values (at + e) 0 * 2 ^ pb + getD ps (cond (eqb shared 0) e (e / 2)) 0)) ⌝ }
+    ensures { λ r. ⌜ ((e : ℕ) → e < count → getD r e 0
+        ≡ expand (w + pb) (getD values (at + e) 0 * 2 ^ pb + getD ps (cond (eqb shared 0) e (e / 2)) 0)) ⌝ }
 {
     let mut out = [0u8; 8];
     let mut e: usize = 0;

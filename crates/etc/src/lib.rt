@@ -1,8 +1,8 @@
 // The public list: that of src/etc.rs, BC1, BC3 and BC7. Sixteen block readers, twelve picture readers, strict ETC1 and RGBA1 for an
 // opaque-only viewer, each of these fourteen with a twin that takes the description with its pitch; two censuses; the readers and the
-// writer of sheets; the reader of a picture in pieces; and the reader of degrees. None asks anything of its caller. Each promises the answer
-// and every element of what it is lent afterwards, for all inputs; what that is, crates/rules/specs/Readers.antt, Census.antt, Sheets.antt,
-// Pieces.antt and Degrees.antt say for all of them. Refusals: 1 width,
+// writer of sheets; the reader of a picture in pieces; and the reader of degrees. None asks anything of its caller. Each promises the
+// answer and every element of what it is lent afterwards, for all inputs; what that is, crates/rules/specs/Readers.antt, Census.antt,
+// Sheets.antt, Pieces.antt and Degrees.antt say for all of them. Refusals: 1 width,
 // height or pitch above 65,536 (of a sheet: width or height above 16,384); 12 a pitch below the width; 2 too few bytes; 6 too many (strict
 // only); 3 too few elements, or too little room for a sheet; 4 a block out of range, with its number (strict only); 5 a channel above 3; of
 // sheets, 7 a record cut short, 8 no head, 9 another kind, 10 not exactly the blocks; 11 a block whose opaque bit is clear, with its

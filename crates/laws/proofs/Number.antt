@@ -92,5 +92,6 @@ pub first-bytes : (n : ℕ) (d : List ℕ) → Bytes d → n ≤ length d → fi
 unfolding number
 first-bytes n d b h =
     let e : length d ≡ n + (length d - n) = omega arith in
-    ap (λ (m : ℕ). m % 2 ^ (8 * n)) (div-one (little (length d) 0 d) ∙ ap (λ (m : ℕ). little m 0 d) e ∙ split n (length d - n) 0 d ∙ add-comm (little n 0 d) _ ∙ ap (λ (m : ℕ). m + little n 0 d) (mul-comm (2 ^ (8 * n)) (little (length d - n) (n + 0) d)))
+    ap (λ (m : ℕ). m % 2 ^ (8 * n)) (div-one (little (length d) 0 d) ∙ ap (λ (m : ℕ). little m 0 d) e ∙ split n (length d - n) 0 d ∙ add-comm (little n 0 d) _
+    ∙ ap (λ (m : ℕ). m + little n 0 d) (mul-comm (2 ^ (8 * n)) (little (length d - n) (n + 0) d)))
     ∙ low (little (length d - n) (n + 0) d) (8 * n) (small n 0 d b)

@@ -39,7 +39,8 @@ module _ (v count b : ℕ) where
         left = e ∙ sym (ap (λ (m : ℕ). v / 2 ^ m) (zero-mul b) ∙ div-one v);
       }
 
-  pub read : (lo hi : ℕ) (out : List ℕ) (i x y : ℕ) → Several v count b lo hi out i → i < count → count ≤ 24 → b ≤ 8 → x ≡ lo % 2 ^ b → y ≡ hi % 2 ^ b * 2 ^ (64 - b) + lo / 2 ^ b → Several v count b y (hi / 2 ^ b) (set out i x) (i + 1)
+  pub read : (lo hi : ℕ) (out : List ℕ) (i x y : ℕ) → Several v count b lo hi out i → i < count → count ≤ 24 → b ≤ 8 → x ≡ lo % 2 ^ b → y ≡ hi % 2 ^ b * 2 ^ (64 - b) + lo / 2 ^ b
+      → Several v count b y (hi / 2 ^ b) (set out i x) (i + 1)
   read lo hi out i x y p h c l e f =
       let s : b < 64 = omega arith in
       let n : i * b + b ≡ (i + 1) * b = sym (add-mul i 1 b ∙ ap (λ (m : ℕ). i * b + m) (one-mul b)) in

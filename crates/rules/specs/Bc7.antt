@@ -120,7 +120,8 @@ module _ (d m : ℕ) (k : Mode) where
   -- endpoint e of channel c, red, green or blue, and of alpha
   abbrev pub colourEnd : ℕ → ℕ → ℕ
   colourEnd c e =
-      expand (k .colour + pBits m k) (field d (colourPlace m k + (c * (2 * k .subsets) + e) * k .colour) (k .colour) * 2 ^ pBits m k + pOf e)
+      expand (k .colour + pBits m k)
+      (field d (colourPlace m k + (c * (2 * k .subsets) + e) * k .colour) (k .colour) * 2 ^ pBits m k + pOf e)
 
   abbrev pub alphaEnd : ℕ → ℕ
   alphaEnd e =

@@ -1,3 +1,4 @@
+-- `bc7::chosen` meets its contract: in both of its cases.
 -- Assumes nothing.
 use borrow.Author.Tests.{eq-eqb, ne-eqb}
 use Rattle.bc7.proofs.chosen.Statement.{statement}

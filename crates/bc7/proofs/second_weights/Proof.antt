@@ -1,3 +1,4 @@
+-- `bc7::second_weights` meets its contract: where there is no second index, and where it stands behind the first.
 -- Assumes nothing.
 use mathlib.Core.Path.{_≡_, _∙_, sym, ap}
 use mathlib.Core.Bool.{Bool, cond}
@@ -39,7 +40,9 @@ returns-2 c =
     let e : c .before .word-of .result ≡ whole (a .r) / 2 ^ (16 * k .index - k .subsets) % 2 ^ 64 = c .before .word-of .ensures ∙ ap (λ (x : ℕ). x % 2 ^ 64) (c .before .before .past .ensures) in
     c .weights .ensures
     ∙ ap (λ (x : ℕ). build 16 (λ i. getD (weightsOf (k .second)) (x / 2 ^ passedBy (k .second) (a .mask) i % 2 ^ widthBy (k .second) (a .mask) i) 0)) e
-    ∙ sym (ap (λ (t : Bool). cond t (a .first) (build 16 (λ i. getD (weightsOf (k .second)) (whole (a .r) / 2 ^ (16 * k .index - k .subsets) % 2 ^ 64 / 2 ^ passedBy (k .second) (a .mask) i % 2 ^ widthBy (k .second) (a .mask) i) 0))) (ne-eqb _ _ (c .before .before .before .before .before .if1 .left)))
+    ∙ sym (ap (λ (t : Bool). cond t (a .first) (build 16 (λ i. getD (weightsOf (k .second))
+    (whole (a .r) / 2 ^ (16 * k .index - k .subsets) % 2 ^ 64 / 2 ^ passedBy (k .second) (a .mask) i % 2 ^ widthBy (k .second) (a .mask) i) 0)))
+    (ne-eqb _ _ (c .before .before .before .before .before .if1 .left)))
 
 pub second-weights-spec : {M : Type 1} → statement M
 second-weights-spec =

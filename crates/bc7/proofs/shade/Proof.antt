@@ -1,5 +1,6 @@
-use Rattle.bc7.proofs.Steps.{same-rotated}
+-- `bc7::shade` meets its contract: turn i makes pixel i.
 -- Assumes nothing.
+use Rattle.bc7.proofs.Steps.{same-rotated}
 use mathlib.Core.Path.{_∙_, ap, refl}
 use mathlib.Core.List.{List}
 use Prim.Native.Nat.{ℕ, _+_, _-_, _*_, _/_, _%_, _^_}
@@ -13,7 +14,8 @@ use Rattle.bc7.proofs.shade.Tie as tie
 
 abbrev shadeOf : ℕ → ℕ → List ℕ → List ℕ → List ℕ → List ℕ → List ℕ → List ℕ → ℕ → ℕ
 shadeOf t layout colour alpha red green blue clear i =
-    rotated t (between clear (layout / 2 ^ (2 * i) % 4) (getD alpha i 0)) (between red (layout / 2 ^ (2 * i) % 4) (getD colour i 0)) (between green (layout / 2 ^ (2 * i) % 4) (getD colour i 0)) (between blue (layout / 2 ^ (2 * i) % 4) (getD colour i 0))
+    rotated t (between clear (layout / 2 ^ (2 * i) % 4) (getD alpha i 0)) (between red (layout / 2 ^ (2 * i) % 4) (getD colour i 0))
+    (between green (layout / 2 ^ (2 * i) % 4) (getD colour i 0)) (between blue (layout / 2 ^ (2 * i) % 4) (getD colour i 0))
 
 abbrev Inv-loop : tie.InvT-loop
 Inv-loop t layout colour alpha red green blue clear out₀ i₀ out i = Filling inOrder (shadeOf t layout colour alpha red green blue clear) 0 16 i out
@@ -97,13 +99,16 @@ loop-again : tie.Need-loop-again Inv-loop μ-loop
 loop-again c =
     let a = c .before .before .before .before .before .before .before .before .before .before .before .args in
     let l = c .before .before .before .before .before .before .loop in
-    stored-next (shadeOf (a .t) (a .layout) (a .t4) (a .t5) (a .e .red) (a .e .green) (a .e .blue) (a .e .alpha)) 0 16 (l .out) (l .i) (l .inv) (c .turned .result) (c .before .before .before .before .before .loop-test .taken)
-    (c .turned .ensures ∙ same-rotated (a .t) (c .before .blend4 .ensures .0) (c .before .before .before .before .blend .ensures .0) (c .before .before .before .blend2 .ensures .0) (c .before .before .blend3 .ensures .0))
+    stored-next (shadeOf (a .t) (a .layout) (a .t4) (a .t5) (a .e .red) (a .e .green) (a .e .blue) (a .e .alpha)) 0 16 (l .out) (l .i) (l .inv) (c .turned .result)
+    (c .before .before .before .before .before .loop-test .taken)
+    (c .turned .ensures ∙ same-rotated (a .t) (c .before .blend4 .ensures .0) (c .before .before .before .before .blend .ensures .0) (c .before .before .before .blend2 .ensures .0)
+    (c .before .before .blend3 .ensures .0))
 
 returns : tie.Need-returns Inv-loop μ-loop
 returns c =
     let a = c .before .before .before .before .before .before .args in
-    filled-all (shadeOf (a .t) (a .layout) (a .t4) (a .t5) (a .e .red) (a .e .green) (a .e .blue) (a .e .alpha)) 0 16 (c .before .loop .out) (c .before .loop .i) (c .before .loop .inv) (c .loop-test .left)
+    filled-all (shadeOf (a .t) (a .layout) (a .t4) (a .t5) (a .e .red) (a .e .green) (a .e .blue) (a .e .alpha)) 0 16 (c .before .loop .out) (c .before .loop .i) (c .before .loop .inv)
+    (c .loop-test .left)
 
 pub shade-spec : {M : Type 1} → statement M
 shade-spec =

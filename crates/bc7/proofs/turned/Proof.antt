@@ -1,3 +1,4 @@
+-- `bc7::turned` meets its contract: rotation by rotation.
 -- Assumes nothing.
 use borrow.Author.Tests.{eq-eqb, ne-eqb}
 use borrow.Author.Needs.{needs}

@@ -1,3 +1,4 @@
+-- `bptc::blend` meets its contract: the sum of two weighed bytes stays far below 32 bits.
 -- Assumes nothing.
 use mathlib.Core.Path.{refl}
 use native.Mathlib.Omega.{arith}

@@ -1,3 +1,4 @@
+-- `bptc::expand` meets its contract: the shifts are a product and a division, within a byte.
 -- Assumes nothing.
 use native.Mathlib.Nat.{lt-trans}
 use lib.Dec.{lit<}

@@ -1,3 +1,4 @@
+-- `bptc::layout` meets its contract: for one, two and three subsets, each a table.
 -- Assumes nothing.
 use mathlib.Core.Path.{_≡_, _∙_, ap, sym}
 use mathlib.Core.List.{List}
@@ -27,7 +28,8 @@ array-read-result c = search needs
 returns-2 : tie.Need-returns-2
 returns-2 c =
     let a = c .before .before .before .args in
-    ap (λ (l : List ℕ). getD l (a .p) 0) (c .of-two .ensures) ∙ getD-build (layoutOf 2) 0 64 (a .p) (c .before .before .before .pre .2) ∙ ap (λ (m : ℕ). layoutOf m (a .p)) (sym (c .before .if2 .taken))
+    ap (λ (l : List ℕ). getD l (a .p) 0) (c .of-two .ensures) ∙ getD-build (layoutOf 2) 0 64 (a .p) (c .before .before .before .pre .2)
+    ∙ ap (λ (m : ℕ). layoutOf m (a .p)) (sym (c .before .if2 .taken))
 
 of-three-requires : tie.Need-of-three-requires
 of-three-requires c κs = search needs

@@ -1,3 +1,4 @@
+-- `bptc::weigh` meets its contract: turn i weighs index i.
 -- Assumes nothing.
 use mathlib.Core.Path.{_∙_, ap, refl}
 use mathlib.Core.List.{List}
@@ -53,7 +54,8 @@ loop-again c =
     (ap (λ (t : List ℕ). getD t k 0) (s .weights .ensures) ∙ getD-build (λ i. getD (weightsOf (s .before .args .n)) i 0) 0 16 k (s .before .pre .1 (l .i)))
 
 returns : tie.Need-returns Inv-loop μ-loop
-returns c = filled-all (weightBy (c .before .before .before .args .n) (c .before .before .before .args .t1)) 0 16 (c .before .loop .out) (c .before .loop .i) (c .before .loop .inv) (c .loop-test .left)
+returns c = filled-all (weightBy (c .before .before .before .args .n) (c .before .before .before .args .t1)) 0 16 (c .before .loop .out) (c .before .loop .i) (c .before .loop .inv)
+    (c .loop-test .left)
 
 pub weigh-spec : {M : Type 1} → statement M
 weigh-spec =

@@ -1,3 +1,4 @@
+-- `bptc::weights` meets its contract: width by width.
 -- Assumes nothing.
 use mathlib.Core.Path.{_≡_}
 use native.Mathlib.Omega.{arith}

@@ -1,3 +1,4 @@
+-- `endpoints::channel` meets its contract: turn e makes endpoint e.
 -- Assumes nothing.
 use mathlib.Core.Path.{_∙_, ap, refl}
 use mathlib.Core.Bool.{cond}
@@ -54,8 +55,10 @@ loop-again c =
     let i = c .before .before in
     let s = i .before .before in
     let l = i .before .loop in
-    make (endOf (s .args .t1) (s .args .t5) (s .args .at) (s .args .w) (s .args .shared) (s .args .pb)) (s .args .count) (l .out) (l .e) (c .endpoint .result) (l .inv) (i .loop-test .taken) (omega arith)
-    (c .endpoint .ensures ∙ ap (λ (j : ℕ). expand (s .args .w + s .args .pb) (getD (s .args .t1) (s .args .at + l .e) 0 * 2 ^ (s .args .pb) + getD (s .args .t5) j 0)) (c .before .shared-or-own .ensures .0))
+    make (endOf (s .args .t1) (s .args .t5) (s .args .at) (s .args .w) (s .args .shared) (s .args .pb)) (s .args .count) (l .out) (l .e) (c .endpoint .result) (l .inv) (i .loop-test .taken)
+    (omega arith)
+    (c .endpoint .ensures ∙ ap (λ (j : ℕ). expand (s .args .w + s .args .pb) (getD (s .args .t1) (s .args .at + l .e) 0 * 2 ^ (s .args .pb) + getD (s .args .t5) j 0))
+    (c .before .shared-or-own .ensures .0))
 
 returns : tie.Need-returns Inv-loop μ-loop
 returns c = λ e h. c .before .loop .inv .passed e (omega arith)

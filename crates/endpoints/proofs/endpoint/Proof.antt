@@ -1,3 +1,4 @@
+-- `endpoints::endpoint` meets its contract: a value with its p-bit under it has no more than eight bits.
 -- Assumes nothing.
 use mathlib.Core.Path.{_∙_, ap}
 use Prim.Native.Nat.{ℕ, _+_}
@@ -18,10 +19,17 @@ shl-expand : tie.Need-shl-expand
 shl-expand c = omega arith
 
 add-expand-2 : tie.Need-add-expand-2
-add-expand-2 c = record { fits = rw (put-up (c .args .v) (c .args .p) (c .args .w) (c .args .pb) (c .pre .0) (c .pre .2) (c .pre .3)) (with-p-byte (c .args .v) (c .args .p) (c .args .w) (c .args .pb) (c .pre .0) (c .pre .2) (c .pre .3)) }
+add-expand-2 c = record {
+  fits = rw (put-up (c .args .v) (c .args .p) (c .args .w) (c .args .pb) (c .pre .0) (c .pre .2) (c .pre .3))
+      (with-p-byte (c .args .v) (c .args .p) (c .args .w) (c .args .pb) (c .pre .0) (c .pre .2) (c .pre .3));
+}
 
 expand-requires : tie.Need-expand-requires
-expand-requires c κs = (c .pre .0, rw (put-up (c .args .v) (c .args .p) (c .args .w) (c .args .pb) (c .pre .0) (c .pre .2) (c .pre .3)) (with-p (c .args .v) (c .args .p) (c .args .w) (c .args .pb) (c .pre .0) (c .pre .2) (c .pre .3)))
+expand-requires c κs = (
+  c .pre .0,
+  rw (put-up (c .args .v) (c .args .p) (c .args .w) (c .args .pb) (c .pre .0) (c .pre .2) (c .pre .3))
+      (with-p (c .args .v) (c .args .p) (c .args .w) (c .args .pb) (c .pre .0) (c .pre .2) (c .pre .3)),
+)
 
 returns : tie.Need-returns
 returns c =

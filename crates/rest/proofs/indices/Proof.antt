@@ -1,3 +1,4 @@
+-- `rest::indices` meets its contract: turn i reads index i, and what is left is shifted by as many bits.
 -- Assumes nothing.
 use Prim.Native.Nat.{_-_}
 use native.Mathlib.Omega.{arith}

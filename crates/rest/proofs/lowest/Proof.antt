@@ -1,3 +1,4 @@
+-- `rest::lowest` meets its contract: a remainder by a power of two.
 -- Assumes nothing.
 use native.Mathlib.Nat.{mod-lt, lt-of-lt-of-le}
 use native.Mathlib.Omega.{arith}

@@ -1,3 +1,4 @@
+-- `rest::next` meets its contract: the lowest bits are those of the low word.
 -- Assumes nothing.
 use mathlib.Core.Path.{sym, _∙_}
 use native.Mathlib.Omega.{arith}

@@ -1,3 +1,4 @@
+-- `rest::next_low` meets its contract: the two words shifted as one, so that nothing overlaps.
 -- Assumes nothing.
 use Rattle.laws.proofs.Shift.{on-top, low-fits}
 use borrow.Author.Needs.{needs}

@@ -1,3 +1,4 @@
+-- `rest::past` meets its contract: the two words shifted as one.
 -- Assumes nothing.
 use mathlib.Core.Path.{ap, _∙_}
 use Prim.Native.Nat.{ℕ, _+_, _*_, _/_, _^_}

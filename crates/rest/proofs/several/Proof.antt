@@ -1,3 +1,4 @@
+-- `rest::several` meets its contract: turn i reads field i, and what is left is shifted by as many bits.
 -- Assumes nothing.
 use mathlib.Core.Path.{_≡_, refl, ap, _∙_}
 use Prim.Native.Nat.{ℕ, _+_, _-_, _*_, _/_, _^_}
@@ -38,7 +39,8 @@ loop-less c = omega arith
 loop-again : tie.Need-loop-again Inv-loop μ-loop
 loop-again c =
     let t = c .before .before in
-    read _ _ _ (t .before .loop .lo) (t .before .loop .hi) (t .before .loop .out) (t .before .loop .i) (c .before .lowest .result) (c .next-low .result) (t .before .loop .inv) (t .loop-test .taken) (t .before .before .pre .0) (t .before .before .pre .1) (c .before .lowest .ensures) (c .next-low .ensures)
+    read _ _ _ (t .before .loop .lo) (t .before .loop .hi) (t .before .loop .out) (t .before .loop .i) (c .before .lowest .result) (c .next-low .result) (t .before .loop .inv)
+    (t .loop-test .taken) (t .before .before .pre .0) (t .before .before .pre .1) (c .before .lowest .ensures) (c .next-low .ensures)
 
 returns : tie.Need-returns Inv-loop μ-loop
 returns c =
