@@ -15,16 +15,17 @@
  *                      alpha << 24 | red << 16 | green << 8 | blue.
  *   out, out_len       the same for the sixteen pixels of one block, row by row.
  *   counts, counts_len the counts of a census and how many there is room for.
+ *   tile, tile_len     the sixteen pixels that a block is held to, row by row; only read.
  *
  * Answers
  *   0  done: the picture's width * height elements, or a block's 16, or a census's 5 or 8 counts
  *      are written. No other element is touched, so gaps and what lies behind keep their value.
  *   1  refused: the width, the height or the pitch is above 65536; of a sheet, and of its writer,
  *      the width or the height above 16384.
- *   2  refused: data_len is less than the blocks have. A picture has
+ *   2  refused: data_len is less than the blocks have, or block_len less than 8. A picture has
  *      ((width + 3) / 4) * ((height + 3) / 4) blocks of 8 bytes, or 16 where it says so below.
  *   3  refused: image_len is less than (height - 1) * pitch + width, which is width * height where
- *      there is no gap (and 0 where a side is 0), or out_len less than 16, or counts_len less than
+ *      there is no gap (and 0 where a side is 0), or out_len or tile_len less than 16, or counts_len less than
  *      the census has counts.
  *   4  refused by yalivucu_decode_etc1_strict alone: a block's base plus step is out of range.
  *   5  refused: the channel is above 3.
@@ -41,14 +42,18 @@
  *      -8 to 8, or the legend is of no kind.
  *  14  refused: legend and picture name different digits, or one above 4.
  *  15  refused: the measurement does not lie in -720 to 720, or is not a number.
+ *  16  refused by yalivucu_bake_etc1_block alone: a channel of a base is above 15, or the flip above 1.
  *  17  not measured: the pixel's alpha is 0.
+ *  18  by yalivucu_check_etc1_block alone, and no refusal: the block is not accepted.
  * Pictures test 1, 12, 2, 6, 3, 4 or 11 in that order, blocks 5, 2, 3, censuses 1, 2, 3. A sheet is walked
  * front to back and the first fault is the answer, 3 last; the writer tests 8, 1, 10, 3. Degrees test
- * 13, 14, 15, 17. A refusal touches no element. Pictures in pieces have an order of their own, below, and their last answer,
+ * 13, 14, 15, 17; the checker of a block 2, 3, its baker 16, 2, 3. A refusal touches no element. Pictures in
+ * pieces have an order of their own, below, and their last answer,
  * 2, leaves what is painted.
  *
  * What the caller owes
- *   data points to data_len bytes that may be read, image (out, counts) to image_len (out_len,
+ *   data (block, tile) points to data_len (block_len, tile_len) bytes or elements that may be read, and
+ *   block of the baker to bytes that may be written, image (out, counts) to image_len (out_len,
  *   counts_len) elements that may be read and written, aligned as their type is, and the two do
  *   not overlap. Where a length is 0 the pointer is not followed and may be NULL. C checks none of
  *   this, and nothing here can. No number and no content of the bytes is wrong: for those there
@@ -81,7 +86,9 @@ enum yalivucu_answer {
     YALIVUCU_BAD_LEGEND = 13,
     YALIVUCU_BAD_DIGIT = 14,
     YALIVUCU_BAD_MEASUREMENT = 15,
-    YALIVUCU_NOT_MEASURED = 17
+    YALIVUCU_NO_BASE = 16,
+    YALIVUCU_NOT_MEASURED = 17,
+    YALIVUCU_NOT_ACCEPTED = 18
 };
 
 /* Pictures in blocks of 8 bytes. The last of three BC1 colours is black in bc1, and 0, transparent, in bc1a. */
@@ -175,6 +182,18 @@ uint32_t yalivucu_decode_eac_signed_block(const uint8_t *data, size_t data_len, 
 /* The alpha half of a BC3 block, 8 bytes: puts its bytes in place of channel 0 blue, 1 green, 2 red or
  * 3 alpha of out[0] to out[15], and keeps the other three. */
 uint32_t yalivucu_decode_bc3_alpha(const uint8_t *data, size_t data_len, size_t channel, uint32_t *out, size_t out_len);
+
+/* Whether an ETC1 block of 8 bytes that somebody else baked is near enough to a tile: 0 exactly where it is
+ * in range and each red, green and blue of each pixel differs from the tile's by at most the
+ * tolerance, and 18 where not. Alpha is ignored. */
+uint32_t yalivucu_check_etc1_block(const uint8_t *block, size_t block_len, const uint32_t *tile, size_t tile_len, uint32_t tolerance);
+
+/* Bakes an individual ETC1 block into block[0] to block[7]: first and second are three four-bit channels
+ * each, red, green and blue, of the two bases; flip is 0 or 1. Of all codes and indices it takes those
+ * with the least sum of absolute red, green and blue differences from the tile, of those the lower
+ * code, and then the lower index. Here answer 2 means that block_len is less than 8. first and second
+ * are not NULL, and block overlaps nothing. */
+uint32_t yalivucu_bake_etc1_block(const uint8_t first[3], const uint8_t second[3], size_t flip, const uint32_t *tile, size_t tile_len, uint8_t *block, size_t block_len);
 
 /* Which kinds of blocks a picture of 8-byte blocks has: the count of each kind at its place below,
  * together all blocks of the picture. Nothing is painted. The counts are written with answer 0

@@ -16,7 +16,7 @@ impl Random {
     }
 
     /// A number below n.
-    fn below(&mut self, n: u64) -> u64 {
+    pub fn below(&mut self, n: u64) -> u64 {
         self.next() % n
     }
 }

@@ -1,6 +1,7 @@
 //! Times the library beside the crate, in one process, turn by turn. See docs/PERFORMANCE.md.
 //! Times are the thread's own processor time, so that other work on the machine counts less.
 mod android;
+mod bake;
 mod blocks;
 mod clock;
 mod formats;
@@ -50,9 +51,10 @@ fn main() {
         alike &= gap::print(title, make);
     }
     println!("filling the image alone: {:.2} ms\n", filled(SIDE));
+    alike &= bake::print(&mut Random::new(SEED));
     growth();
     if !alike {
-        eprintln!("bench: the pixels differ");
+        eprintln!("bench: the pixels or the bytes differ");
         std::process::exit(1);
     }
 }

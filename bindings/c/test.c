@@ -326,6 +326,33 @@ static void censuses(void)
     census("census_etc2_rgba1", yalivucu_census_etc2_rgba1, YALIVUCU_RGBA1_COUNTS, rgba1);
 }
 
+/* The block of a row that oracle/bake printed, its largest difference, and refusals that write nothing. */
+static void baking(void)
+{
+    const uint8_t first[3] = {0xf, 0xb, 0x9}, second[3] = {0x4, 0xa, 0xb}, wide[3] = {15, 15, 16};
+    const uint8_t wanted[10] = {0xf4, 0xba, 0x9b, 0x01, 0xcf, 0xa5, 0x4d, 0x2d, 0xee, 0xee};
+    const uint8_t beyond[8] = {0x04, 0, 0, 0x02};
+    const uint32_t tile[16] = {
+        0xabd5cb72, 0x22ffd283, 0x1ecaa3d0, 0x53ffff4a, 0x3effbb9a, 0xcbf6b971, 0x6fffbb97, 0x13ffba9d,
+        0x5c449ca4, 0x9d35aadb, 0xd43db7b3, 0x7b985168, 0x9c4ac3c9, 0x87aea6ac, 0x0e38a2c6, 0xf746a9b9,
+    };
+    uint8_t room[10];
+    memset(room, 0xee, sizeof room);
+    same("bake, first base", yalivucu_bake_etc1_block(wide, second, 1, tile, 15, room, 7), YALIVUCU_NO_BASE);
+    same("bake, second base", yalivucu_bake_etc1_block(first, wide, 1, tile, 15, room, 7), YALIVUCU_NO_BASE);
+    same("bake, flip", yalivucu_bake_etc1_block(first, second, 256, tile, 15, room, 7), YALIVUCU_NO_BASE);
+    same("bake, room", yalivucu_bake_etc1_block(first, second, 1, tile, 15, room, 7), YALIVUCU_SHORT_DATA);
+    same("bake, tile", yalivucu_bake_etc1_block(first, second, 1, tile, 15, room, 8), YALIVUCU_SHORT_IMAGE);
+    for (size_t k = 0; k < 10; k++) same("bake, refused", room[k], 0xee);
+    same("bake", yalivucu_bake_etc1_block(first, second, 1, tile, 16, room, sizeof room), YALIVUCU_DONE);
+    for (size_t k = 0; k < 10; k++) same("bake, bytes", room[k], wanted[k]);
+    same("check, block", yalivucu_check_etc1_block(room, 7, tile, 15, 255), YALIVUCU_SHORT_DATA);
+    same("check, tile", yalivucu_check_etc1_block(room, 8, tile, 15, 255), YALIVUCU_SHORT_IMAGE);
+    same("check, largest", yalivucu_check_etc1_block(room, 8, tile, 16, 108), YALIVUCU_DONE);
+    same("check, below it", yalivucu_check_etc1_block(room, 8, tile, 16, 107), YALIVUCU_NOT_ACCEPTED);
+    same("check, out of range", yalivucu_check_etc1_block(beyond, 8, tile, 16, UINT32_MAX), YALIVUCU_NOT_ACCEPTED);
+}
+
 static void sheets(void)
 {
     uint8_t room[48];
@@ -484,6 +511,7 @@ int main(void)
     desktop();
     bptc();
     censuses();
+    baking();
     sheets();
     pieces();
     degrees();

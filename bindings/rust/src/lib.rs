@@ -26,6 +26,7 @@
 #![no_std]
 #![warn(missing_docs)]
 
+mod baking;
 mod census;
 mod degrees;
 mod pieces;

@@ -44,6 +44,8 @@ pub enum Refusal {
     BadDigit,
     /// Refusal 15, of degrees: the measurement does not lie in -720 to 720, or is not a number.
     BadMeasurement,
+    /// Refusal 16, of the baker alone: a channel of a base is above 15.
+    NoBase,
     /// A number that this package does not know: another archive than its own was linked.
     Unknown {
         /// What the archive answered.
@@ -70,6 +72,7 @@ impl Refusal {
             Refusal::BadLegend => 13,
             Refusal::BadDigit => 14,
             Refusal::BadMeasurement => 15,
+            Refusal::NoBase => 16,
             Refusal::Unknown { number } => number,
         }
     }
@@ -92,6 +95,7 @@ impl Refusal {
             Refusal::BadLegend => "The legend is out of range!",
             Refusal::BadDigit => "Legend and picture do not name one digit!",
             Refusal::BadMeasurement => "The measurement is out of range!",
+            Refusal::NoBase => "A channel of a base is above 15!",
             Refusal::Unknown { .. } => "The linked library gave an answer that this package does not know!",
         }
     }
@@ -115,6 +119,7 @@ impl Refusal {
             13 => Err(Refusal::BadLegend),
             14 => Err(Refusal::BadDigit),
             15 => Err(Refusal::BadMeasurement),
+            16 => Err(Refusal::NoBase),
             number => Err(Refusal::Unknown { number }),
         }
     }
@@ -154,6 +159,7 @@ impl fmt::Display for Refusal {
             Refusal::BadLegend => write!(f, "Refusal {number}: the legend has degrees or a step out of range."),
             Refusal::BadDigit => write!(f, "Refusal {number}: legend and picture do not name one digit."),
             Refusal::BadMeasurement => write!(f, "Refusal {number}: the measurement is out of range, or no number."),
+            Refusal::NoBase => write!(f, "Refusal {number}: a channel of a base is above 15."),
             Refusal::Unknown { .. } => write!(f, "Refusal {number}: the linked library is not this package's own."),
         }
     }

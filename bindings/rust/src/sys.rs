@@ -124,6 +124,22 @@ extern "C" {
         room_len: usize,
         written: *mut usize,
     ) -> u32;
+    pub fn yalivucu_check_etc1_block(
+        block: *const u8,
+        block_len: usize,
+        tile: *const u32,
+        tile_len: usize,
+        tolerance: u32,
+    ) -> u32;
+    pub fn yalivucu_bake_etc1_block(
+        first: *const [u8; 3],
+        second: *const [u8; 3],
+        flip: usize,
+        tile: *const u32,
+        tile_len: usize,
+        block: *mut u8,
+        block_len: usize,
+    ) -> u32;
     pub fn yalivucu_take_piece(
         numbers: *mut [usize; 5],
         kept: *mut [u8; 15],

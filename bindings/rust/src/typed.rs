@@ -10,6 +10,7 @@
 //! assert_eq!(image[..4], [0xff020202, 0xff020202, 0xffe90202, 0xffe90202]);
 //! # Ok::<(), Refusal>(())
 //! ```
+pub use crate::baking::{bake_etc1_block, check_etc1_block};
 pub use crate::census::{census_etc2_rgb, census_etc2_rgba1, KindCounts, RgbCounts, Rgba1Counts};
 pub use crate::degrees::{degrees, Legend, Reading};
 pub use crate::pieces::{Pieces, Taken};

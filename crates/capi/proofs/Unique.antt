@@ -1,6 +1,6 @@
 -- No second outcome satisfies what a caller from C is told: the number, the image and the strict reader's block are all fixed.
 -- Each exported promise of a reader is `Told` of an `Outcome`, whatever the verdict and the picture, so two lemmas serve them all; a
--- sheet's head and writer have one each.
+-- sheet's head and writer have one each, and so have the checker and the baker of blocks.
 -- Assumes nothing.
 use mathlib.Core.Path.{_≡_, _∙_, sym, ap}
 use mathlib.Core.Bool.{cond}
@@ -9,6 +9,8 @@ use Prim.Native.Nat.{ℕ}
 use lib.ListN.{getD}
 use Rattle.rules.specs.Answers.{said, accepts, Outcome}
 use Rattle.rules.specs.Sheets as sheets
+use Rattle.rules.specs.Checking.{Checks}
+use Rattle.rules.specs.Baking.{Bakes}
 use Rattle.rules.specs.declared.Answer.{Answer}
 use Rattle.rules.specs.declared.Picture.{Picture}
 use Rattle.rules.specs.declared.Sheet.{Sheet}
@@ -16,7 +18,7 @@ use Rattle.rules.specs.declared.Written.{Written}
 use Rattle.laws.proofs.Unique.{no-second-outcome}
 use Rattle.sheet.proofs.Unique.{one-head, one-written}
 use Rattle.told.specs.Told.{Told, answerNumber, blockOr}
-use Rattle.capi.specs.Told.{headOr, HeadTold, WriterTold}
+use Rattle.capi.specs.Told.{headOr, HeadTold, WriterTold, BakingTold}
 
 module _ (verdict after old : List ℕ) where
   module _ (a b : Answer) (new new' : List ℕ) (p : Outcome verdict after a old new) (q : Outcome verdict after b old new') where
@@ -62,3 +64,17 @@ writer f p b out stood n m k l new new' x y =
       e .1,
       x .the-bytes ∙ ap (λ (r : Written). cond (accepts (said (r .answer))) (r .bytes) stood) (e .0) ∙ sym (y .the-bytes),
     )
+
+-- the checker and the baker: what an answer says is what its number is
+first : (l m : List ℕ) (n k : ℕ) → l ≡ m → n ≡ getD l 0 0 → k ≡ getD m 0 0 → n ≡ k
+first l m n k e p q = p ∙ ap (λ (z : List ℕ). getD z 0 0) e ∙ sym q
+
+pub checker : (tolerance : ℕ) (d t : List ℕ) (n k : ℕ) → BakingTold (Checks tolerance d t) n → BakingTold (Checks tolerance d t) k → n ≡ k
+checker tolerance d t n k p q = first _ _ n k (p .promised ∙ sym (q .promised)) (p .says) (q .says)
+
+pub baker : (a b : List ℕ) (flip : ℕ) (t old new new' : List ℕ) (n k : ℕ)
+    → BakingTold (λ r. Bakes a b flip t r old new) n
+    → BakingTold (λ r. Bakes a b flip t r old new') k
+    → (n ≡ k) × (new ≡ new')
+baker a b flip t old new new' n k p q =
+    (first _ _ n k (p .promised .says ∙ sym (q .promised .says)) (p .says) (q .says), p .promised .leaves ∙ sym (q .promised .leaves))

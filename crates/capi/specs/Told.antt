@@ -1,4 +1,4 @@
--- What a caller from C is told of sheets; of pictures and blocks crates/told/specs says it.
+-- What a caller from C is told of sheets, and of blocks that are checked or baked; of readers crates/told/specs says it.
 -- Assumes nothing.
 use mathlib.Core.Path.{_≡_}
 use mathlib.Core.Bool.{cond}
@@ -7,6 +7,8 @@ use Prim.Native.Nat.{ℕ}
 use lib.ListN.{getD}
 use Rattle.rules.specs.Answers.{said, accepts}
 use Rattle.rules.specs.Sheets.{told, TellsHead, WritesSheet}
+use Rattle.rules.specs.Checking.{bakingSaid}
+use Rattle.rules.specs.declared.Baking.{Baking}
 use Rattle.rules.specs.declared.Head.{Head}
 use Rattle.rules.specs.declared.Picture.{Picture}
 use Rattle.rules.specs.declared.Sheet.{Sheet}
@@ -34,3 +36,9 @@ pub record WriterTold (f : ℕ) (p : Picture) (b out : List ℕ) (stood number :
   pub writes : WritesSheet f p b out written new
   pub says : number ≡ answerNumber (written .answer)
   pub the-bytes : bytes ≡ cond (accepts (said (written .answer))) (written .bytes) stood
+
+-- the checker or the baker that promises `Promised answer`, with the answer as its number
+pub record BakingTold (Promised : Baking → Type 0) (number : ℕ) : Type 0 where
+  pub answer : Baking
+  pub promised : Promised answer
+  pub says : number ≡ getD (bakingSaid answer) 0 0

@@ -15,11 +15,13 @@ ghost use Rattle.rules.specs.Readers.{ReadsPicture, ReadsStrict, ReadsOpaque, R
 ghost use Rattle.rules.specs.Census.{rgbTests, rgba1Tests};
 ghost use Rattle.rules.specs.Sheets.{ReadsSheet};
 ghost use Rattle.rules.specs.Pieces.{Ends};
+ghost use Rattle.rules.specs.Checking.{Checks};
+ghost use Rattle.rules.specs.Baking.{Bakes};
 ghost use Rattle.pieces_lent.specs.Lent.{stateIn, StartLent, PieceLent};
 ghost use Rattle.degrees_lent.specs.Lent.{legendAt, DegreesTold};
 ghost use Rattle.capi.specs.Census.{CountsInto};
 ghost use Rattle.told.specs.Told.{Told, blockOr};
-ghost use Rattle.capi.specs.Told.{HeadTold, WriterTold};
+ghost use Rattle.capi.specs.Told.{HeadTold, WriterTold, BakingTold};
 
 // Reads an ETC1 picture.
 #[no_mangle]
@@ -1071,4 +1073,28 @@ pub extern "C" fn yalivucu_read_degrees(
         seen,
         difference,
     )
+}
+
+// Checks an ETC1 block against a tile.
+#[no_mangle]
+pub extern "C" fn yalivucu_check_etc1_block(block: &[u8], tile: &[u32], tolerance: u32) -> u32
+    ensures { λ r. ⌜ BakingTold (λ a. Checks tolerance (now (block .entry)) (now (tile .entry)) a) r ⌝ }
+{
+    etc::baking_number(etc::check_etc1_block(block, tile, tolerance))
+}
+
+// Bakes an individual ETC1 block.
+#[no_mangle]
+pub extern "C" fn yalivucu_bake_etc1_block(
+    first: &[u8; 3],
+    second: &[u8; 3],
+    flip: usize,
+    tile: &[u32],
+    block: &mut [u8],
+) -> u32
+    ensures { λ r. ⌜ BakingTold
+        (λ a. Bakes (now (first .entry)) (now (second .entry)) flip (now (tile .entry)) a (now (block .entry)) (now (block .exit)))
+        r ⌝ }
+{
+    etc::baking_number(etc::bake_etc1_block(*first, *second, flip, tile, block))
 }

@@ -22,3 +22,7 @@ pub mod Step
 pub mod Cuts
 pub mod Degrees
 pub mod Ranges
+pub mod Halves
+pub mod Least
+pub mod Checker
+pub mod Baker

@@ -1,13 +1,16 @@
 // The public list: that of src/etc.rs, BC1, BC3 and BC7. Sixteen block readers, twelve picture readers, strict ETC1 and RGBA1 for an
 // opaque-only viewer, each of these fourteen with a twin that takes the description with its pitch; two censuses; the readers and the
-// writer of sheets; the reader of a picture in pieces; and the reader of degrees. None asks anything of its caller. Each promises the
-// answer and every element of what it is lent afterwards, for all inputs; what that is, crates/rules/specs/Readers.antt, Census.antt,
-// Sheets.antt, Pieces.antt and Degrees.antt say for all of them. Refusals: 1 width,
+// writer of sheets; the reader of a picture in pieces; the reader of degrees; and the checker and the baker of ETC1 blocks. None asks
+// anything of its caller. Each promises the answer and every element of what it is lent afterwards, for all inputs; what that is,
+// crates/rules/specs/Readers.antt, Census.antt, Sheets.antt, Pieces.antt, Degrees.antt, Checking.antt and Baking.antt say for all of
+// them. Refusals: 1 width,
 // height or pitch above 65,536 (of a sheet: width or height above 16,384); 12 a pitch below the width; 2 too few bytes; 6 too many (strict
 // only); 3 too few elements, or too little room for a sheet; 4 a block out of range, with its number (strict only); 5 a channel above 3; of
 // sheets, 7 a record cut short, 8 no head, 9 another kind, 10 not exactly the blocks; 11 a block whose opaque bit is clear, with its
-// number (opaque only); of degrees, 13 the legend, 14 the digits, 15 the measurement. A refusal changes nothing.
+// number (opaque only); of degrees, 13 the legend, 14 the digits, 15 the measurement; 16 a base channel above 15 or a flip above 1 (baker
+// only). A refusal changes nothing. 18 is no refusal: the checker does not accept the block.
 use rules::Answer;
+use rules::Baking;
 use rules::Format;
 use rules::Legend;
 use rules::Picture;
@@ -30,6 +33,8 @@ ghost use Rattle.rules.specs.Readers.{ReadsPicture, ReadsStrict, ReadsOpaque, R
 ghost use Rattle.rules.specs.Sheets.{TellsHead, ReadsSheet, WritesSheet};
 ghost use Rattle.rules.specs.Pieces.{Starts, Takes, Ends};
 ghost use Rattle.rules.specs.Degrees.{ReadsDegrees};
+ghost use Rattle.rules.specs.Checking.{bakingSaid, Checks};
+ghost use Rattle.rules.specs.Baking.{Bakes};
 
 // Document 01's number of an answer.
 pub fn number(answer: Answer) -> u32
@@ -463,4 +468,31 @@ pub fn degrees(
     ensures { λ r. ⌜ ReadsDegrees legend «legend_digit» «picture_digit» pixel measured r ⌝ }
 {
     degrees::read(legend, legend_digit, picture_digit, pixel, measured)
+}
+
+// The number of an answer of the two functions below.
+pub fn baking_number(answer: Baking) -> u32
+    ensures { λ r. ⌜ r ≡ getD (bakingSaid answer) 0 0 ⌝ }
+{
+    spoken::baking_number(answer)
+}
+
+// Checks that an ETC1 block is in range, and that each red, green and blue that it shows is within the tolerance of the tile's.
+pub fn check_etc1_block(block: &[u8], tile: &[u32], tolerance: u32) -> Baking
+    ensures { λ r. ⌜ Checks tolerance (now (block .entry)) (now (tile .entry)) r ⌝ }
+{
+    checker::check(block, tile, tolerance)
+}
+
+// Bakes the individual ETC1 block with these two four-bit bases and this flip that comes closest to the tile, into eight bytes.
+pub fn bake_etc1_block(
+    first: [u8; 3],
+    second: [u8; 3],
+    flip: usize,
+    tile: &[u32],
+    block: &mut [u8],
+) -> Baking
+    ensures { λ r. ⌜ Bakes first second flip (now (tile .entry)) r (now (block .entry)) (now (block .exit)) ⌝ }
+{
+    baker::bake(first, second, flip, tile, block)
 }

@@ -83,7 +83,7 @@ pub fn differential_bases(d: &[u8]) -> [[u8; 3]; 3]
 }
 
 // The four steps of a code, by index.
-fn code_steps(code: usize) -> [i16; 4]
+pub fn code_steps(code: usize) -> [i16; 4]
     requires { ⌜ code < 8 ⌝ }
     ensures { λ r. ⌜ r ≡ fourSteps (stepsOf code) ⌝ }
 {

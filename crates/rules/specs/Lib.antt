@@ -31,3 +31,7 @@ pub mod Pieces
 -- from colour to degrees, of document 02
 pub mod Floats
 pub mod Degrees
+-- the checker and the baker of ETC1 blocks, of document 02
+pub mod Counting
+pub mod Checking
+pub mod Baking

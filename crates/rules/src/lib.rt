@@ -183,3 +183,16 @@ pub enum Reply {
     // the measurement is out of range, or no number
     BadMeasurement,
 }
+
+// What the checker and the baker of ETC1 blocks answer. The number of each case is `bakingSaid`, in specs/Checking.antt.
+pub enum Baking {
+    Done,
+    // fewer than 8 bytes of a block, or of room for one
+    ShortBlock,
+    // fewer than 16 elements
+    ShortTile,
+    // of the baker: a base channel above 15, or a flip above 1
+    NoBase,
+    // of the checker, and no refusal: out of range, or not near enough
+    NotAccepted,
+}

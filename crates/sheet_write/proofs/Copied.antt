@@ -13,11 +13,6 @@ use Rattle.rules.specs.Sheets.{sheetOf, sheetOver}
 use Rattle.sheet.proofs.Checks.{sheet-length}
 use Rattle.sheet_write.specs.Front.{frontOf}
 
--- a copy of a whole list
-pub copied : (src old new : List ℕ) (n : ℕ) → length src ≡ n → new ≡ take (length src) src ++ drop (length src) old → new ≡ src ++ drop n old
-copied src old new n l e =
-    e ∙ ap (λ (z : List ℕ). z ++ drop (length src) old) (take-length src) ∙ ap (λ (z : ℕ). src ++ drop z old) l
-
 -- n elements in front, and then the data behind them
 pub twice : (n : ℕ) (front b out mid part : List ℕ)
     → length front ≡ n

@@ -1,8 +1,10 @@
 // What an answer says: its number in document 01, and the block that it names.
 use rules::Answer;
+use rules::Baking;
 ghost use mathlib.Core.Path.{_≡_};
 ghost use lib.ListN.{getD};
 ghost use Rattle.rules.specs.Answers.{said};
+ghost use Rattle.rules.specs.Checking.{bakingSaid};
 ghost use Rattle.spoken.specs.Value.{hasValue};
 
 // Document 01's number of an answer.
@@ -65,5 +67,18 @@ pub fn block_or(answer: Answer, stood: usize) -> usize
         Answer::WrongBlocks => stood,
         Answer::NotOpaque(block) => block,
         Answer::ShortPitch => stood,
+    }
+}
+
+// The number of an answer of the checker or the baker of blocks.
+pub fn baking_number(answer: Baking) -> u32
+    ensures { λ r. ⌜ r ≡ getD (bakingSaid answer) 0 0 ⌝ }
+{
+    match answer {
+        Baking::Done => 0,
+        Baking::ShortBlock => 2,
+        Baking::ShortTile => 3,
+        Baking::NoBase => 16,
+        Baking::NotAccepted => 18,
     }
 }

@@ -5,7 +5,8 @@ use mathlib.Core.List.{List, _++_}
 use lib.ListN.{length, drop}
 use denote.Ref.{now}
 use Rattle.rules.specs.Places.{sized}
-use Rattle.sheet_write.proofs.Copied.{copied, front-length}
+use Rattle.laws.proofs.Parts.{copied}
+use Rattle.sheet_write.proofs.Copied.{front-length}
 use borrow.Author.Needs.{needs}
 use Rattle.sheet_write.proofs.put_front.Statement.{statement}
 use Rattle.sheet_write.proofs.put_front.Tie as tie

@@ -1,0 +1,23 @@
+-- The four colours, by the steps of the code.
+-- Assumes nothing.
+use mathlib.Core.Path.{_∙_}
+use Rattle.rules.specs.Colour.{stepsOf}
+use Rattle.etc1.proofs.Steps.{small-step}
+use Rattle.codes.proofs.Coloured.{coloured}
+use borrow.Author.Needs.{needs}
+use Rattle.codes.proofs.colours.Statement.{statement}
+use Rattle.codes.proofs.colours.Tie as tie
+
+code-steps-requires : tie.Need-code-steps-requires
+code-steps-requires c κs = search needs
+
+four-colours-requires : tie.Need-four-colours-requires
+four-colours-requires c κs k = rw (c .code-steps .ensures) (small-step (c .before .args .code) k (c .before .pre))
+
+returns : tie.Need-returns
+returns c =
+    let a = c .before .before .args in
+    c .four-colours .ensures ∙ coloured (a .base) (stepsOf (a .code)) _ (c .before .code-steps .ensures)
+
+pub colours-spec : {M : Type 1} → statement M
+colours-spec = tie.close (tie.spec code-steps-requires four-colours-requires returns)
