@@ -237,33 +237,30 @@ fn strict_leaves_nothing_over() {
 
 #[test]
 fn refusals_say_what_is_wrong() {
-    let told = |refusal: Refusal| refusal.to_string();
-    assert_eq!(
-        told(Refusal::TooLarge),
-        "Refusal 1: the width, the height or the pitch is above the limit."
-    );
-    assert_eq!(
-        told(Refusal::ShortData),
-        "Refusal 2: there are too few bytes for the blocks."
-    );
-    assert_eq!(
-        told(Refusal::ShortImage),
-        "Refusal 3: the image or the room is too short."
-    );
-    assert_eq!(
-        told(Refusal::OutOfRange { block: 7 }),
-        "Refusal 4: an ETC1 block has a sum out of range, the first of them block 7."
-    );
-    assert_eq!(told(Refusal::NoChannel), "Refusal 5: the channel is above 3.");
-    assert_eq!(
-        told(Refusal::LongData),
-        "Refusal 6: there are more bytes than the blocks need."
-    );
-    assert_eq!(
-        told(Refusal::NotOpaque { block: 3 }),
-        "Refusal 11: an RGBA1 block has its opaque bit clear, the first of them block 3."
-    );
-    assert_eq!(told(Refusal::ShortPitch), "Refusal 12: the pitch is below the width.");
+    for (refusal, sentence) in [
+        (
+            Refusal::TooLarge,
+            "Refusal 1: the width, the height or the pitch is above the limit.",
+        ),
+        (Refusal::ShortData, "Refusal 2: there are too few bytes for the blocks."),
+        (Refusal::ShortImage, "Refusal 3: the image or the room is too short."),
+        (
+            Refusal::OutOfRange { block: 7 },
+            "Refusal 4: an ETC1 block has a sum out of range, the first of them block 7.",
+        ),
+        (Refusal::NoChannel, "Refusal 5: the channel is above 3."),
+        (
+            Refusal::LongData,
+            "Refusal 6: there are more bytes than the blocks need.",
+        ),
+        (
+            Refusal::NotOpaque { block: 3 },
+            "Refusal 11: an RGBA1 block has its opaque bit clear, the first of them block 3.",
+        ),
+        (Refusal::ShortPitch, "Refusal 12: the pitch is below the width."),
+    ] {
+        assert_eq!(refusal.to_string(), sentence);
+    }
 }
 
 /// A refusal is an error like any other.

@@ -21,7 +21,7 @@ use Rattle.blocks.specs.Run.{Whole, PaintsRow}
 use Rattle.blocks.proofs.Blocks.{whole}
 
 -- a place of sixteen, in a picture of 4 by 4: its block is number 0
-small : (k : ℕ) → k < 16 → (k / 4 / 4 * 1 + k % 4 / 4 ≡ 0) × (k % 4 % 4 ≡ k % 4) × (k / 4 % 4 ≡ k / 4)
+pub small : (k : ℕ) → k < 16 → (k / 4 / 4 * 1 + k % 4 / 4 ≡ 0) × (k % 4 % 4 ≡ k % 4) × (k / 4 % 4 ≡ k / 4)
 small k h = (omega arith, omega arith, omega arith)
 
 module _ (shows : Shows) (s n : ℕ) (d : List ℕ) where

@@ -19,6 +19,7 @@ use Rattle.rules.specs.Formats.{sizeOf, showsOf}
 use Rattle.rules.specs.Readers.{blockVerdict, blockPainted, ReadsPicture, ReadsBlock, ReadsAlpha, ReadsChannel, ReplacesChannel}
 use Rattle.rules.specs.declared.Answer.{Answer}
 use Rattle.rules.specs.declared.Format.{Format}
+use Rattle.blocks.proofs.Alone.{small}
 use Rattle.laws.proofs.Paint.{painted-same}
 use Rattle.place.proofs.Plain.{painted-plain}
 use Rattle.laws.proofs.Reach.{reads-its-block, alpha-reads-eight, channel-reads-eight, bc3-alpha-reads-eight, some-bytes}
@@ -139,10 +140,6 @@ module _ (d image : List ℕ) (a : Answer) (new : List ℕ) where
 
     pub bytes-behind-a-replacing-half-are-not-read : (channel : ℕ) → take 8 d ≡ take 8 e → ReplacesChannel d channel image a new → ReplacesChannel e channel image b new' → Same a b new new'
     bytes-behind-a-replacing-half-are-not-read channel same p = not-read (replacing channel) d image a new p e b new' same
-
--- a place of sixteen, in a picture of 4 by 4: its block is number 0
-small : (k : ℕ) → k < 16 → (k / 4 / 4 * 1 + k % 4 / 4 ≡ 0) × (k % 4 % 4 ≡ k % 4) × (k / 4 % 4 ≡ k / 4)
-small k h = (omega arith, omega arith, omega arith)
 
 -- a block reader is the picture reader of its format at 4 by 4: one answer and one image, for all bytes and every image
 module _ (f : Format) (d image : List ℕ) (a b : Answer) (new new' : List ℕ) where

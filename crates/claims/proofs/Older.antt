@@ -9,14 +9,14 @@ use Prim.Native.Nat.{ℕ, zero, suc, _+_, _-_, _*_, _/_, _<_, _≤_, min}
 use native.Mathlib.Omega.{arith}
 use native.Mathlib.Decide.{decLt, ℕ-discrete}
 use native.Mathlib.Nat.{zero-mul}
-use borrow.Author.Tests.{eqb-true, eq-eqb, lt-ltb, le-ltb}
+use borrow.Author.Tests.{eq-eqb, lt-ltb, le-ltb}
 use lib.Dec.{T as So, eqb, ltb, ltb→lt, lit<}
 use lib.IntN.{ℤ, pos, negsuc, negℤ, _+ℤ_, _-ℤ_, _*ℤ_}
 use lib.ListN.{length, getD}
 use Rattle.rules.specs.Notation.{byte, bits, minus, clamp, modulo, twos}
 use Rattle.rules.specs.Pixel.{Shows, word}
-use Rattle.rules.specs.Colour.{rgb, base, sum, beyond, five, wrapped, differential, differs, flipped, half, code, byBeyond, kindBySums, kindOf, outOfRange, stepsOf, shaded, halfColours}
-use Rattle.rules.specs.Modes.{tBases, hBases, tDistance, hDistance, planarBases, planarChannel, planarOf, planarPixel, isPlanar, coloursOf, indexed, etc1Bases, etc1Pixel, rgbPixel, rgba1Pixel}
+use Rattle.rules.specs.Colour.{rgb, base, sum, beyond, five, wrapped, differential, differs, flipped, code, byBeyond, kindBySums, outOfRange, stepsOf, shaded}
+use Rattle.rules.specs.Modes.{planarBases, planarChannel, planarPixel, isPlanar, indexed, etc1Pixel, rgbPixel, rgba1Pixel}
 use Rattle.rules.specs.Formats.{showsOf}
 use Rattle.rules.specs.Places.{tile}
 use Rattle.rules.specs.Guards.{Guard, inRange, notOpaque, opaqueOnly}

@@ -1,7 +1,7 @@
 -- Demand 3, over the promise of the strict reader and the Khronos definition of ETC2 RGB, and not between two programs: strict ETC1
 -- is a guard (Guarded.antt). And what follows for a reader that is not strict.
 -- Assumes nothing.
-use mathlib.Core.Path.{_≡_, _∙_, refl, sym, ap}
+use mathlib.Core.Path.{_≡_, _∙_, refl, ap}
 use mathlib.Core.Bool.{Bool, true, false}
 use mathlib.Core.List.{List, [], _∷_}
 use Prim.Native.Nat.{ℕ, _%_, _<_, _≤_}

@@ -25,13 +25,7 @@ fn paint_all(f: Format, data: &[u8], pic: Picture, image: &mut [u32])
 }
 
 // Paints a picture where the answer to all checks is Done, and hands the answer on.
-pub fn paint_if_done(
-    answer: Answer,
-    f: Format,
-    data: &[u8],
-    pic: Picture,
-    image: &mut [u32],
-) -> Answer
+fn paint_if_done(answer: Answer, f: Format, data: &[u8], pic: Picture, image: &mut [u32]) -> Answer
     requires { ⌜ (accepts (said answer) ≡ true → Passed (sizeOf f) pic (length (now «data»)) (length (now image))) ⌝ }
     ensures { λ r. ⌜ Obeys answer f (now («data» .entry)) pic (now (image .entry)) r (now (image .exit)) ⌝ }
 {

@@ -5,7 +5,6 @@ use rules::Answer;
 use rules::Format;
 use rules::Picture;
 use rules::Progress;
-ghost use mathlib.Core.Path.{_≡_};
 ghost use Prim.Native.Nat.{_≤_, _<_};
 
 // How far a course has come: the next byte's number, how many blocks are painted, how many bytes were unused, how many answers were

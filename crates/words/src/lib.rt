@@ -9,8 +9,11 @@ ghost use mathlib.Core.Path.{_≡_};
 ghost use Prim.Native.Nat.{_<_};
 ghost use Rattle.textures.specs.Textures.{numberOf};
 
-// The refusals of the tool that no header tells: a number stands here and beside its sentence, in `own_refusal`, and nowhere else.
+// The refusals of the tool that no header tells: a number stands here and beside its sentence, in `own_refusal`, and nowhere else but
+// in crates/lines, which stands on no words.
 pub const TOO_LARGE: u64 = 1;
+
+pub const SHORT_DATA: u64 = 2;
 
 pub const LONG_DATA: u64 = 6;
 

@@ -46,11 +46,23 @@ fn of_kinds(kinds: &[usize], random: &mut Random) -> Vec<Block> {
     kinds.iter().map(|&kind| colour(kind, random)).collect()
 }
 
-// Each group has numbers of its own, so that a change in one leaves the others as they are.
+// Each group has numbers of its own, so that a change in one leaves the others as they are. Two, made at the same time by two requests,
+// begin at the same.
 fn rows(seed: u64) -> Vec<Row> {
-    let groups = [glance, single, etc1, etc2, alphas, channels, places, strict, opaque, desktops, bptc];
-    let random = |group: usize| Random::new(seed << 8 | group as u64);
-    groups.into_iter().enumerate().flat_map(|(at, group)| group(&mut random(at))).collect()
+    let groups: [(u64, fn(&mut Random) -> Vec<Row>); 11] = [
+        (0, glance),
+        (1, single),
+        (2, etc1),
+        (3, etc2),
+        (4, alphas),
+        (5, channels),
+        (6, places),
+        (7, strict),
+        (8, opaque),
+        (8, desktops),
+        (9, bptc),
+    ];
+    groups.into_iter().flat_map(|(number, group)| group(&mut Random::new(seed << 8 | number))).collect()
 }
 
 // The first row of a block or two of each format and kind: most mistakes are seen here, at little cost.
