@@ -441,8 +441,8 @@ pub extern "C" fn yalivucu_decode_etc1_strict_pitched(
     told::strict(data, pic, image, block)
 }
 
-// Reads an ETC2 RGBA1 picture for a viewer that knows ETC2 RGB alone. Where it refuses for a block whose opaque bit is clear, `block` is its
-// number; otherwise `block` stays as it was.
+// Reads an ETC2 RGBA1 picture for a viewer that knows ETC2 RGB alone. Where it refuses for a block whose opaque bit is clear, `block` is
+// its number; otherwise `block` stays as it was.
 #[no_mangle]
 pub extern "C" fn yalivucu_decode_etc2_rgba1_opaque(
     data: &[u8],
@@ -751,7 +751,8 @@ pub extern "C" fn yalivucu_start_etc1(
     kept: &mut [u8; 15],
 ) -> u32
     ensures { λ r. ⌜ Told
-        (λ a. StartLent Format.Etc1 (pitched width height pitch) (length (now (image .entry))) a (now (numbers .exit)) (now (kept .exit)))
+        (λ a. StartLent Format.Etc1 (pitched width height pitch) (length (now (image .entry)))
+        a (now (numbers .exit)) (now (kept .exit)))
         r ⌝ }
 {
     let pic = Picture {
@@ -773,7 +774,8 @@ pub extern "C" fn yalivucu_start_etc2_rgb(
     kept: &mut [u8; 15],
 ) -> u32
     ensures { λ r. ⌜ Told
-        (λ a. StartLent Format.Etc2Rgb (pitched width height pitch) (length (now (image .entry))) a (now (numbers .exit)) (now (kept .exit)))
+        (λ a. StartLent Format.Etc2Rgb (pitched width height pitch) (length (now (image .entry)))
+        a (now (numbers .exit)) (now (kept .exit)))
         r ⌝ }
 {
     let pic = Picture {
@@ -795,7 +797,8 @@ pub extern "C" fn yalivucu_start_etc2_rgba1(
     kept: &mut [u8; 15],
 ) -> u32
     ensures { λ r. ⌜ Told
-        (λ a. StartLent Format.Etc2Rgba1 (pitched width height pitch) (length (now (image .entry))) a (now (numbers .exit)) (now (kept .exit)))
+        (λ a. StartLent Format.Etc2Rgba1 (pitched width height pitch) (length (now (image .entry)))
+        a (now (numbers .exit)) (now (kept .exit)))
         r ⌝ }
 {
     let pic = Picture {
@@ -817,7 +820,8 @@ pub extern "C" fn yalivucu_start_etc2_rgba8(
     kept: &mut [u8; 15],
 ) -> u32
     ensures { λ r. ⌜ Told
-        (λ a. StartLent Format.Etc2Rgba8 (pitched width height pitch) (length (now (image .entry))) a (now (numbers .exit)) (now (kept .exit)))
+        (λ a. StartLent Format.Etc2Rgba8 (pitched width height pitch) (length (now (image .entry)))
+        a (now (numbers .exit)) (now (kept .exit)))
         r ⌝ }
 {
     let pic = Picture {
@@ -839,7 +843,8 @@ pub extern "C" fn yalivucu_start_eacr(
     kept: &mut [u8; 15],
 ) -> u32
     ensures { λ r. ⌜ Told
-        (λ a. StartLent Format.EacR (pitched width height pitch) (length (now (image .entry))) a (now (numbers .exit)) (now (kept .exit)))
+        (λ a. StartLent Format.EacR (pitched width height pitch) (length (now (image .entry)))
+        a (now (numbers .exit)) (now (kept .exit)))
         r ⌝ }
 {
     let pic = Picture {
@@ -861,7 +866,8 @@ pub extern "C" fn yalivucu_start_eacr_signed(
     kept: &mut [u8; 15],
 ) -> u32
     ensures { λ r. ⌜ Told
-        (λ a. StartLent Format.EacRSigned (pitched width height pitch) (length (now (image .entry))) a (now (numbers .exit)) (now (kept .exit)))
+        (λ a. StartLent Format.EacRSigned (pitched width height pitch) (length (now (image .entry)))
+        a (now (numbers .exit)) (now (kept .exit)))
         r ⌝ }
 {
     let pic = Picture {
@@ -883,7 +889,8 @@ pub extern "C" fn yalivucu_start_eacrg(
     kept: &mut [u8; 15],
 ) -> u32
     ensures { λ r. ⌜ Told
-        (λ a. StartLent Format.EacRg (pitched width height pitch) (length (now (image .entry))) a (now (numbers .exit)) (now (kept .exit)))
+        (λ a. StartLent Format.EacRg (pitched width height pitch) (length (now (image .entry)))
+        a (now (numbers .exit)) (now (kept .exit)))
         r ⌝ }
 {
     let pic = Picture {
@@ -905,7 +912,8 @@ pub extern "C" fn yalivucu_start_eacrg_signed(
     kept: &mut [u8; 15],
 ) -> u32
     ensures { λ r. ⌜ Told
-        (λ a. StartLent Format.EacRgSigned (pitched width height pitch) (length (now (image .entry))) a (now (numbers .exit)) (now (kept .exit)))
+        (λ a. StartLent Format.EacRgSigned (pitched width height pitch) (length (now (image .entry)))
+        a (now (numbers .exit)) (now (kept .exit)))
         r ⌝ }
 {
     let pic = Picture {
@@ -927,7 +935,8 @@ pub extern "C" fn yalivucu_start_bc1(
     kept: &mut [u8; 15],
 ) -> u32
     ensures { λ r. ⌜ Told
-        (λ a. StartLent Format.Bc1 (pitched width height pitch) (length (now (image .entry))) a (now (numbers .exit)) (now (kept .exit)))
+        (λ a. StartLent Format.Bc1 (pitched width height pitch) (length (now (image .entry)))
+        a (now (numbers .exit)) (now (kept .exit)))
         r ⌝ }
 {
     let pic = Picture {
@@ -949,7 +958,8 @@ pub extern "C" fn yalivucu_start_bc1a(
     kept: &mut [u8; 15],
 ) -> u32
     ensures { λ r. ⌜ Told
-        (λ a. StartLent Format.Bc1Alpha (pitched width height pitch) (length (now (image .entry))) a (now (numbers .exit)) (now (kept .exit)))
+        (λ a. StartLent Format.Bc1Alpha (pitched width height pitch) (length (now (image .entry)))
+        a (now (numbers .exit)) (now (kept .exit)))
         r ⌝ }
 {
     let pic = Picture {
@@ -971,7 +981,8 @@ pub extern "C" fn yalivucu_start_bc3(
     kept: &mut [u8; 15],
 ) -> u32
     ensures { λ r. ⌜ Told
-        (λ a. StartLent Format.Bc3 (pitched width height pitch) (length (now (image .entry))) a (now (numbers .exit)) (now (kept .exit)))
+        (λ a. StartLent Format.Bc3 (pitched width height pitch) (length (now (image .entry)))
+        a (now (numbers .exit)) (now (kept .exit)))
         r ⌝ }
 {
     let pic = Picture {

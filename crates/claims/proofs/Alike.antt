@@ -83,7 +83,8 @@ module _ (s : ℕ) (pic : Picture) (d e : List ℕ) where
         ∙ ap (judged (pictureChecks s pic (length e) elements)) q
 
 -- where nothing is left over, a reader that wants an exact length says what any other does
-pub none-left : (s : ℕ) (pic : Picture) (bytes elements : ℕ) (then : List ℕ) → bytes ≤ blocks pic * s → judged (exactChecks s pic bytes elements) then ≡ judged (pictureChecks s pic bytes elements) then
+pub none-left : (s : ℕ) (pic : Picture) (bytes elements : ℕ) (then : List ℕ)
+    → bytes ≤ blocks pic * s → judged (exactChecks s pic bytes elements) then ≡ judged (pictureChecks s pic bytes elements) then
 none-left s pic bytes elements then h =
     ap (λ (t : Bool). judged (limitCheck pic ∷ pitchCheck pic ∷ dataCheck (blocks pic * s) bytes ∷ refusal 6 t ∷ imageCheck (needed pic) elements ∷ []) then)
     (le-ltb (blocks pic * s) bytes h)

@@ -134,7 +134,8 @@ plain q = of-bytes 255 (getD (rgb565 q) 0 0) (getD (rgb565 q) 1 0) (getD (rgb565
 between : (m n p q : ℕ) → ((a b : ℕ) → a ≤ 255 → b ≤ 255 → mix m n a b ≤ 255) → Word (mixture m n (rgb565 p) (rgb565 q))
 between m n p q h =
     let at : (k : ℕ) → mix m n (getD (rgb565 p) k 0) (getD (rgb565 q) k 0) ≤ 255 = λ k. h (getD (rgb565 p) k 0) (getD (rgb565 q) k 0) (rgb-le p k) (rgb-le q k) in
-    of-bytes 255 (mix m n (getD (rgb565 p) 0 0) (getD (rgb565 q) 0 0)) (mix m n (getD (rgb565 p) 1 0) (getD (rgb565 q) 1 0)) (mix m n (getD (rgb565 p) 2 0) (getD (rgb565 q) 2 0)) (omega arith) (at 0) (at 1) (at 2)
+    of-bytes 255 (mix m n (getD (rgb565 p) 0 0) (getD (rgb565 q) 0 0)) (mix m n (getD (rgb565 p) 1 0) (getD (rgb565 q) 1 0))
+    (mix m n (getD (rgb565 p) 2 0) (getD (rgb565 q) 2 0)) (omega arith) (at 0) (at 1) (at 2)
 
 black : (a : Bool) → Word (word (cond a 0 255) 0 0 0)
 black true = lit< tt

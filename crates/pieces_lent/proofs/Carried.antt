@@ -54,7 +54,9 @@ stays : (p q : Progress) (e : List ℕ) (b : Bool) → q ≡ cond b (after p e) 
 stays p q e true h = ap (λ (x : Progress). with p (x .taken) (x .kept)) h ∙ sym h
 stays p q e false h = ap (λ (x : Progress). with p (x .taken) (x .kept)) h ∙ sym h
 
-pub carried : (numbers kept e image : List ℕ) (p : Progress) (r : Taken) (new : List ℕ) → p ≡ stateIn numbers kept → Takes p e image r new → PieceLent numbers kept e image (r .answer) (withTaken numbers (r .progress .taken)) (r .progress .kept) (r .painted) (r .unused) new
+pub carried : (numbers kept e image : List ℕ) (p : Progress) (r : Taken) (new : List ℕ)
+    → p ≡ stateIn numbers kept → Takes p e image r new
+    → PieceLent numbers kept e image (r .answer) (withTaken numbers (r .progress .taken)) (r .progress .kept) (r .painted) (r .unused) new
 carried numbers kept e image q r new h u =
     let p = stateIn numbers kept in
     let t = subst (λ (x : Progress). Takes x e image r new) h u in

@@ -55,7 +55,8 @@ pub record StartLent (f : Format) (p : Picture) (elements : ℕ) (answer : Answe
   pub these : numbers ≡ numberOf f ∷ p .width ∷ p .height ∷ p .pitch ∷ 0 ∷ []
 
 -- A piece e: so do they, and of the five numbers only that of the bytes taken is written.
-pub record PieceLent (numbers kept e image : List ℕ) (answer : Answer) (numbers' kept' : List ℕ) (painted unused : ℕ) (new : List ℕ) : Type 0 where
+pub record PieceLent (numbers kept e image : List ℕ) (answer : Answer) (numbers' kept' : List ℕ) (painted unused : ℕ) (new : List ℕ)
+    : Type 0 where
   pub takes :
       Takes (stateIn numbers kept) e image
       (record { answer = answer; progress = stateIn numbers' kept'; painted = painted; unused = unused })

@@ -91,4 +91,5 @@ pub record Judges (t : Texture) (number : ℕ) : Type 0 where
   pub names : number ≡ 4 → Looked (viewerOf (t .format)) t number
   pub names-clear : number ≡ 11 → Looked (viewerOf (t .format)) t number
   pub only-then : number ≡ 6 → leftOver (viewerOf (t .format)) t ≡ true
-  pub then-always : isAsked (t .format) ≡ true → t .width ≤ fileLimit → t .height ≤ fileLimit → leftOver (viewerOf (t .format)) t ≡ true → number ≡ 6
+  pub then-always : isAsked (t .format) ≡ true → t .width ≤ fileLimit → t .height ≤ fileLimit
+      → leftOver (viewerOf (t .format)) t ≡ true → number ≡ 6
