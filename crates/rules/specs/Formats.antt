@@ -8,7 +8,8 @@ use Rattle.rules.specs.Channels.{rgba8Pixel, redPixel, redGreenPixel}
 use Rattle.rules.specs.Desktop.{bc1Pixel, bc3Pixel}
 use Rattle.rules.specs.Bc7.{bc7Pixel}
 use Rattle.rules.specs.declared.Format.{Format}
-use Rattle.rules.specs.declared.Format.the-variants.{Etc1, Etc2Rgb, Etc2Rgba1, Etc2Rgba8, EacR, EacRSigned, EacRg, EacRgSigned, Bc1, Bc1Alpha, Bc3, Bc7}
+use Rattle.rules.specs.declared.Format.the-variants.{Etc1, Etc2Rgb, Etc2Rgba1, Etc2Rgba8, EacR, EacRSigned, EacRg, EacRgSigned}
+use Rattle.rules.specs.declared.Format.the-variants.{Bc1, Bc1Alpha, Bc3, Bc7}
 
 -- "a block has 8 bytes, or 16 for RGBA8 and both EAC RG forms"; and of M-106's, 8 for BC1, or 16 for BC3, which has two halves; and 16 for
 -- BC7 (M-108)
