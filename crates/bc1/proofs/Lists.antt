@@ -46,7 +46,8 @@ module _ (four : Bool) (f : ℕ) (e : f ≡ cond four 1 0) where
       × ((x + x * f + y) * (65536 - 21845 * f) / 131072 ≡ cond four (mix 2 1 x y) (mix 1 1 x y))
       × (cond four (mix 2 1 x y) (mix 1 1 x y) < 256)
   divided x y h i =
-      subst (λ (z : ℕ). ((x + x * z + y) * (65536 - 21845 * z) ≤ 0x10000000) × ((x + x * z + y) * (65536 - 21845 * z) / 131072 ≡ cond four (mix 2 1 x y) (mix 1 1 x y)) × (cond four (mix 2 1 x y) (mix 1 1 x y) < 256)) (sym e) (both four)
+      subst (λ (z : ℕ). ((x + x * z + y) * (65536 - 21845 * z) ≤ 0x10000000)
+      × ((x + x * z + y) * (65536 - 21845 * z) / 131072 ≡ cond four (mix 2 1 x y) (mix 1 1 x y)) × (cond four (mix 2 1 x y) (mix 1 1 x y) < 256)) (sym e) (both four)
     where
       both : (s : Bool)
           → ((x + x * cond s 1 0 + y) * (65536 - 21845 * cond s 1 0) ≤ 0x10000000)

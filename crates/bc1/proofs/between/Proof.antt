@@ -21,14 +21,17 @@ factor-requires c κs = search needs
 
 -- the first once more, or not
 again : (c : tie.After-factor) → c .before .before .byte .result * c .factor .result ≤ 255
-again c = taken (c .before .before .before .args .four) (c .factor .result) (c .factor .ensures) (c .before .before .byte .result) 0 255 (omega (arith, c .before .before .byte .ensures .1)) (omega arith) .0
+again c = taken (c .before .before .before .args .four) (c .factor .result) (c .factor .ensures) (c .before .before .byte .result) 0 255
+    (omega (arith, c .before .before .byte .ensures .1)) (omega arith) .0
 
 -- the whole product, and what the shift leaves of it
 whole : (c : tie.After-factor)
     → ((c .before .before .byte .result + c .before .before .byte .result * c .factor .result + c .before .byte2 .result) * (65536 - 21845 * c .factor .result) ≤ 0x10000000)
-    × ((c .before .before .byte .result + c .before .before .byte .result * c .factor .result + c .before .byte2 .result) * (65536 - 21845 * c .factor .result) / 131072 ≡ cond (c .before .before .before .args .four) (mix 2 1 (c .before .before .byte .result) (c .before .byte2 .result)) (mix 1 1 (c .before .before .byte .result) (c .before .byte2 .result)))
+    × ((c .before .before .byte .result + c .before .before .byte .result * c .factor .result + c .before .byte2 .result) * (65536 - 21845 * c .factor .result) / 131072
+    ≡ cond (c .before .before .before .args .four) (mix 2 1 (c .before .before .byte .result) (c .before .byte2 .result)) (mix 1 1 (c .before .before .byte .result) (c .before .byte2 .result)))
     × (cond (c .before .before .before .args .four) (mix 2 1 (c .before .before .byte .result) (c .before .byte2 .result)) (mix 1 1 (c .before .before .byte .result) (c .before .byte2 .result)) < 256)
-whole c = divided (c .before .before .before .args .four) (c .factor .result) (c .factor .ensures) (c .before .before .byte .result) (c .before .byte2 .result) (c .before .before .byte .ensures .1) (c .before .byte2 .ensures .1)
+whole c = divided (c .before .before .before .args .four) (c .factor .result) (c .factor .ensures)
+    (c .before .before .byte .result) (c .before .byte2 .result) (c .before .before .byte .ensures .1) (c .before .byte2 .ensures .1)
 
 mul-result : tie.Need-mul-result
 mul-result c = omega (arith, again c)

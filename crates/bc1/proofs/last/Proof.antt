@@ -23,7 +23,8 @@ both : (c : tie.After-factor)
     → (c .before .before .thirds .result * c .factor .result ≤ 0xFFFFFFFF)
     × (c .before .black .result * (1 - c .factor .result) ≤ 0xFFFFFFFF)
     × (c .before .before .thirds .result * c .factor .result + c .before .black .result * (1 - c .factor .result) ≤ 0xFFFFFFFF)
-    × (c .before .before .thirds .result * c .factor .result + c .before .black .result * (1 - c .factor .result) ≡ cond (c .before .before .before .args .four) (c .before .before .thirds .result) (c .before .black .result))
+    × (c .before .before .thirds .result * c .factor .result + c .before .black .result * (1 - c .factor .result)
+    ≡ cond (c .before .before .before .args .four) (c .before .before .thirds .result) (c .before .black .result))
 both c = taken (c .before .before .before .args .four) (c .factor .result) (c .factor .ensures) (c .before .before .thirds .result) (c .before .black .result) 0xFFFFFFFF (omega arith) (omega arith)
 
 mul-result : tie.Need-mul-result
