@@ -1,19 +1,13 @@
 -- A list that is built says something of each element; and equal channels make equal pixels.
 -- Assumes nothing.
-use mathlib.Core.Path.{_≡_, _∙_, refl, sym, ap, subst}
-use mathlib.Core.List.{List}
-use mathlib.Core.Logic.{⊎-elim}
-use Prim.Native.Nat.{ℕ, zero, suc, _+_, _-_, _*_, _/_, _%_, _^_, _<_, _≤_}
-use native.Mathlib.Nat.{lt-of-lt-of-le, mod-lt}
+use mathlib.Core.Path.{_≡_, _∙_, sym, ap, subst}
+use Prim.Native.Nat.{ℕ, _-_, _<_, _≤_}
 use native.Mathlib.Decide.{decLt}
 use native.Mathlib.Omega.{arith}
-use lib.Arith.{digits-lt}
-use lib.ListN.{length, getD, set, length-set, List·getD-eq-default}
-use lib.Pow.{pow-add, pow-pos, pow-mono, shl-exact, shr-shr}
+use lib.ListN.{getD, List·getD-eq-default}
 use Rattle.rules.specs.Notation.{build}
 use Rattle.rules.specs.Bc7.{rotated}
-use Rattle.laws.proofs.Filled.{length-build, getD-build, fills}
-use Rattle.rest.specs.Whole.{fieldOf}
+use Rattle.laws.proofs.Filled.{length-build, getD-build}
 
 -- what holds of each f k and of 0 holds at each place of the list
 pub each : (P : ℕ → Type 0) (f : ℕ → ℕ) (n : ℕ) → ((k : ℕ) → k < n → P (f k)) → P 0 → (k : ℕ) → P (getD (build n f) k 0)

@@ -1,21 +1,15 @@
 -- The weights and the pixels: what the code's lists hold at pixel i is what the definition says.
 -- Assumes nothing.
-use mathlib.Core.Path.{_≡_, _∙_, refl, sym, ap, subst}
-use mathlib.Core.Bool.{Bool, true, false, cond}
-use mathlib.Core.List.{List, [], _∷_}
+use mathlib.Core.Path.{_≡_, _∙_, refl, sym, ap}
+use mathlib.Core.List.{[]}
 use Prim.Native.Nat.{ℕ, zero, suc, _+_, _-_, _*_, _/_, _%_, _^_, _<_, _≤_}
-use native.Mathlib.Nat.{add-mul, one-mul, mod-lt}
+use native.Mathlib.Nat.{mod-lt}
 use native.Mathlib.Omega.{arith}
-use lib.Dec.{T, leb, leb→le, lit≤}
-use lib.ListN.{getD}
+use lib.Dec.{lit≤}
 use lib.Pow.{shr-shr, split, pow-pos}
 use Rattle.rules.specs.Bits.{field}
-use Rattle.rules.specs.Bptc.{weightRows, weightsOf, subset}
-use Rattle.rules.specs.Notation.{build}
-use Rattle.rules.specs.Bc7.{isAnchor, indexBits, bitsBefore}
-use Rattle.laws.proofs.Every.{both, both-left, both-right}
+use Rattle.rules.specs.Bc7.{indexBits, bitsBefore}
 use Rattle.laws.proofs.Order.{low-field}
-use Rattle.laws.proofs.Filled.{getD-build}
 use Rattle.rest.specs.Whole.{widthBy, passedBy}
 use Rattle.bptc.specs.Layout.{layoutOf}
 use Rattle.bptc.proofs.Layouts.{anchor-said}

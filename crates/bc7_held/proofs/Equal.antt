@@ -1,11 +1,10 @@
 -- At the first bit of a block's bytes a bit reader finds what the fast reader shows.
 -- Assumes nothing.
-use mathlib.Core.Path.{_≡_, _∙_, ap, sym}
-use mathlib.Core.Bool.{Bool, false, _||_}
+use mathlib.Core.Path.{_≡_, _∙_, ap}
+use mathlib.Core.Bool.{Bool, false}
 use mathlib.Core.List.{List}
-use Prim.Native.Nat.{ℕ, _+_, _*_, _≤_, _<_, _^_}
+use Prim.Native.Nat.{ℕ, _+_, _*_, _≤_}
 use native.Mathlib.Omega.{arith}
-use lib.Dec.{ltb}
 use lib.ListN.{length}
 use borrow.Author.Tests.{le-ltb}
 use Rattle.rules.specs.Bits.{lacks, fieldAt}
@@ -15,7 +14,6 @@ use Rattle.rules.specs.declared.Answer.the-variants.{Done}
 use Rattle.laws.proofs.Filled.{build-same}
 use Rattle.laws.proofs.Number.{Bytes, first-bytes}
 use Rattle.bc1.proofs.Shown.{by-row}
-use Rattle.bc7_held.specs.declared.Sixteen.{Sixteen}
 use Rattle.bc7_held.specs.Sixteen.{sixteenOf, blockFrom}
 
 pub present : (d : List ℕ) (p : ℕ) → p + 128 ≤ length d * 8 → p + 128 ≤ 18446744073709551615 → lacks d p 128 ≡ false

@@ -2,7 +2,7 @@
 use rules::Bits;
 ghost use mathlib.Core.Path.{_≡_};
 ghost use Prim.Native.Nat.{_+_, _*_, _/_, _%_, _^_, _<_, _≤_};
-ghost use lib.ListN.{length, getD};
+ghost use lib.ListN.{getD};
 ghost use Rattle.rules.specs.Bits.{refuses, bitsSaid, readVerdict, placeAfter};
 ghost use Rattle.bits.specs.Held.{ReadsBits};
 

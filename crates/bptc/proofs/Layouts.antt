@@ -1,10 +1,7 @@
 -- What a layout says of each pixel: its subset, and whether it is an anchor. A law of packed numbers, at any partition.
 -- Assumes nothing.
-use mathlib.Core.Path.{_≡_, _∙_, refl, sym, ap, subst}
-use mathlib.Core.Logic.{⊎-elim}
-use Prim.Native.Nat.{ℕ, zero, suc, _+_, _-_, _*_, _/_, _%_, _^_, _<_, _≤_}
-use native.Mathlib.Nat.{add-mul, one-mul, eq-or-lt-of-le}
-use native.Mathlib.Omega.{arith}
+use mathlib.Core.Path.{_≡_}
+use Prim.Native.Nat.{ℕ, suc, _-_, _*_, _/_, _%_, _^_, _<_}
 use lib.Dec.{T, eqb, eqb→eq}
 use Rattle.rules.specs.Bptc.{two, three, anchorOfTwo, anchorOfThree1, anchorOfThree2, subset, anchor}
 use Rattle.rules.specs.Bc7.{isAnchor}

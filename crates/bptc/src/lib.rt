@@ -1,7 +1,7 @@
 // The tables and the arithmetic of a BC7 block.
 use rules::Mode;
 ghost use mathlib.Core.Path.{_≡_};
-ghost use Prim.Native.Nat.{ℕ, _+_, _-_, _*_, _/_, _%_, _^_, _<_, _≤_};
+ghost use Prim.Native.Nat.{ℕ, _+_, _-_, _*_, _/_, _^_, _<_, _≤_};
 ghost use lib.ListN.{getD};
 ghost use Rattle.rules.specs.Bptc.{weightsOf};
 ghost use Rattle.rules.specs.Notation.{build};

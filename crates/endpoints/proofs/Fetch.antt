@@ -5,7 +5,7 @@ use mathlib.Core.Bool.{Bool, true, false, cond, _||_}
 use mathlib.Core.List.{List}
 use Prim.Native.Nat.{ℕ, zero, suc, _+_, _-_, _*_, _/_, _%_, _^_, _<_, _≤_}
 use native.Mathlib.Omega.{arith}
-use lib.Dec.{T, eqb, leb, leb→le, eqb→eq}
+use lib.Dec.{T, eqb, leb, leb→le}
 use lib.ListN.{getD}
 use lib.Pow.{shr-shr}
 use Rattle.rules.specs.Bits.{field}

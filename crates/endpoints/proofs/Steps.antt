@@ -1,18 +1,14 @@
 -- Laws of the stages: endpoints made one by one, and fields that fit their width.
 -- Assumes nothing.
-use mathlib.Core.Path.{_≡_, _∙_, refl, sym, ap, subst}
+use mathlib.Core.Path.{_≡_, _∙_, sym, subst}
 use mathlib.Core.List.{List}
-use mathlib.Core.Logic.{⊎-elim}
-use Prim.Native.Nat.{ℕ, zero, suc, _+_, _-_, _*_, _/_, _%_, _^_, _<_, _≤_}
-use native.Mathlib.Nat.{lt-of-lt-of-le, mod-lt}
+use Prim.Native.Nat.{ℕ, _+_, _-_, _*_, _/_, _^_, _<_, _≤_}
+use native.Mathlib.Nat.{mod-lt}
 use native.Mathlib.Decide.{decLt}
 use native.Mathlib.Omega.{arith}
-use lib.Arith.{digits-lt}
-use lib.ListN.{length, getD, set, length-set, List·getD-eq-default}
-use lib.Pow.{pow-add, pow-pos, pow-mono, shl-exact, shr-shr}
-use Rattle.rules.specs.Notation.{build}
-use Rattle.rules.specs.Bc7.{rotated}
-use Rattle.laws.proofs.Filled.{length-build, getD-build, fills}
+use lib.ListN.{length, getD, set, length-set}
+use lib.Pow.{pow-pos}
+use Rattle.laws.proofs.Filled.{fills}
 use Rattle.rest.specs.Whole.{fieldOf}
 
 -- e endpoints of a channel are made

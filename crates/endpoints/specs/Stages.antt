@@ -1,7 +1,7 @@
 -- What each stage of reading a block has found, in the words of the definition.
 -- Assumes nothing.
 use mathlib.Core.Path.{_≡_}
-use Prim.Native.Nat.{ℕ, _+_, _*_, _/_, _%_, _^_, _<_, _≤_}
+use Prim.Native.Nat.{ℕ, _+_, _*_, _/_, _^_, _<_, _≤_}
 use lib.ListN.{getD}
 use Rattle.rules.specs.Bc7.{rotationPlace, selectionPlace, colourPlace, indexPlace, colourEnd, alphaEnd}
 use Rattle.rules.specs.Bits.{field}

@@ -1,6 +1,6 @@
 -- Laws of the number that bytes make: bytes skipped, two bytes that hold a field, and fields read one after the other.
 -- Assumes nothing.
-use mathlib.Core.Path.{_≡_, _∙_, refl, sym, ap, subst}
+use mathlib.Core.Path.{_≡_, _∙_, refl, sym, ap}
 use mathlib.Core.List.{List, [], _∷_}
 use Prim.Native.Nat.{ℕ, zero, suc, _+_, _-_, _*_, _/_, _%_, _^_, _<_, _≤_}
 use native.Mathlib.Nat.{mul-comm, mul-assoc, one-mul, add-comm, zero-add, suc-add, div-one, zero-div}

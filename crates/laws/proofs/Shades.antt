@@ -13,8 +13,8 @@ use lib.Pow.{pow-pos, pow-add, pow-mono, shl-lt, shl-exact, shr-lt}
 use Rattle.rules.specs.Bits.{field}
 use Rattle.rules.specs.Pixel.{word}
 use Rattle.rules.specs.Bptc.{weightRows, weightsOf}
-use Rattle.rules.specs.Bc7.{modeTable, modeAt, rotationPlace, pBits, expand, blend, rotated, colourEnd, alphaEnd}
-use Rattle.rules.specs.Bc7.{colourAt, alphaAt, weightAt, firstWeight, secondWeight, colourWeight, alphaWeight, selected, pixelIn}
+use Rattle.rules.specs.Bc7.{modeTable, modeAt, rotationPlace, pBits, blend, rotated, colourEnd, alphaEnd}
+use Rattle.rules.specs.Bc7.{colourAt, alphaAt, firstWeight, secondWeight, colourWeight, alphaWeight, selected, pixelIn}
 use Rattle.rules.specs.declared.Mode.{Mode}
 use Rattle.laws.proofs.Every.{both, both-left, both-right, below}
 

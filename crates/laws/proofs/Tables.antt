@@ -1,9 +1,9 @@
 -- Over the whole tables, each by one computed test: every pixel's subset exists, pixel 0 is in subset 0, and each anchor lies in its own subset.
 -- Assumes nothing.
 use mathlib.Core.Path.{_≡_}
-use mathlib.Core.Bool.{Bool, true, false}
-use mathlib.Core.List.{List, [], _∷_}
-use Prim.Native.Nat.{ℕ, zero, suc, _+_, _<_, _≤_}
+use mathlib.Core.Bool.{Bool}
+use mathlib.Core.List.{[]}
+use Prim.Native.Nat.{ℕ, suc, _<_}
 use lib.Dec.{T, ltb, eqb, eqb→eq, ltb→lt}
 use Rattle.rules.specs.Bptc.{two, three, anchorOfTwo, anchorOfThree1, anchorOfThree2, subset, anchor}
 use Rattle.rules.specs.Bc7.{modeTable, modeAt, endPlace}

@@ -1,6 +1,6 @@
 -- A BC7 block (M-108 of document 02): one record for each of the eight modes, where its fields lie, and what the sixteen pixels are.
 -- Assumes nothing.
-use mathlib.Core.Bool.{Bool, cond}
+use mathlib.Core.Bool.{cond}
 use mathlib.Core.List.{List, [], _∷_}
 use Prim.Native.Nat.{ℕ, zero, suc, _+_, _-_, _*_, _/_, _%_, _^_}
 use lib.Dec.{ltb, eqb}

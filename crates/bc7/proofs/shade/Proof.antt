@@ -1,9 +1,9 @@
 -- `bc7::shade` meets its contract: turn i makes pixel i.
 -- Assumes nothing.
 use Rattle.bc7.proofs.Steps.{same-rotated}
-use mathlib.Core.Path.{_∙_, ap, refl}
+use mathlib.Core.Path.{_∙_, refl}
 use mathlib.Core.List.{List}
-use Prim.Native.Nat.{ℕ, _+_, _-_, _*_, _/_, _%_, _^_}
+use Prim.Native.Nat.{ℕ, _-_, _*_, _/_, _%_, _^_}
 use native.Mathlib.Omega.{arith}
 use lib.ListN.{getD, replicate}
 use Rattle.rules.specs.Bc7.{rotated}

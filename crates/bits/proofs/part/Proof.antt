@@ -1,6 +1,6 @@
 -- The low bits by a remainder: what is shifted left is the power itself.
 -- Assumes nothing.
-use Prim.Native.Nat.{_/_, _%_, _^_}
+use Prim.Native.Nat.{_/_, _^_}
 use native.Mathlib.Nat.{mod-lt, lt-of-lt-of-le}
 use lib.Pow.{pow-pos, pow-mono}
 use native.Mathlib.Omega.{arith}

@@ -1,8 +1,8 @@
 -- `endpoints::ends_of` meets its contract: the fields follow one another, and each channel is made of its own.
 -- Assumes nothing.
-use mathlib.Core.Path.{_≡_, _∙_, refl, sym, ap}
+use mathlib.Core.Path.{_∙_, sym, ap}
 use mathlib.Core.Bool.{Bool, cond}
-use Prim.Native.Nat.{ℕ, _+_, _*_, _^_}
+use Prim.Native.Nat.{_+_, _*_, _^_}
 use native.Mathlib.Omega.{arith}
 use lib.ListN.{getD-replicate}
 use Rattle.rules.specs.Bits.{field}
