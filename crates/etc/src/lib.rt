@@ -1,9 +1,9 @@
 // The public list: that of src/etc.rs, BC1, BC3 and BC7. Sixteen block readers, twelve picture readers, strict ETC1 and RGBA1 for an
 // opaque-only viewer, each of these fourteen with a twin that takes the description with its pitch; two censuses; the readers and the
-// writer of sheets; the reader of a picture in pieces; the reader of degrees; and the checker and the baker of ETC1 blocks. None asks
+// writer of sheets; four readers of EAC's whole values, each with such a twin; the reader of a picture in pieces; the reader of degrees; and the checker and the baker of ETC1 blocks. None asks
 // anything of its caller. Each promises the answer and every element of what it is lent afterwards, for all inputs; what that is,
-// crates/rules/specs/Readers.antt, Census.antt, Sheets.antt, Pieces.antt, Degrees.antt, Checking.antt and Baking.antt say for all of
-// them. Refusals: 1 width,
+// crates/rules/specs/Readers.antt, Whole.antt, Census.antt, Sheets.antt, Pieces.antt, Degrees.antt, Checking.antt and Baking.antt say for
+// all of them. Refusals: 1 width,
 // height or pitch above 65,536 (of a sheet: width or height above 16,384); 12 a pitch below the width; 2 too few bytes; 6 too many (strict
 // only); 3 too few elements, or too little room for a sheet; 4 a block out of range, with its number (strict only); 5 a channel above 3; of
 // sheets, 7 a record cut short, 8 no head, 9 another kind, 10 not exactly the blocks; 11 a block whose opaque bit is clear, with its
@@ -30,11 +30,13 @@ ghost use Rattle.rules.specs.Places.{sized};
 ghost use Rattle.rules.specs.Answers.{said};
 ghost use Rattle.rules.specs.Census.{CountsRgb, CountsRgba1};
 ghost use Rattle.rules.specs.Readers.{ReadsPicture, ReadsStrict, ReadsOpaque, ReadsBlock, ReadsAlpha, ReadsChannel, ReplacesChannel};
+ghost use Rattle.rules.specs.Whole.{ReadsWhole};
 ghost use Rattle.rules.specs.Sheets.{TellsHead, ReadsSheet, WritesSheet};
 ghost use Rattle.rules.specs.Pieces.{Starts, Takes, Ends};
 ghost use Rattle.rules.specs.Degrees.{ReadsDegrees};
 ghost use Rattle.rules.specs.Checking.{bakingSaid, Checks};
 ghost use Rattle.rules.specs.Baking.{Bakes};
+ghost use Rattle.eleven.specs.Lanes.{lanes};
 
 // Document 01's number of an answer.
 pub fn number(answer: Answer) -> u32
