@@ -281,7 +281,8 @@ fn read_whole(
     height: usize,
     image: &mut [u16],
 ) -> Answer
-    ensures { λ r. ⌜ ReadsWhole signed (lanes green) (now («data» .entry)) (sized width height) (now (image .entry)) r (now (image .exit)) ⌝ }
+    ensures { λ r. ⌜ ReadsWhole signed (lanes green) (now («data» .entry)) (sized width height)
+        (now (image .entry)) r (now (image .exit)) ⌝ }
 {
     let pic = Picture {
         width: width,
