@@ -5,7 +5,7 @@
 #include <string.h>
 
 #define READERS(each) each(etc1) each(etc2_rgb) each(etc2_rgba1) each(etc2_rgba8) each(eacr) each(eacrg) \
-    each(bc1) each(bc1a) each(bc3)
+    each(bc1) each(bc1a) each(bc3) each(bc7)
 
 int main(int argc, char **argv)
 {

@@ -15,7 +15,7 @@ pub struct Format {
     pub given: Reader,
 }
 
-pub const FORMATS: [Format; 11] = [
+pub const FORMATS: [Format; 12] = [
     Format {
         name: "ETC1",
         halves: &[Half::Colour],
@@ -92,6 +92,13 @@ pub const FORMATS: [Format; 11] = [
         library: yalivucu::decode_bc3,
         pitched: Some(yalivucu::decode_bc3_pitched),
         given: given::decode_bc3,
+    },
+    Format {
+        name: "BC7",
+        halves: &[Half::Bc7, Half::Bc7Rest],
+        library: yalivucu::decode_bc7,
+        pitched: Some(yalivucu::decode_bc7_pitched),
+        given: given::decode_bc7,
     },
 ];
 

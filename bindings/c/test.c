@@ -49,6 +49,7 @@ static void pictures(void)
         {"bc1", yalivucu_decode_bc1, 8, 0xff000000},
         {"bc1a", yalivucu_decode_bc1a, 8, 0xff000000},
         {"bc3", yalivucu_decode_bc3, 16, 0x00000000},
+        {"bc7", yalivucu_decode_bc7, 16, 0x00000000},
     };
     for (size_t k = 0; k < sizeof row / sizeof *row; k++) {
         clear();
@@ -84,6 +85,7 @@ static void pitched(void)
         {"bc1_pitched", yalivucu_decode_bc1_pitched, 8, 0xff000000},
         {"bc1a_pitched", yalivucu_decode_bc1a_pitched, 8, 0xff000000},
         {"bc3_pitched", yalivucu_decode_bc3_pitched, 16, 0x00000000},
+        {"bc7_pitched", yalivucu_decode_bc7_pitched, 16, 0x00000000},
     };
     for (size_t k = 0; k < sizeof row / sizeof *row; k++) {
         const char *name = row[k].name;
@@ -223,6 +225,7 @@ static void blocks(void)
         {"bc1_block", yalivucu_decode_bc1_block, 8, 0xff000000},
         {"bc1a_block", yalivucu_decode_bc1a_block, 8, 0xff000000},
         {"bc3_block", yalivucu_decode_bc3_block, 16, 0x00000000},
+        {"bc7_block", yalivucu_decode_bc7_block, 16, 0x00000000},
     };
     for (size_t k = 0; k < sizeof row / sizeof *row; k++) {
         clear();
@@ -272,6 +275,19 @@ static void desktop(void)
     same("bc3_alpha", yalivucu_decode_bc3_alpha(block, 8, 2, image, MOST), YALIVUCU_DONE);
     same("bc3_alpha, red", image[15], 0x11ff1111);
     untouched("bc3_alpha", 16);
+}
+
+/* A BC7 block of mode 6 whose one colour has all bits set, then of mode 5 with alpha 0 in the place of red. */
+static void bptc(void)
+{
+    const uint8_t white[16] = {0xc0, 0xff, 0xff, 0xff, 0xff, 0xff, 0xff, 0xff, 0x01};
+    const uint8_t turned[16] = {0x60, 0xff, 0xff, 0xff, 0xff, 0xff, 0x03};
+    clear();
+    same("bc7", yalivucu_decode_bc7(white, 16, 4, 4, image, MOST), YALIVUCU_DONE);
+    same("bc7, mode 6", image[15], 0xffffffff);
+    same("bc7", yalivucu_decode_bc7_block(turned, 16, image, 16), YALIVUCU_DONE);
+    same("bc7, mode 5", image[15], 0xff00ffff);
+    untouched("bc7", 16);
 }
 
 /* Blocks of the specimens: individual, differential, T, H, planar; and T with its bit clear. */
@@ -394,6 +410,7 @@ static void pieces(void)
         {"pieces_bc1", yalivucu_pieces_bc1, yalivucu_decode_bc1_pitched, 8},
         {"pieces_bc1a", yalivucu_pieces_bc1a, yalivucu_decode_bc1a_pitched, 8},
         {"pieces_bc3", yalivucu_pieces_bc3, yalivucu_decode_bc3_pitched, 16},
+        {"pieces_bc7", yalivucu_pieces_bc7, yalivucu_decode_bc7_pitched, 16},
     };
     uint8_t data[67];
     uint32_t plain[MOST];
@@ -492,6 +509,7 @@ int main(void)
     blocks();
     channels();
     desktop();
+    bptc();
     censuses();
     baking();
     sheets();

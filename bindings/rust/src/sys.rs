@@ -46,6 +46,7 @@ extern "C" {
         yalivucu_decode_bc1_pitched
         yalivucu_decode_bc1a_pitched
         yalivucu_decode_bc3_pitched
+        yalivucu_decode_bc7_pitched
     }
     declared_block! {
         yalivucu_decode_etc1_block
@@ -59,6 +60,7 @@ extern "C" {
         yalivucu_decode_bc1_block
         yalivucu_decode_bc1a_block
         yalivucu_decode_bc3_block
+        yalivucu_decode_bc7_block
         yalivucu_decode_etc2_a8_block
     }
     declared_channel! {
@@ -78,6 +80,7 @@ extern "C" {
         yalivucu_start_bc1
         yalivucu_start_bc1a
         yalivucu_start_bc3
+        yalivucu_start_bc7
     }
     declared_census! {
         yalivucu_census_etc2_rgb

@@ -44,11 +44,13 @@ pub enum Format {
     Bc1Alpha,
     /// BC3, in blocks of 16 bytes; always four colours, and eight bits of alpha.
     Bc3,
+    /// BC7, in blocks of 16 bytes; a block without a mode is 0.
+    Bc7,
 }
 
 impl Format {
     /// Every format.
-    pub const ALL: [Format; 11] = [
+    pub const ALL: [Format; 12] = [
         Format::Etc1,
         Format::Etc2Rgb,
         Format::Etc2Rgba1,
@@ -60,6 +62,7 @@ impl Format {
         Format::Bc1,
         Format::Bc1Alpha,
         Format::Bc3,
+        Format::Bc7,
     ];
 
     /// The bytes of a block.
@@ -69,7 +72,7 @@ impl Format {
     /// ```
     pub const fn block_size(self) -> usize {
         match self {
-            Format::Etc2Rgba8 | Format::EacRg | Format::EacRgSigned | Format::Bc3 => 16,
+            Format::Etc2Rgba8 | Format::EacRg | Format::EacRgSigned | Format::Bc3 | Format::Bc7 => 16,
             _ => 8,
         }
     }
@@ -87,6 +90,7 @@ impl Format {
             Format::Bc1 => sys::yalivucu_decode_bc1_pitched,
             Format::Bc1Alpha => sys::yalivucu_decode_bc1a_pitched,
             Format::Bc3 => sys::yalivucu_decode_bc3_pitched,
+            Format::Bc7 => sys::yalivucu_decode_bc7_pitched,
         }
     }
 
@@ -103,6 +107,7 @@ impl Format {
             Format::Bc1 => sys::yalivucu_start_bc1,
             Format::Bc1Alpha => sys::yalivucu_start_bc1a,
             Format::Bc3 => sys::yalivucu_start_bc3,
+            Format::Bc7 => sys::yalivucu_start_bc7,
         }
     }
 
@@ -119,6 +124,7 @@ impl Format {
             Format::Bc1 => sys::yalivucu_decode_bc1_block,
             Format::Bc1Alpha => sys::yalivucu_decode_bc1a_block,
             Format::Bc3 => sys::yalivucu_decode_bc3_block,
+            Format::Bc7 => sys::yalivucu_decode_bc7_block,
         }
     }
 }

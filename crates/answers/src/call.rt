@@ -100,7 +100,8 @@ fn desktop(number: u32, data: &[u8], width: usize, height: usize, image: &mut [u
     match number {
         34 => etc::decode_bc1(data, width, height, image),
         35 => etc::decode_bc1a(data, width, height, image),
-        _ => etc::decode_bc3(data, width, height, image),
+        36 => etc::decode_bc3(data, width, height, image),
+        _ => etc::decode_bc7(data, width, height, image),
     }
 }
 
@@ -130,6 +131,7 @@ fn desktop_block(number: u32, channel: usize, data: &[u8], image: &mut [u32]) ->
         27 => etc::decode_bc1_block(data, image),
         28 => etc::decode_bc1a_block(data, image),
         29 => etc::decode_bc3_block(data, image),
-        _ => etc::decode_bc3_alpha(data, channel, image),
+        30 => etc::decode_bc3_alpha(data, channel, image),
+        _ => etc::decode_bc7_block(data, image),
     }
 }

@@ -364,6 +364,37 @@ pub extern "C" fn yalivucu_decode_bc3_pitched(
     told::read(Format::Bc3, data, width, height, pitch, image)
 }
 
+// Reads a BC7 picture.
+#[no_mangle]
+pub extern "C" fn yalivucu_decode_bc7(
+    data: &[u8],
+    width: usize,
+    height: usize,
+    image: &mut [u32],
+) -> u32
+    ensures { λ r. ⌜ Told
+        (λ a. ReadsPicture Format.Bc7 (now («data» .entry)) (sized width height) (now (image .entry)) a (now (image .exit)))
+        r ⌝ }
+{
+    told::read(Format::Bc7, data, width, height, width, image)
+}
+
+// The same of a picture with a pitch.
+#[no_mangle]
+pub extern "C" fn yalivucu_decode_bc7_pitched(
+    data: &[u8],
+    width: usize,
+    height: usize,
+    pitch: usize,
+    image: &mut [u32],
+) -> u32
+    ensures { λ r. ⌜ Told
+        (λ a. ReadsPicture Format.Bc7 (now («data» .entry)) (pitched width height pitch) (now (image .entry)) a (now (image .exit)))
+        r ⌝ }
+{
+    told::read(Format::Bc7, data, width, height, pitch, image)
+}
+
 // Reads an ETC1 picture that holds no block out of range. Where it refuses for one, `block` is its number; otherwise `block` stays as it
 // was.
 #[no_mangle]
@@ -542,6 +573,14 @@ pub extern "C" fn yalivucu_decode_bc3_block(data: &[u8], out: &mut [u32]) -> u32
     ensures { λ r. ⌜ Told (λ a. ReadsBlock Format.Bc3 (now («data» .entry)) (now (out .entry)) a (now (out .exit))) r ⌝ }
 {
     etc::number(etc::decode_bc3_block(data, out))
+}
+
+// Reads a BC7 block of 16 bytes into the elements 0 to 15.
+#[no_mangle]
+pub extern "C" fn yalivucu_decode_bc7_block(data: &[u8], out: &mut [u32]) -> u32
+    ensures { λ r. ⌜ Told (λ a. ReadsBlock Format.Bc7 (now («data» .entry)) (now (out .entry)) a (now (out .exit))) r ⌝ }
+{
+    etc::number(etc::decode_bc7_block(data, out))
 }
 
 // Reads an alpha half of 8 bytes into the top bytes of the elements 0 to 15, and keeps the rest of them.
@@ -952,6 +991,28 @@ pub extern "C" fn yalivucu_start_bc3(
         pitch: pitch,
     };
     etc::number(pieces_lent::start(Format::Bc3, pic, image, numbers, kept))
+}
+
+// Starts to read a BC7 picture in pieces; the caller keeps the state, in the two arrays.
+#[no_mangle]
+pub extern "C" fn yalivucu_start_bc7(
+    width: usize,
+    height: usize,
+    pitch: usize,
+    image: &[u32],
+    numbers: &mut [usize; 5],
+    kept: &mut [u8; 15],
+) -> u32
+    ensures { λ r. ⌜ Told
+        (λ a. StartLent Format.Bc7 (pitched width height pitch) (length (now (image .entry))) a (now (numbers .exit)) (now (kept .exit)))
+        r ⌝ }
+{
+    let pic = Picture {
+        width: width,
+        height: height,
+        pitch: pitch,
+    };
+    etc::number(pieces_lent::start(Format::Bc7, pic, image, numbers, kept))
 }
 
 // Takes a piece of a picture that was started.

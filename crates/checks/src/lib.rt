@@ -27,6 +27,7 @@ pub fn size(f: Format) -> usize
         Format::Bc1 => 8,
         Format::Bc1Alpha => 8,
         Format::Bc3 => 16,
+        Format::Bc7 => 16,
     }
 }
 

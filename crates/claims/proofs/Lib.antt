@@ -16,6 +16,7 @@ pub mod Back
 pub mod Skipped
 pub mod Lowest
 pub mod Desktop
+pub mod Bptc
 pub mod Arrived
 pub mod Step
 pub mod Cuts

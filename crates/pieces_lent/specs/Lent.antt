@@ -10,13 +10,13 @@ use Rattle.rules.specs.Pieces.{Starts, Takes}
 use Rattle.rules.specs.declared.Answer.{Answer}
 use Rattle.rules.specs.declared.Format.{Format}
 use Rattle.rules.specs.declared.Format.the-variants.{Etc1, Etc2Rgb, Etc2Rgba1, Etc2Rgba8, EacR, EacRSigned, EacRg, EacRgSigned}
-use Rattle.rules.specs.declared.Format.the-variants.{Bc1, Bc1Alpha, Bc3}
+use Rattle.rules.specs.declared.Format.the-variants.{Bc1, Bc1Alpha, Bc3, Bc7}
 use Rattle.rules.specs.declared.Picture.{Picture}
 use Rattle.rules.specs.declared.Progress.{Progress}
 
 -- the formats by their numbers here, a table of its own; a number behind it is read as the first
 abbrev pub formats : List Format
-formats = Etc1 ∷ Etc2Rgb ∷ Etc2Rgba1 ∷ Etc2Rgba8 ∷ EacR ∷ EacRSigned ∷ EacRg ∷ EacRgSigned ∷ Bc1 ∷ Bc1Alpha ∷ Bc3 ∷ []
+formats = Etc1 ∷ Etc2Rgb ∷ Etc2Rgba1 ∷ Etc2Rgba8 ∷ EacR ∷ EacRSigned ∷ EacRg ∷ EacRgSigned ∷ Bc1 ∷ Bc1Alpha ∷ Bc3 ∷ Bc7 ∷ []
 
 unfoldable pub formatAt : ℕ → Format
 formatAt n = getD formats n Etc1
@@ -34,6 +34,7 @@ numberOf EacRgSigned = 7
 numberOf Bc1 = 8
 numberOf Bc1Alpha = 9
 numberOf Bc3 = 10
+numberOf Bc7 = 11
 
 -- the state that the arrays hold, whatever is in them
 abbrev pub stateIn : List ℕ → List ℕ → Progress

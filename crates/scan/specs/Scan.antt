@@ -14,7 +14,7 @@ use Rattle.rules.specs.declared.Answer.{Answer}
 use Rattle.rules.specs.declared.Answer.the-variants.{ShortData}
 use Rattle.rules.specs.declared.Format.{Format}
 use Rattle.rules.specs.declared.Format.the-variants.{Etc1, Etc2Rgb, Etc2Rgba1, Etc2Rgba8, EacR, EacRSigned, EacRg, EacRgSigned}
-use Rattle.rules.specs.declared.Format.the-variants.{Bc1, Bc1Alpha, Bc3}
+use Rattle.rules.specs.declared.Format.the-variants.{Bc1, Bc1Alpha, Bc3, Bc7}
 use Rattle.textures.specs.Textures.{fileLimit}
 use Rattle.textures.specs.declared.Texture.{Texture}
 use Rattle.guard.specs.Viewers.{guardOf}
@@ -35,6 +35,7 @@ isAsked EacRgSigned = false
 isAsked Bc1 = false
 isAsked Bc1Alpha = false
 isAsked Bc3 = false
+isAsked Bc7 = false
 
 abbrev pub viewerOf : Format → Viewer
 viewerOf Etc1 = viewer.Etc1
@@ -48,6 +49,7 @@ viewerOf EacRgSigned = viewer.Etc1
 viewerOf Bc1 = viewer.Etc1
 viewerOf Bc1Alpha = viewer.Etc1
 viewerOf Bc3 = viewer.Etc1
+viewerOf Bc7 = viewer.Etc1
 
 -- whether a level has bytes behind its blocks that its viewer minds: only a strict reader does
 abbrev pub leftOver : Viewer → Texture → Bool

@@ -121,6 +121,7 @@ fn name(f: Format) {
         Format::Bc1 => tell(b"BC1"),
         Format::Bc1Alpha => tell(b"BC1 with alpha"),
         Format::Bc3 => tell(b"BC3"),
+        Format::Bc7 => tell(b"BC7"),
     }
 }
 

@@ -22,6 +22,18 @@ pub fn mesa(options: &crate::Options) -> Result<bool> {
     Ok(same)
 }
 
+/// One format alone, by Mesa, and BC7 by Pillow too.
+pub fn only(options: &crate::Options) -> Result<bool> {
+    let mut same = true;
+    for reader in FORMATS.into_iter().filter(|&reader| name(reader) == options.only) {
+        same &= against(reader, options, &options.mesa, "Mesa", reader)?;
+        if reader == BC7 {
+            same &= pillow(options)? & crate::desktop::compare(options)?;
+        }
+    }
+    Ok(same)
+}
+
 /// Android's libETC1, sums out of range included.
 pub fn android(options: &crate::Options) -> Result<bool> {
     against(ETC1, options, &options.android, "Android", ETC1)
@@ -34,6 +46,11 @@ pub fn squish(options: &crate::Options) -> Result<bool> {
         same &= against(reader, options, &options.squish, "squish", reader)?;
     }
     Ok(same)
+}
+
+/// Pillow, for BC7. Of a block without a mode it makes opaque black, so those are left to Mesa.
+pub fn pillow(options: &crate::Options) -> Result<bool> {
+    against(BC7, options, &options.pillow, "Pillow", BC7)
 }
 
 /// Pictures with a pitch, in all formats by Mesa, and in ETC1 by Android too. The other decoder is given
@@ -83,13 +100,21 @@ pub fn specimens(android: &str, mesa: &str) -> Result<bool> {
 // The same shapes go to both, each as its own reader wants them.
 fn against(reader: u32, options: &crate::Options, other: &str, label: &str, asked: u32) -> Result<bool> {
     let shapes = accepted_plan(reader, options.seed, options.blocks);
-    let aside = if reader == ETC1 { "pixels left to Android" } else { "" };
+    let aside = match reader {
+        ETC1 => "pixels left to Android",
+        BC7 if label == "Pillow" => "pixels left to Mesa",
+        _ => "",
+    };
     let mut report = Report::new(format!("{label} {}", name(reader)), aside, shapes.len());
     let cases = |shapes: Vec<Shape>| shapes.into_iter().map(|shape| shape.case());
     let mut theirs = Peer::start(other, cases(shapes.clone()))?;
     let mut ours = Peer::start(&options.program, cases(shapes).map(move |case| for_ours(case, asked)))?;
     while let (Some((case, seen)), Some((as_asked, got))) = (theirs.next()?, ours.next()?) {
-        let left = if label == "Android" { Vec::new() } else { wrapped_halves(&case) };
+        let left = match label {
+            "Android" => Vec::new(),
+            "Pillow" => without_a_mode(&case),
+            _ => wrapped_halves(&case),
+        };
         let mut due = if label == "Android" { seen } else { from_mesa(&case, seen, asked) };
         left.iter().for_each(|&k| due.image[k] = got.image[k]);
         report.count(&as_asked, &due, &got, left.len());
@@ -136,7 +161,7 @@ fn for_ours(mut case: Case, asked: u32) -> Case {
 /// Mesa's answer in the form of the reader asked.
 pub fn from_mesa(case: &Case, seen: Answer, asked: u32) -> Answer {
     let image = match case.reader {
-        ETC1 | RGB | RGBA1 | RGBA8 | BC1 | BC1A | BC3 => seen.image,
+        ETC1 | RGB | RGBA1 | RGBA8 | BC1 | BC1A | BC3 | BC7 => seen.image,
         reader if asked == reader => seen.image.iter().map(|&both| pixel(reader, both)).collect(),
         reader => seen.image.iter().flat_map(|&both| values(reader, both)).collect(),
     };
@@ -158,6 +183,13 @@ pub fn wrapped_halves(case: &Case) -> Vec<usize> {
         is_new(block) && across % 4 >= 2
     };
     (0..case.image.len()).filter(is_left).collect()
+}
+
+// The pixels of BC7 blocks whose first byte is 0.
+fn without_a_mode(case: &Case) -> Vec<usize> {
+    let width = case.width as usize;
+    let is_none = |&k: &usize| case.data[16 * (k / width / 4 * blocks_across(case.width) + k % width / 4)] == 0;
+    (0..case.image.len()).filter(is_none).collect()
 }
 
 // Mesa's sixteen bits of red and green, back to the eleven that they repeat.
