@@ -114,8 +114,12 @@ fn paint(green: bool, signed: bool, data: &[u8], pic: Picture, image: &mut [u16]
 pub fn read(green: bool, signed: bool, data: &[u8], pic: Picture, image: &mut [u16]) -> Answer
     ensures { λ r. ⌜ ReadsWhole signed (lanes green) (now («data» .entry)) pic (now (image .entry)) r (now (image .exit)) ⌝ }
 {
-    let n = lanes_of(green);
-    let answer = checks::verify(n * 8, pic, data.len(), image.len() / n);
+    let answer = checks::verify(
+        lanes_of(green) * 8,
+        pic,
+        data.len(),
+        image.len() / lanes_of(green),
+    );
     let Answer::Done = answer else {
         return answer;
     };

@@ -23,6 +23,9 @@ lanes-of-requires c κs = search needs
 mul-verify : tie.Need-mul-verify
 mul-verify c = search needs
 
+lanes-of-requires-2 : tie.Need-lanes-of-requires-2
+lanes-of-requires-2 c κs = search needs
+
 div-verify : tie.Need-div-verify
 div-verify c = search needs
 
@@ -34,13 +37,13 @@ enum-told c = search needs
 
 -- what is known where the function begins
 abbrev start : tie.After-verify → tie.Start
-start c = c .before .before .before .before
+start c = c .before .before .before .before .before
 
 -- the answer says the verdict of an n-th of the elements, and so the reader's own
 checked : (c : tie.After-verify)
     → said (c .verify .result)
     ≡ verdict (pictureChecks (lanes (start c .args .green) * 8) (start c .args .pic) (length (now (start c .args .«data»))) (length (now (start c .args .image)) / lanes (start c .args .green)))
-checked c = rw (c .before .lanes-of .ensures .0) at (c .verify .ensures)
+checked c = rw (c .before .before .lanes-of .ensures .0, c .before .lanes-of2 .ensures .0) at (c .verify .ensures)
 
 told : (c : tie.After-verify) → said (c .verify .result) ≡ wholeVerdict (lanes (start c .args .green)) (start c .args .pic) (now (start c .args .«data»)) (now (start c .args .image))
 told c =
@@ -82,6 +85,7 @@ read-spec =
     (tie.spec
     lanes-of-requires
     mul-verify
+    lanes-of-requires-2
     div-verify
     verify-requires
     enum-told
