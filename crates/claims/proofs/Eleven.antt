@@ -5,13 +5,13 @@
 use mathlib.Core.Path.{_≡_, _∙_, refl, sym, ap, subst}
 use mathlib.Core.Bool.{Bool, true, false, cond}
 use mathlib.Core.List.{List, [], _∷_}
-use Prim.Native.Nat.{ℕ, suc, _+_, _-_, _*_, _/_, _%_, _<_, _≤_}
+use Prim.Native.Nat.{ℕ, suc, _+_, _-_, _*_, _/_, _%_, _^_, _<_, _≤_}
 use native.Mathlib.Nat.{mul-comm}
 use native.Mathlib.Decide.{decLt}
 use native.Mathlib.Omega.{arith}
 use borrow.Author.Tests.{lt-ltb, le-ltb}
 use lib.Dec.{T}
-use lib.IntN.{ℤ, pos, negsuc, natAbs, _+ℤ_, _*ℤ_}
+use lib.IntN.{ℤ, pos, negsuc, natAbs, _+ℤ_, _-ℤ_, _*ℤ_}
 use lib.ListN.{length, getD}
 use Rattle.rules.specs.Notation.{byte, bits, twos, minus}
 use Rattle.rules.specs.Places.{element, needed, inside, column, row, blockOf, blockAt, bytesOf, Beside}
@@ -39,7 +39,7 @@ pub the-bytes-are-what-they-were : (signed : Bool) (d : List ℕ) (x y : ℕ) �
 the-bytes-are-what-they-were = bytes-stay
 
 -- "0 to 2047 unsigned, -1023 to 1023 signed"
-record Natural (most : ℕ) (v : ℤ) : Type 0 where
+pub record Natural (most : ℕ) (v : ℤ) : Type 0 where
   pub value : ℕ
   pub is : v ≡ pos value
   pub few : value ≤ most
@@ -75,10 +75,16 @@ a-signed-value-is-from-minus-1023-to-1023 d x y =
 
 -- "16-bit numbers": what the sixteen bits say as two's complement is the value, and of an unsigned one also as they are
 back : (v : ℤ) → natAbs v ≤ 2047 → twos 16 (sixteen v) ≡ v
-back (pos n) h = let e : n % 65536 ≡ n = omega arith in rw (e, lt-ltb n 32768 (omega arith)) refl
+back (pos n) h =
+    let e : n % 2 ^ 16 ≡ n = omega (arith, h) in
+    ap (twos 16) e ∙ ap (λ (t : Bool). cond t (pos n) (pos n -ℤ pos (2 ^ 16))) (lt-ltb n (2 ^ 15) (omega (arith, h)))
 back (negsuc n) h =
-    let e : 65535 - n % 65536 ≡ 65535 - n = omega arith in
-    rw (e, le-ltb (65535 - n) 32768 (omega arith)) (neg (65535 - n) 65536 (omega arith) ∙ ap negsuc (omega arith))
+    let few : suc n ≤ 2047 = h in
+    let e : 2 ^ 16 - 1 - n % 2 ^ 16 ≡ 65535 - n = omega arith in
+    ap (twos 16) e
+    ∙ ap (λ (t : Bool). cond t (pos (65535 - n)) (pos (65535 - n) -ℤ pos (2 ^ 16))) (le-ltb (65535 - n) (2 ^ 15) (omega arith))
+    ∙ neg (65535 - n) 65536 (omega arith)
+    ∙ ap negsuc (omega arith)
 
 pub sixteen-bits-say-the-value : (signed : Bool) (d : List ℕ) (x y : ℕ) → twos 16 (sixteen (eacWhole signed d x y)) ≡ eacWhole signed d x y
 sixteen-bits-say-the-value true d x y = back (eacWhole true d x y) (omega (arith, a-signed-value-is-from-minus-1023-to-1023 d x y))
@@ -156,7 +162,7 @@ module _ (green signed : Bool) (d : List ℕ) (pic : Picture) (image : List ℕ)
       (subst (λ (l : List ℕ). OnlyInTileBy (λ k. k / m) pic n (wholePicture signed m pic d image) l)
       (sym (an-acceptance-paints _ (wholePicture signed m pic e image) image new' Done q refl))
       (beside-by (m * 8) pic d e (λ k. k / m) (wholeAt signed m pic d) (wholeAt signed m pic e) n z
-      (λ k. ap (λ (l : List ℕ). wholePixel signed (k % m) l (column pic (k / m) % 4) (row pic (k / m) % 4)))
+      (λ k z. ap (λ (l : List ℕ). wholePixel signed (k % m) l (column pic (k / m) % 4) (row pic (k / m) % 4)) z)
       image))
 
   module _ (new : List ℕ) (a : Answer) (p : ReadsWhole signed (lanes green) d pic image a new) where
