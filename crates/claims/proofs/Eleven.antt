@@ -109,10 +109,6 @@ whole-determined signed n d pic image a b new new' p q = no-second-outcome _ _ i
 abbrev pub place : Bool → Picture → ℕ → ℕ → ℕ → ℕ
 place green pic x y c = lanes green * element pic x y + c
 
-some : (green : Bool) → 0 < lanes green
-some true = omega arith
-some false = omega arith
-
 module _ (green : Bool) (pic : Picture) (x y c : ℕ) (h : c < lanes green) where
   turned : place green pic x y c ≡ element pic x y * lanes green + c
   turned = ap (λ (z : ℕ). z + c) (mul-comm (lanes green) (element pic x y))
