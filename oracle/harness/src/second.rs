@@ -22,11 +22,15 @@ pub fn mesa(options: &crate::Options) -> Result<bool> {
     Ok(same)
 }
 
-/// One format alone, by Mesa, and BC7 by Pillow too.
+/// One format alone, by Mesa, EAC also by the readers of whole values and at every base, and BC7 by Pillow too.
 pub fn only(options: &crate::Options) -> Result<bool> {
     let mut same = true;
     for reader in FORMATS.into_iter().filter(|&reader| name(reader) == options.only) {
         same &= against(reader, options, &options.mesa, "Mesa", reader)?;
+        if is_eac(reader) {
+            same &= against(reader, options, &options.mesa, "Mesa, eleven bits,", wide(reader))?;
+            same &= at_every_base(reader, options)?;
+        }
         if reader == BC7 {
             same &= pillow(options)? & crate::desktop::compare(options)?;
         }
@@ -124,19 +128,26 @@ fn against(reader: u32, options: &crate::Options, other: &str, label: &str, aske
     Ok(report.close())
 }
 
-/// EAC at every base, with every multiplier, row and index, by Mesa: as bytes and as whole values.
+/// EAC at every base, by Mesa.
 pub fn every_base(options: &crate::Options) -> Result<bool> {
     let mut same = true;
     for reader in FORMATS.into_iter().filter(|&reader| is_eac(reader)) {
-        for (asked, label) in [(reader, "Mesa"), (wide(reader), "Mesa, eleven bits,")] {
-            let cases: Vec<Case> = (0..=255).map(|base| every_channel(reader, base)).collect();
-            let mut report = Report::new(format!("{label} {}, every base", name(reader)), "", cases.len());
-            let ours = ask(&options.program, cases.iter().cloned().map(|case| for_ours(case, asked)).collect())?;
-            for ((case, seen), (as_asked, got)) in ask(&options.mesa, cases)?.into_iter().zip(ours) {
-                report.count(&as_asked, &from_mesa(&case, seen, asked), &got, 0);
-            }
-            same &= report.close();
+        same &= at_every_base(reader, options)?;
+    }
+    Ok(same)
+}
+
+// With every multiplier, row and index: as bytes and as whole values.
+fn at_every_base(reader: u32, options: &crate::Options) -> Result<bool> {
+    let mut same = true;
+    for (asked, label) in [(reader, "Mesa"), (wide(reader), "Mesa, eleven bits,")] {
+        let cases: Vec<Case> = (0..=255).map(|base| every_channel(reader, base)).collect();
+        let mut report = Report::new(format!("{label} {}, every base", name(reader)), "", cases.len());
+        let ours = ask(&options.program, cases.iter().cloned().map(|case| for_ours(case, asked)).collect())?;
+        for ((case, seen), (as_asked, got)) in ask(&options.mesa, cases)?.into_iter().zip(ours) {
+            report.count(&as_asked, &from_mesa(&case, seen, asked), &got, 0);
         }
+        same &= report.close();
     }
     Ok(same)
 }
