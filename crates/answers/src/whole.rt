@@ -8,18 +8,34 @@ pub fn picture(number: u32, data: &[u8], pic: Picture, image: &mut [u32]) -> Ans
     if n > 0x10000 {
         return Answer::ShortImage;
     }
-    let mut i: usize = 0;
-    while i < n {
-        room[i] = (image[i] % 0x10000) as u16;
+    narrowed(image, &mut room);
+    let answer = read(number, data, pic, &mut room[..n]);
+    widened(&room, image);
+    answer
+}
+
+// The low sixteen bits of the elements, where there is room.
+fn narrowed(image: &[u32], values: &mut [u16]) {
+    if values.len() < image.len() {
+        return;
+    }
+    let mut i = 0;
+    while i < image.len() {
+        values[i] = (image[i] % 0x10000) as u16;
         i += 1;
     }
-    let answer = read(number, data, pic, &mut room[..n]);
-    let mut k: usize = 0;
-    while k < n {
-        image[k] = room[k] as u32;
-        k += 1;
+}
+
+// And back.
+fn widened(values: &[u16], image: &mut [u32]) {
+    if values.len() < image.len() {
+        return;
     }
-    answer
+    let mut i = 0;
+    while i < image.len() {
+        image[i] = values[i] as u32;
+        i += 1;
+    }
 }
 
 fn read(number: u32, data: &[u8], pic: Picture, values: &mut [u16]) -> Answer {
