@@ -4,13 +4,17 @@ use rules::Picture;
 
 pub fn picture(number: u32, data: &[u8], pic: Picture, image: &mut [u32]) -> Answer {
     let mut room = [0u16; 0x10000];
+    read_in(number, data, pic, &mut room, image)
+}
+
+fn read_in(number: u32, data: &[u8], pic: Picture, room: &mut [u16], image: &mut [u32]) -> Answer {
     let n = image.len();
-    if n > 0x10000 {
+    if room.len() < n {
         return Answer::ShortImage;
     }
-    narrowed(image, &mut room);
+    narrowed(image, room);
     let answer = read(number, data, pic, &mut room[..n]);
-    widened(&room, image);
+    widened(room, image);
     answer
 }
 
@@ -26,6 +30,10 @@ fn narrowed(image: &[u32], values: &mut [u16]) {
     }
 }
 
+fn wide(value: u16) -> u32 {
+    value as u32
+}
+
 // And back.
 fn widened(values: &[u16], image: &mut [u32]) {
     if values.len() < image.len() {
@@ -33,7 +41,7 @@ fn widened(values: &[u16], image: &mut [u32]) {
     }
     let mut i = 0;
     while i < image.len() {
-        image[i] = values[i] as u32;
+        image[i] = wide(values[i]);
         i += 1;
     }
 }
