@@ -95,13 +95,19 @@ fn above(p: u16, q: u16) -> u16
 fn first_parts(f: u16, k: u16) -> u16
     ensures { λ r. ⌜ r ≡ firstParts f k ⌝ }
 {
-    plus(pick(k, 0, 6, pick(k, 2, 3, 0)), times(f, pick(k, 2, 1, pick(k, 3, 2, 0))))
+    plus(
+        pick(k, 0, 6, pick(k, 2, 3, 0)),
+        times(f, pick(k, 2, 1, pick(k, 3, 2, 0))),
+    )
 }
 
 fn second_parts(f: u16, k: u16) -> u16
     ensures { λ r. ⌜ r ≡ secondParts f k ⌝ }
 {
-    plus(pick(k, 1, 6, pick(k, 2, 3, 0)), times(f, pick(k, 2, 65535, pick(k, 3, 4, 0))))
+    plus(
+        pick(k, 1, 6, pick(k, 2, 3, 0)),
+        times(f, pick(k, 2, 65535, pick(k, 3, 4, 0))),
+    )
 }
 
 // What lane i has beside its colour: 255 in a lane of alpha, and in the last one 256, which is none, where t is 1.
@@ -117,7 +123,12 @@ pub fn lane(f: u16, t: u16, p: u16, q: u16, i: u16) -> u8
 {
     let c = i % 4;
     let k = i / 4;
-    let byte = mixed(widened(p, c), widened(q, c), first_parts(f, k), second_parts(f, k));
+    let byte = mixed(
+        widened(p, c),
+        widened(q, c),
+        first_parts(f, k),
+        second_parts(f, k),
+    );
     (plus(byte, alpha_lane(t, i)) % 256) as u8
 }
 

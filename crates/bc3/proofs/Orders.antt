@@ -13,38 +13,43 @@ use Rattle.bc3.proofs.Shares.{shared}
 use Rattle.bc3.specs.Lanes.{alphaLane}
 
 -- the lanes of one order
-abbrev lanes : Bool → ℕ → ℕ → ℕ → ℕ
+abbrev pub lanes : Bool → ℕ → ℕ → ℕ → ℕ
 lanes s a b k = alphaLane a b (cond s a 0) (cond s b 0) (cond s 9363 13108) (cond s 0 255) (k % 8)
 
+fits : (n : ℕ) → n < 65536 → n % 65536 ≡ n
+fits n h = omega arith
+
+few : (s : Bool) (t e : ℕ) → t ≤ 1785 → e ≤ 255 → cond s (t / 7) (t / 5) + e < 65536
+few true t e h i = omega arith
+few false t e h i = omega arith
+
 -- a sum of four products, divided
-made : (s : Bool) (m n m' n' e : ℕ) → m + n + (m' + n') ≤ 1785
+made : (s : Bool) (m n m' n' e : ℕ) → m + n + (m' + n') ≤ 1785 → e ≤ 255
     → (((m % 65536 + n % 65536) % 65536 + (m' % 65536 + n' % 65536) % 65536) % 65536 * cond s 9363 13108 / 65536 + e) % 65536
-    ≡ (cond s ((m + n + (m' + n')) / 7) ((m + n + (m' + n')) / 5) + e) % 65536
-made s m n m' n' e h =
-    rw (sums m n (omega arith), sums m' n' (omega arith), fits (m + n + (m' + n')) h, shared s (m + n + (m' + n')) h .1)
-  where
-    fits : (t : ℕ) → t ≤ 1785 → t % 65536 ≡ t
-    fits t i = omega arith
+    ≡ cond s ((m + n + (m' + n')) / 7) ((m + n + (m' + n')) / 5) + e
+made s m n m' n' e h i =
+    rw (sums m n (omega arith), sums m' n' (omega arith), fits (m + n + (m' + n')) (omega arith), shared s (m + n + (m' + n')) h .1)
+    (fits (cond s ((m + n + (m' + n')) / 7) ((m + n + (m' + n')) / 5) + e) (few s (m + n + (m' + n')) e h i))
 
 one : (s : Bool) (a b : ℕ) → a < 256 → b < 256 → (k : ℕ) → k < 8 → lanes s a b k ≡ getD (alphas s a b) k 0
 unfolding alphaLane
-one true a b p q 0 h = made true (a * 5) (b * 0) (a * 2) (b * 0) 0 (omega arith) ∙ omega arith
-one true a b p q 1 h = made true (a * 0) (b * 5) (a * 0) (b * 2) 0 (omega arith) ∙ omega arith
-one true a b p q 2 h = made true (a * 4) (b * 1) (a * 2) (b * 0) 0 (omega arith) ∙ omega arith
-one true a b p q 3 h = made true (a * 3) (b * 2) (a * 2) (b * 0) 0 (omega arith) ∙ omega arith
-one true a b p q 4 h = made true (a * 2) (b * 3) (a * 2) (b * 0) 0 (omega arith) ∙ omega arith
-one true a b p q 5 h = made true (a * 1) (b * 4) (a * 2) (b * 0) 0 (omega arith) ∙ omega arith
-one true a b p q 6 h = made true (a * 0) (b * 0) (a * 2) (b * 5) 0 (omega arith) ∙ omega arith
-one true a b p q 7 h = made true (a * 0) (b * 0) (a * 1) (b * 6) 0 (omega arith) ∙ omega arith
+one true a b p q zero h = made true (a * 5) (b * 0) (a * 2) (b * 0) 0 (omega arith) (omega arith) ∙ omega arith
+one true a b p q (suc zero) h = made true (a * 0) (b * 5) (a * 0) (b * 2) 0 (omega arith) (omega arith) ∙ omega arith
+one true a b p q (suc (suc zero)) h = made true (a * 4) (b * 1) (a * 2) (b * 0) 0 (omega arith) (omega arith) ∙ omega arith
+one true a b p q (suc (suc (suc zero))) h = made true (a * 3) (b * 2) (a * 2) (b * 0) 0 (omega arith) (omega arith) ∙ omega arith
+one true a b p q (suc (suc (suc (suc zero)))) h = made true (a * 2) (b * 3) (a * 2) (b * 0) 0 (omega arith) (omega arith) ∙ omega arith
+one true a b p q (suc (suc (suc (suc (suc zero))))) h = made true (a * 1) (b * 4) (a * 2) (b * 0) 0 (omega arith) (omega arith) ∙ omega arith
+one true a b p q (suc (suc (suc (suc (suc (suc zero)))))) h = made true (a * 0) (b * 0) (a * 2) (b * 5) 0 (omega arith) (omega arith) ∙ omega arith
+one true a b p q (suc (suc (suc (suc (suc (suc (suc zero))))))) h = made true (a * 0) (b * 0) (a * 1) (b * 6) 0 (omega arith) (omega arith) ∙ omega arith
 one true a b p q (suc (suc (suc (suc (suc (suc (suc (suc k)))))))) h = absurd (omega arith)
-one false a b p q 0 h = made false (a * 5) (b * 0) (0 * 2) (0 * 0) 0 (omega arith) ∙ omega arith
-one false a b p q 1 h = made false (a * 0) (b * 5) (0 * 0) (0 * 2) 0 (omega arith) ∙ omega arith
-one false a b p q 2 h = made false (a * 4) (b * 1) (0 * 2) (0 * 0) 0 (omega arith) ∙ omega arith
-one false a b p q 3 h = made false (a * 3) (b * 2) (0 * 2) (0 * 0) 0 (omega arith) ∙ omega arith
-one false a b p q 4 h = made false (a * 2) (b * 3) (0 * 2) (0 * 0) 0 (omega arith) ∙ omega arith
-one false a b p q 5 h = made false (a * 1) (b * 4) (0 * 2) (0 * 0) 0 (omega arith) ∙ omega arith
-one false a b p q 6 h = made false (a * 0) (b * 0) (0 * 2) (0 * 5) 0 (omega arith) ∙ omega arith
-one false a b p q 7 h = made false (a * 0) (b * 0) (0 * 1) (0 * 6) 255 (omega arith) ∙ omega arith
+one false a b p q zero h = made false (a * 5) (b * 0) (0 * 2) (0 * 0) 0 (omega arith) (omega arith) ∙ omega arith
+one false a b p q (suc zero) h = made false (a * 0) (b * 5) (0 * 0) (0 * 2) 0 (omega arith) (omega arith) ∙ omega arith
+one false a b p q (suc (suc zero)) h = made false (a * 4) (b * 1) (0 * 2) (0 * 0) 0 (omega arith) (omega arith) ∙ omega arith
+one false a b p q (suc (suc (suc zero))) h = made false (a * 3) (b * 2) (0 * 2) (0 * 0) 0 (omega arith) (omega arith) ∙ omega arith
+one false a b p q (suc (suc (suc (suc zero)))) h = made false (a * 2) (b * 3) (0 * 2) (0 * 0) 0 (omega arith) (omega arith) ∙ omega arith
+one false a b p q (suc (suc (suc (suc (suc zero))))) h = made false (a * 1) (b * 4) (0 * 2) (0 * 0) 0 (omega arith) (omega arith) ∙ omega arith
+one false a b p q (suc (suc (suc (suc (suc (suc zero)))))) h = made false (a * 0) (b * 0) (0 * 2) (0 * 5) 0 (omega arith) (omega arith) ∙ omega arith
+one false a b p q (suc (suc (suc (suc (suc (suc (suc zero))))))) h = made false (a * 0) (b * 0) (0 * 1) (0 * 6) 255 (omega arith) (omega arith) ∙ omega arith
 one false a b p q (suc (suc (suc (suc (suc (suc (suc (suc k)))))))) h = absurd (omega arith)
 
 pub in-order : (s : Bool) (a b : ℕ) → a < 256 → b < 256 → (k : ℕ) → k < 8 → getD (build 16 (lanes s a b)) k 0 ≡ getD (alphas s a b) k 0

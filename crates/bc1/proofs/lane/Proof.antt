@@ -38,8 +38,15 @@ returns c =
     let e4 = e3 .before in
     let e5 = e4 .before in
     let e6 = e5 .before in
-    rw (c .plus .ensures, e2 .mixed .ensures, e6 .widened .ensures, e5 .widened2 .ensures, e4 .first-parts .ensures, e3 .second-parts .ensures,
-    e1 .alpha-lane .ensures)
+    rw (
+      c .plus .ensures,
+      e2 .mixed .ensures,
+      e6 .widened .ensures,
+      e5 .widened2 .ensures,
+      e4 .first-parts .ensures,
+      e3 .second-parts .ensures,
+      e1 .alpha-lane .ensures,
+    )
 
 pub lane-spec : {M : Type 1} → statement M
 lane-spec = tie.close (tie.spec widened-requires widened-requires-2 first-parts-requires second-parts-requires mixed-requires alpha-lane-requires plus-requires cast-result returns)

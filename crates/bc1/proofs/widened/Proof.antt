@@ -53,8 +53,20 @@ returns c =
     let e9 = e8 .before in
     let e10 = e9 .before in
     let e11 = e10 .before in
-    rw (c .times2 .ensures, e1 .high .ensures, e2 .times .ensures, e9 .pick3 .ensures, e10 .pick2 .ensures, e11 .pick .ensures,
-    e6 .pick6 .ensures, e7 .pick5 .ensures, e8 .pick4 .ensures, e3 .pick9 .ensures, e4 .pick8 .ensures, e5 .pick7 .ensures)
+    rw (
+      c .times2 .ensures,
+      e1 .high .ensures,
+      e2 .times .ensures,
+      e9 .pick3 .ensures,
+      e10 .pick2 .ensures,
+      e11 .pick .ensures,
+      e6 .pick6 .ensures,
+      e7 .pick5 .ensures,
+      e8 .pick4 .ensures,
+      e3 .pick9 .ensures,
+      e4 .pick8 .ensures,
+      e5 .pick7 .ensures,
+    )
 
 pub widened-spec : {M : Type 1} → statement M
 widened-spec = tie.close (tie.spec pick-requires pick-requires-2 pick-requires-3 pick-requires-4 pick-requires-5 pick-requires-6 pick-requires-7 pick-requires-8 pick-requires-9 times-requires high-requires times-requires-2 returns)

@@ -51,8 +51,18 @@ returns c =
     let e9 = e8 .before in
     let e10 = e9 .before in
     c .weighed .ensures
-    ∙ rw (e3 .pick8 .ensures, e4 .pick7 .ensures, e8 .pick3 .ensures, e9 .pick2 .ensures, e10 .pick .ensures, e1 .pick10 .ensures,
-    e2 .pick9 .ensures, e5 .pick6 .ensures, e6 .pick5 .ensures, e7 .pick4 .ensures)
+    ∙ rw (
+      e3 .pick8 .ensures,
+      e4 .pick7 .ensures,
+      e8 .pick3 .ensures,
+      e9 .pick2 .ensures,
+      e10 .pick .ensures,
+      e1 .pick10 .ensures,
+      e2 .pick9 .ensures,
+      e5 .pick6 .ensures,
+      e6 .pick5 .ensures,
+      e7 .pick4 .ensures,
+    )
 
 pub fifths-spec : {M : Type 1} → statement M
 fifths-spec = tie.close (tie.spec pick-requires pick-requires-2 pick-requires-3 pick-requires-4 pick-requires-5 pick-requires-6 pick-requires-7 pick-requires-8 pick-requires-9 pick-requires-10 weighed-requires returns)

@@ -24,6 +24,9 @@ mul-out c = omega arith
 array-read-out : tie.Need-array-read-out Inv-loop μ-loop
 array-read-out c = omega arith
 
+cast-out : tie.Need-cast-out Inv-loop μ-loop
+cast-out c = omega arith
+
 mul-out-2 : tie.Need-mul-out-2 Inv-loop μ-loop
 mul-out-2 c = omega arith
 
@@ -55,6 +58,7 @@ tops-spec =
     loop-holds
     mul-out
     array-read-out
+    cast-out
     mul-out-2
     mul-out-3
     array-write-out
