@@ -123,13 +123,13 @@ pub fn lane(f: u16, t: u16, p: u16, q: u16, i: u16) -> u8
 {
     let c = i % 4;
     let k = i / 4;
-    let byte = mixed(
+    let colour = mixed(
         widened(p, c),
         widened(q, c),
         first_parts(f, k),
         second_parts(f, k),
     );
-    (plus(byte, alpha_lane(t, i)) % 256) as u8
+    (plus(colour, alpha_lane(t, i)) % 256) as u8
 }
 
 fn lanes(f: u16, t: u16, p: u16, q: u16) -> [u8; 16]
@@ -144,7 +144,7 @@ fn lanes(f: u16, t: u16, p: u16, q: u16) -> [u8; 16]
     out
 }
 
-fn narrow(b: u8) -> u32
+fn byte(b: u8) -> u32
     ensures { λ r. ⌜ (r ≡ b) × (r < 256) ⌝ }
 {
     b as u32
@@ -153,7 +153,7 @@ fn narrow(b: u8) -> u32
 fn word_of(a: u8, b: u8, c: u8, d: u8) -> u32
     ensures { λ r. ⌜ r ≡ a + b * 256 + c * 65536 + d * 16777216 ⌝ }
 {
-    narrow(a) + narrow(b) * 256 + narrow(c) * 65536 + narrow(d) * 16777216
+    byte(a) + byte(b) * 256 + byte(c) * 65536 + byte(d) * 16777216
 }
 
 // The words of sixteen lanes.

@@ -49,4 +49,15 @@ returns c =
     )
 
 pub lane-spec : {M : Type 1} → statement M
-lane-spec = tie.close (tie.spec widened-requires widened-requires-2 first-parts-requires second-parts-requires mixed-requires alpha-lane-requires plus-requires cast-result returns)
+lane-spec =
+    tie.close
+    (tie.spec
+    widened-requires
+    widened-requires-2
+    first-parts-requires
+    second-parts-requires
+    mixed-requires
+    alpha-lane-requires
+    plus-requires
+    cast-result
+    returns)

@@ -69,4 +69,19 @@ returns c =
     )
 
 pub widened-spec : {M : Type 1} → statement M
-widened-spec = tie.close (tie.spec pick-requires pick-requires-2 pick-requires-3 pick-requires-4 pick-requires-5 pick-requires-6 pick-requires-7 pick-requires-8 pick-requires-9 times-requires high-requires times-requires-2 returns)
+widened-spec =
+    tie.close
+    (tie.spec
+    pick-requires
+    pick-requires-2
+    pick-requires-3
+    pick-requires-4
+    pick-requires-5
+    pick-requires-6
+    pick-requires-7
+    pick-requires-8
+    pick-requires-9
+    times-requires
+    high-requires
+    times-requires-2
+    returns)

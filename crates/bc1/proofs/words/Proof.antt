@@ -70,4 +70,27 @@ returns c =
     each (c .before .before .before .word-of .ensures) (c .before .before .word-of2 .ensures) (c .before .word-of3 .ensures) (c .word-of4 .ensures)
 
 pub words-spec : {M : Type 1} → statement M
-words-spec = tie.close (tie.spec array-read-word-of array-read-word-of-2 array-read-word-of-3 array-read-word-of-4 word-of-requires array-read-word-of-5 array-read-word-of-6 array-read-word-of-7 array-read-word-of-8 word-of-requires-2 array-read-word-of-9 array-read-word-of-10 array-read-word-of-11 array-read-word-of-12 word-of-requires-3 array-read-word-of-13 array-read-word-of-14 array-read-word-of-15 array-read-word-of-16 word-of-requires-4 returns)
+words-spec =
+    tie.close
+    (tie.spec
+    array-read-word-of
+    array-read-word-of-2
+    array-read-word-of-3
+    array-read-word-of-4
+    word-of-requires
+    array-read-word-of-5
+    array-read-word-of-6
+    array-read-word-of-7
+    array-read-word-of-8
+    word-of-requires-2
+    array-read-word-of-9
+    array-read-word-of-10
+    array-read-word-of-11
+    array-read-word-of-12
+    word-of-requires-3
+    array-read-word-of-13
+    array-read-word-of-14
+    array-read-word-of-15
+    array-read-word-of-16
+    word-of-requires-4
+    returns)

@@ -56,4 +56,15 @@ returns c =
     λ k h. ap (λ (l : List ℕ). getD l k 0) e ∙ in-order (ltb (a .b) (a .a)) (a .a) (a .b) (omega arith) (omega arith) k h
 
 pub all-alphas-spec : {M : Type 1} → statement M
-all-alphas-spec = tie.close (tie.spec wide-requires wide-requires-2 is-above-requires either-lane-requires either-lane-requires-2 either-lane-requires-3 either-lane-requires-4 alpha-lanes-requires returns)
+all-alphas-spec =
+    tie.close
+    (tie.spec
+    wide-requires
+    wide-requires-2
+    is-above-requires
+    either-lane-requires
+    either-lane-requires-2
+    either-lane-requires-3
+    either-lane-requires-4
+    alpha-lanes-requires
+    returns)

@@ -40,4 +40,14 @@ returns c =
     ∙ rw (e3 .high .ensures, e4 .plus .ensures, e6 .fifths .ensures, e5 .more .ensures, e1 .times .ensures, e2 .pick .ensures)
 
 pub alpha-lane-spec : {M : Type 1} → statement M
-alpha-lane-spec = tie.close (tie.spec fifths-requires more-requires plus-requires high-requires pick-requires times-requires plus-requires-2 returns)
+alpha-lane-spec =
+    tie.close
+    (tie.spec
+    fifths-requires
+    more-requires
+    plus-requires
+    high-requires
+    pick-requires
+    times-requires
+    plus-requires-2
+    returns)

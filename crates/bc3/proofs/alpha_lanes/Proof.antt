@@ -46,4 +46,17 @@ returns : tie.Need-returns Inv-loop μ-loop
 returns c = filled-all _ 0 16 (c .before .loop .out) (c .before .loop .i) (c .before .loop .inv) (omega arith)
 
 pub alpha-lanes-spec : {M : Type 1} → statement M
-alpha-lanes-spec = tie.close (tie.spec Inv-loop μ-loop loop-holds cast-alpha-lane alpha-lane-requires mul-out array-write-out add-i loop-less loop-again returns)
+alpha-lanes-spec =
+    tie.close
+    (tie.spec
+    Inv-loop
+    μ-loop
+    loop-holds
+    cast-alpha-lane
+    alpha-lane-requires
+    mul-out
+    array-write-out
+    add-i
+    loop-less
+    loop-again
+    returns)

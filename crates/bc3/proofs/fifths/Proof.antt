@@ -65,4 +65,18 @@ returns c =
     )
 
 pub fifths-spec : {M : Type 1} → statement M
-fifths-spec = tie.close (tie.spec pick-requires pick-requires-2 pick-requires-3 pick-requires-4 pick-requires-5 pick-requires-6 pick-requires-7 pick-requires-8 pick-requires-9 pick-requires-10 weighed-requires returns)
+fifths-spec =
+    tie.close
+    (tie.spec
+    pick-requires
+    pick-requires-2
+    pick-requires-3
+    pick-requires-4
+    pick-requires-5
+    pick-requires-6
+    pick-requires-7
+    pick-requires-8
+    pick-requires-9
+    pick-requires-10
+    weighed-requires
+    returns)
