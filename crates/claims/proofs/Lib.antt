@@ -19,6 +19,7 @@ pub mod Desktop
 pub mod Arrived
 pub mod Step
 pub mod Cuts
+pub mod Bands
 pub mod Degrees
 pub mod Ranges
 pub mod Halves
