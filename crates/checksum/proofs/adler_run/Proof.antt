@@ -59,9 +59,9 @@ loop-again c =
       omega arith,
       omega arith,
       further adlerByte (now (a .run)) (l .i) (reduced (l .first) (l .second)) (reduced (l .first + x) (l .second + (l .first + x)))
-      (omega arith)
-      (sym (summed (l .first) (l .second) x))
-      ∙ l .inv .3,
+          (omega arith)
+          (sym (summed (l .first) (l .second) x))
+          ∙ l .inv .3,
     )
 
 mul-result : tie.Need-mul-result Inv-loop μ-loop
