@@ -5,7 +5,9 @@ use keys::At;
 use textures::Header;
 use textures::Known;
 ghost use mathlib.Core.Path.{_≡_};
-ghost use Prim.Native.Nat.{_≤_};
+ghost use Prim.Native.Nat.{_<_, _≤_};
+ghost use lib.ListN.{length};
+ghost use Rattle.io.specs.Counts.{Counts};
 ghost use Rattle.rules.specs.Notation.{clamp};
 ghost use Rattle.tool.specs.Calls.{placeOf};
 
@@ -39,8 +41,9 @@ fn length_of(end: i64) -> usize
 }
 
 // Reads the sizes of a file's levels, which its header tells of, and answers how many bytes those are.
-fn sizes_of(fd: i32, head: &[u8], sizes: &mut [u8; 60]) -> usize
-    ensures { λ r. ⌜ r ≤ 60 ⌝ }
+fn sizes_of(fd: i32, head: &[u8], sizes: &mut [u8]) -> usize
+    requires { ⌜ 60 ≤ length (now sizes) ⌝ }
+    ensures { λ r. ⌜ Counts r (now (sizes .exit)) ⌝ }
 {
     let count = levels::sizes_in(head);
     let mut k: usize = 0;
@@ -61,7 +64,8 @@ fn sizes_of(fd: i32, head: &[u8], sizes: &mut [u8; 60]) -> usize
 
 // How much of what is left is read at once.
 fn piece(left: usize) -> usize
-    ensures { λ r. ⌜ (r ≤ left) × (r ≤ 0x10000) ⌝ }
+    requires { ⌜ 0 < left ⌝ }
+    ensures { λ r. ⌜ (0 < r) × (r ≤ left) × (r ≤ 0x10000) ⌝ }
 {
     if left < 0x10000 {
         return left;
@@ -69,21 +73,33 @@ fn piece(left: usize) -> usize
     0x10000
 }
 
+// Reads so many bytes of key and value data, which are next in the file, and walks through them; a file that ends before is wrong.
+fn walk_piece(fd: i32, order: bool, at: At, n: usize, bytes: &mut [u8]) -> At
+    requires { ⌜ n ≤ length (now bytes) ⌝ }
+    ensures { λ _. ⌜ length (now (bytes .exit)) ≡ length (now (bytes .entry)) ⌝ }
+{
+    let got = io::read_full(fd, &mut bytes[..n]);
+    if got < n {
+        return At::Wrong;
+    }
+    keys::walk(order, at, &bytes[..n])
+}
+
 // Whether a file's key and value data is a run of whole entries.
 fn has_whole_keys(fd: i32, head: &[u8]) -> bool {
     let end = levels::keys_end(head);
     let order = levels::order_of(head);
+    if !seek(fd, 64) {
+        return false;
+    }
     let mut room = io::large_buffer();
+    let bytes: &mut [u8] = &mut room;
     let mut now_at = At::Size(0, 0);
     let mut at: usize = 64;
     while at < end {
         let n = piece(end - at);
-        let got = io::count(libc::pread(fd, &mut room[..n], at as i64), &room[..n]);
-        if got == 0 {
-            return false;
-        }
-        now_at = keys::walk(order, now_at, &room[..got]);
-        at += got;
+        now_at = walk_piece(fd, order, now_at, n, bytes);
+        at += n;
     }
     keys::is_whole(now_at)
 }
@@ -94,13 +110,8 @@ fn header_of(fd: i32, len: usize, n: usize) -> Header {
     let got = io::count(libc::pread(fd, &mut head, 0), &head);
     let mut sizes = [0u8; 60];
     let m = sizes_of(fd, &head[..got], &mut sizes);
-    levels::held(
-        &head[..got],
-        &sizes[..m],
-        has_whole_keys(fd, &head[..got]),
-        n,
-        len,
-    )
+    let whole = has_whole_keys(fd, &head[..got]);
+    levels::held(&head[..got], &sizes[..m], whole, n, len)
 }
 
 // The same, of the level that an argument is the number of.
@@ -145,7 +156,6 @@ fn place_of(what: Asked) -> usize
         Asked::More => 5,
         Asked::Check => 2,
         Asked::Info => 2,
-        Asked::Json => 2,
         Asked::Help => 2,
         Asked::Nothing => 2,
     }
