@@ -47,9 +47,10 @@ def pyramid(room):
             note(content(out) == content(bare), "--level %d: another picture than its blocks" % k)
         unpack("--force", file, out)
         note(unpack("--force", "--level", "0", file, bare)[0] == 0 and content(out) == content(bare), "--level 0 is the file's picture")
-        for number, words, sentence in ((38, "5", "no such level"), (38, "99999", "no such level"), (39, "two", "no number"), (39, "-1", "no number")):
-            status, _, said = unpack("--force", "--level", words, file, out)
-            note(status == number and sentence in said, "--level %s: %d %s" % (words, status, said))
+        for number, sentence, words in ((38, "no such level", ("5", "99999")), (39, "no number", ("two", "-1"))):
+            for word in words:
+                status, _, said = unpack("--force", "--level", word, file, out)
+                note(status == number and sentence in said, "--level %s: %d %s" % (word, status, said))
     old = example("old.pkm")
     note(unpack("--force", "--level", "0", old, out)[0] == 0 and content(out) == content(example("old.png")), "--level 0 of a PKM file")
     note(unpack("--force", "--level", "1", old, out)[0] == 38, "--level 1 of a PKM file")
@@ -124,7 +125,8 @@ def bare(room):
         note(status == 39 and "no number" in sentence, "--raw %s: %d %s" % (words, status, sentence))
     for words in (
         ["--more", path, out], ["--more", "--info", path], ["--level", "1"], ["--level", "1", "--info", path],
-        ["--level", "1", "--raw", "etc1", "8", "8", path, out], ["--level", "1", "--level", "1", path, out], ["--level", "--force", path, out],
+        ["--level", "1", "--raw", "etc1", "8", "8", path, out], ["--level", "1", "--level", "1", path, out],
+        ["--level", "--force", path, out],
     ):
         note(unpack(*words)[0] == 32, "%s: status 32" % words)
 
