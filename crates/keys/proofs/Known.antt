@@ -6,7 +6,7 @@ use mathlib.Core.Bool.{true, false}
 use mathlib.Core.List.{List, [], _∷_, _++_}
 use Prim.Native.Nat.{ℕ}
 use Rattle.keys.specs.Entries.{nextOf, walked, isWhole}
-use Rattle.keys.specs.declared.At.the-variants.{Size, Key}
+use Rattle.keys.specs.declared.At.the-variants.{Size}
 
 -- "KTXorientation", 0, "S=r,T=d"
 abbrev note : List ℕ

@@ -67,7 +67,8 @@ module _ (order : Bool) (f : Format) (len : ℕ) (sizes : List ℕ) (n i : ℕ) 
       ∙ ap (λ (z : Said). first z (levelsSaid order f len sizes (n - (i + 1)) (i + 1) (nextOf f l))) e
       ∙ sym (one-of h)
 
-  pub goes-on : (m : Level) → i < n → Right ≡ levelSaid order f len sizes i (ltb (i + 1) n) l → m ≡ nextOf f l → levelsSaid order f len sizes (n - (i + 1)) (i + 1) m ≡ levelsSaid order f len sizes (n - i) i l
+  pub goes-on : (m : Level) → i < n → Right ≡ levelSaid order f len sizes i (ltb (i + 1) n) l → m ≡ nextOf f l
+      → levelsSaid order f len sizes (n - (i + 1)) (i + 1) m ≡ levelsSaid order f len sizes (n - i) i l
   goes-on m h e g =
       ap (levelsSaid order f len sizes (n - (i + 1)) (i + 1)) g
       ∙ ap (λ (z : Said). first z (levelsSaid order f len sizes (n - (i + 1)) (i + 1) (nextOf f l))) e

@@ -1,7 +1,7 @@
 -- The levels of a texture file. A KTX 1 file has them one behind another, each as its size in four bytes, in the file's own order, and
 -- its blocks; a PKM file has one.
 -- Assumes nothing.
-use mathlib.Core.Bool.{Bool, true, false, cond, not, _&&_, _||_}
+use mathlib.Core.Bool.{Bool, false, cond, not, _&&_}
 use mathlib.Core.List.{List}
 use Prim.Native.Nat.{ℕ, zero, suc, _+_, _*_, _/_}
 use lib.Dec.{eqb, ltb}
@@ -114,7 +114,8 @@ ktxHeld d sizes keys n len t =
     (cond (ltb mostLevels (countOf (greatestFirst d) d)) SizesDisagree
     (cond (tooLarge fileLimit (sized (t .width) (t .height))) TooLarge
     (chosenOf
-    (levelsSaid (greatestFirst d) (t .format) len sizes (countOf (greatestFirst d) d) 0 (record { width = t .width; height = t .height; at = levelAt d }))
+    (levelsSaid (greatestFirst d) (t .format) len sizes (countOf (greatestFirst d) d) 0
+    (record { width = t .width; height = t .height; at = levelAt d }))
     (pickedOf (t .format) (record { width = t .width; height = t .height; at = levelAt d }) (countOf (greatestFirst d) d) n)))))
 
 -- a whole header of KTX

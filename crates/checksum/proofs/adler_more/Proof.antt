@@ -7,7 +7,6 @@ use lib.ListN.{length, drop, length-take, length-drop}
 use denote.Ref.{now}
 use Rattle.checksum.specs.Sums.{adlerByte, folded}
 use Rattle.checksum.proofs.Fold.{past, over}
-use borrow.Author.Needs.{needs}
 use Rattle.checksum.proofs.adler_more.Statement.{statement}
 use Rattle.checksum.proofs.adler_more.Tie as tie
 

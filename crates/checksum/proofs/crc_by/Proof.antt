@@ -7,7 +7,6 @@ use lib.ListN.{length, drop}
 use denote.Ref.{now}
 use Rattle.checksum.specs.Sums.{crcByte, folded}
 use Rattle.checksum.proofs.Fold.{further, over}
-use borrow.Author.Needs.{needs}
 use Rattle.checksum.proofs.crc_by.Statement.{statement}
 use Rattle.checksum.proofs.crc_by.Tie as tie
 

@@ -1,6 +1,5 @@
 -- `checksum::crc_more` meets its contract, by that of `crc_by` and the table's rule.
 -- Assumes nothing.
-use borrow.Author.Needs.{needs}
 use Rattle.checksum.proofs.Table.{remainder}
 use Rattle.checksum.proofs.crc_more.Statement.{statement}
 use Rattle.checksum.proofs.crc_more.Tie as tie

@@ -1,7 +1,6 @@
 -- `tool::source::has_whole_keys` is safe and ends: what is left of the data gets less with each piece.
 -- Assumes nothing.
 use Prim.Native.Nat.{_-_, _≤_, _<_}
-use native.Mathlib.Omega.{arith}
 use lib.ListN.{length}
 use borrow.Author.Needs.{needs}
 use Rattle.tool.proofs.source.has_whole_keys.Statement.{statement}
