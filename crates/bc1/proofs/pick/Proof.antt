@@ -1,7 +1,6 @@
 -- A test of two numbers.
 -- Assumes nothing.
 use borrow.Author.Tests.{eq-eqb, ne-eqb}
-use borrow.Author.Needs.{needs}
 use Rattle.bc1.proofs.pick.Statement.{statement}
 use Rattle.bc1.proofs.pick.Tie as tie
 

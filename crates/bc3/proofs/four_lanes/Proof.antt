@@ -1,7 +1,7 @@
 -- One lane a turn.
 -- Assumes nothing.
 use mathlib.Core.Path.{refl}
-use Prim.Native.Nat.{_-_, _%_}
+use Prim.Native.Nat.{_-_}
 use native.Mathlib.Omega.{arith}
 use Rattle.laws.proofs.Filling.{Filling, inOrder, begun, stored-next, filled-all}
 use Rattle.bc1.specs.Lanes.{lane}
