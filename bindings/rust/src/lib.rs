@@ -19,6 +19,9 @@
 //! elements in the gaps and beyond the picture keep their value. Where the pixels differ from the crate's on purpose, docs/DIFFERENCES.md of
 //! the repository says on which formats and bytes.
 //!
+//! Without its feature `std` the package needs no operating system, and has everything but the readers on
+//! several processors.
+//!
 //! What is proved is the code in the archive, up to its functions of C names. The few lines
 //! here that call them are not proved. On x86-64 the archive is what `rt staticlib` made; on
 //! any other machine the proved module was compiled natively by the kit's own clang, a step
@@ -26,7 +29,12 @@
 #![no_std]
 #![warn(missing_docs)]
 
+#[cfg(feature = "std")]
+extern crate std;
+
 mod baking;
+#[cfg(feature = "std")]
+mod bands;
 mod census;
 mod degrees;
 mod pieces;

@@ -100,6 +100,16 @@ impl Refusal {
         }
     }
 
+    /// The same of a picture in which so many blocks stand before: the block that it names, if any, counts them too.
+    #[cfg(feature = "std")]
+    pub(crate) fn behind(self, blocks: usize) -> Refusal {
+        match self {
+            Refusal::OutOfRange { block } => Refusal::OutOfRange { block: blocks + block },
+            Refusal::NotOpaque { block } => Refusal::NotOpaque { block: blocks + block },
+            other => other,
+        }
+    }
+
     /// What a number of the archive means, with the block that came with it.
     pub(crate) fn answered(number: u32, block: usize) -> Result<(), Refusal> {
         match number {

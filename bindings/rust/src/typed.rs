@@ -11,6 +11,8 @@
 //! # Ok::<(), Refusal>(())
 //! ```
 pub use crate::baking::{bake_etc1_block, check_etc1_block};
+#[cfg(feature = "std")]
+pub use crate::bands::{read_in_bands, read_opaque_in_bands, read_strict_in_bands};
 pub use crate::census::{census_etc2_rgb, census_etc2_rgba1, KindCounts, RgbCounts, Rgba1Counts};
 pub use crate::degrees::{degrees, Legend, Reading};
 pub use crate::pieces::{Pieces, Taken};

@@ -21,6 +21,7 @@ pub mod Bptc
 pub mod Arrived
 pub mod Step
 pub mod Cuts
+pub mod Bands
 pub mod Degrees
 pub mod Ranges
 pub mod Halves

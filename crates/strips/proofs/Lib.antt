@@ -1,3 +1,4 @@
 pub mod Bytes
+pub mod Bands
 pub mod Whole
 pub mod Scanned

@@ -4,7 +4,7 @@
 use mathlib.Core.Path.{_≡_, _∙_, sym, ap}
 use mathlib.Core.Bool.{Bool, false, true≢false}
 use mathlib.Core.List.{List, [], _∷_, _++_}
-use Prim.Native.Nat.{ℕ, _+_, _-_, _*_, _<_, _≤_}
+use Prim.Native.Nat.{ℕ, _+_, _*_, _<_, _≤_}
 use native.Mathlib.Omega.{arith}
 use native.Mathlib.Decide.{decLt}
 use native.Mathlib.Nat.{mul-assoc}
@@ -13,33 +13,16 @@ use lib.ListN.{length}
 use Rattle.rules.specs.Places.{bytesOf}
 use Rattle.rules.specs.Answers.{firstOf, guarded, accepts}
 use Rattle.rules.specs.Guards.{Guard}
-use Rattle.laws.proofs.First.{first, only}
+use Rattle.laws.proofs.First.{first, only, first-alike}
 use Rattle.laws.proofs.Guards.{none-bad}
 use Rattle.strips.specs.Rows.{scanned, firstIn, scannedRow}
 use Rattle.strips.proofs.Bytes as bytes
+use Rattle.strips.proofs.Bands.{later}
 use Rattle.strips.proofs.Whole.{block}
 
 -- ---- the first place, of any test
 
 module _ (test : ℕ → Bool) where
-  -- where the test holds at none of the places before, the first of all lies among those after
-  later : (a n : ℕ) → ((k : ℕ) → k < a → test k ≡ false) → firstOf test (a + n) ≡ a + firstOf (λ i. test (a + i)) n
-  later a n none =
-      let f = first (λ i. test (a + i)) n in
-      only test (a + n) (firstOf test (a + n)) (a + firstOf (λ i. test (a + i)) n) (first test (a + n))
-      (record {
-        within = omega (arith, f .within);
-        found = λ h. f .found (omega (arith, h));
-        none =
-            λ k h.
-            elim (decLt k a) [
-              | yes b ↦ none k b
-              | no b ↦
-                  let z : k ≡ a + (k - a) = omega (arith, b) in
-                  ap test z ∙ f .none (k - a) (omega (arith, b))
-            ];
-      })
-
   -- a refusal stands, however many places follow
   pub settled : (number a b : ℕ) → a ≤ b → accepts (guarded number test a) ≡ false → guarded number test a ≡ guarded number test b
   settled number a b h r =
@@ -57,17 +40,6 @@ module _ (test : ℕ → Bool) where
             absurd (true≢false (sym (ap accepts g) ∙ r))
       ]
 
--- tests that agree have the same first place
-alike : (test other : ℕ → Bool) (n : ℕ) → ((i : ℕ) → i < n → test i ≡ other i) → firstOf test n ≡ firstOf other n
-alike test other n h =
-    let f = first other n in
-    only test n (firstOf test n) (firstOf other n) (first test n)
-    (record {
-      within = f .within;
-      found = λ q. h (firstOf other n) q ∙ f .found q;
-      none = λ k q. h k (omega (arith, f .within)) ∙ f .none k q;
-    })
-
 -- ---- rows of n blocks, read one after another
 
 module _ (g : Guard) (is-refusal : 0 < g .number) (n j : ℕ) (d row : List ℕ) (before : length d ≡ j * (n * 8)) (long : length row ≡ n * 8) where
@@ -80,7 +52,7 @@ module _ (g : Guard) (is-refusal : 0 < g .number) (n j : ℕ) (d row : List ℕ)
       later test (j * n) n
       (λ k h. ap (g .bad) (bytes.kept 8 k (j * n) d row h l) ∙ none-bad (g .number) (λ i. g .bad (bytesOf 8 d i)) (j * n) is-refusal e k h)
       ∙ ap (λ (z : ℕ). j * n + z)
-      (alike (λ i. test (j * n + i)) (λ i. g .bad (bytesOf 8 row i)) n
+      (first-alike (λ i. test (j * n + i)) (λ i. g .bad (bytesOf 8 row i)) n
       (λ i h.
       ap (g .bad)
       (sym (block n 8 i j (d ++ row) h) ∙ ap (λ (l : List ℕ). bytesOf 8 l i) (bytes.read (n * 8) j d row before long))))

@@ -1,61 +1,40 @@
 -- A picture read in rows of blocks is the picture, for any format: each row, read from its own bytes as a picture of its own,
--- has the elements that it has in the whole, and all of them one after another are the whole. Rows of pixels have no gap.
+-- has the elements that it has in the whole, and all of them one after another are the whole. Rows of pixels have no gap. A row is a
+-- band of one row of blocks (Bands.antt).
 -- Assumes nothing.
-use mathlib.Core.Path.{_≡_, _∙_, sym, ap}
+use mathlib.Core.Path.{_≡_, _∙_, sym, ap, subst}
 use mathlib.Core.Bool.{Bool, cond}
 use mathlib.Core.List.{List, _++_}
-use Prim.Native.Nat.{ℕ, zero, suc, _+_, _-_, _*_, _/_, _%_, _<_, _≤_, min}
+use Prim.Native.Nat.{ℕ, zero, suc, _+_, _-_, _*_, _<_, _≤_, min}
 use native.Mathlib.Omega.{arith}
-use native.Mathlib.Nat.{mul-comm, mul-assoc, add-mul, mul-add, suc-mul, mul-le-mul-right, mul-add-div, add-mul-mod-self-left, div-lt-iff-lt-mul, add-comm, mod-lt, mul-zero, zero-mul, zero-add}
+use native.Mathlib.Nat.{mul-comm, mul-assoc, one-mul, mul-add, mul-zero}
 use native.Mathlib.Decide.{decLt}
 use borrow.Author.Tests.{lt-ltb}
-use lib.ListN.{length, getD, take, drop, length-take, length-drop, length-append, List·getD-append}
-use lib.Seq.{ext-getD, getD-take, getD-drop, getD-append-add}
+use lib.Dec.{T, lt→ltb}
+use lib.ListN.{length, getD, take, drop, length-take, length-append, List·getD-append}
+use lib.Seq.{getD-take, getD-append-add}
 use Rattle.rules.specs.Notation.{build}
 use Rattle.rules.specs.Pixel.{Shows}
-use Rattle.rules.specs.Places.{sized, column, row, inside, across, blockAt, bytesOf, pixelAt, painted}
+use Rattle.rules.specs.Places.{sized, inside, across, bytesOf, pixelAt, painted}
 use Rattle.rules.specs.declared.Picture.{Picture}
 use Rattle.laws.proofs.Filled.{is-build, length-build, getD-build}
 use Rattle.laws.proofs.Paint.{length-painted, getD-painted}
-use Rattle.place.proofs.Grid.{wide, covered}
+use Rattle.place.proofs.Grid.{wide}
 use Rattle.place.proofs.Plain.{inside-plain}
 use Rattle.strips.specs.Rows.{high, rowOf, rowBytes, rowPixels, joined}
+use Rattle.strips.specs.Bands.{bytesIn, below}
+use Rattle.strips.proofs.Bands.{in-front, behind, pixel-top, pixel-below}
 
 -- ---- the bytes of a block
-
--- block i ends where its row of n blocks does, or before
-ends : (n s i : ℕ) → i < n → i * s + s ≤ n * s
-ends n s i h =
-    let a : suc i * s ≤ n * s = mul-le-mul-right s h in
-    let b : suc i * s ≡ i * s + s = suc-mul i s in
-    omega arith
-
--- where block i of row j starts in the whole
-starts : (n s i j : ℕ) → (j * n + i) * s ≡ j * (n * s) + i * s
-starts n s i j = add-mul (j * n) i s ∙ ap (λ (z : ℕ). z + i * s) (mul-assoc j n s)
 
 -- block i of row j is block j * n + i of the whole
 pub block : (n s i j : ℕ) (d : List ℕ) → i < n → bytesOf s (bytesOf (n * s) d j) i ≡ bytesOf s d (j * n + i)
 block n s i j d h =
-    let e : i * s + s ≤ n * s = ends n s i h in
-    let b : (j * n + i) * s ≡ j * (n * s) + i * s = starts n s i j in
-    ext-getD 0 (bytesOf s (bytesOf (n * s) d j) i) (bytesOf s d (j * n + i))
-    (simp (length-take, length-drop) (omega arith))
-    (λ k q.
-    let m : k < s = omega (arith, simp (length-take, length-drop) at q) in
-    getD-take s (drop (i * s) (bytesOf (n * s) d j)) k 0 m
-    ∙ getD-drop (i * s) (bytesOf (n * s) d j) k 0
-    ∙ getD-take (n * s) (drop (j * (n * s)) d) (i * s + k) 0 (omega arith)
-    ∙ getD-drop (j * (n * s)) d (i * s + k) 0
-    ∙ ap (λ (z : ℕ). getD d z 0) (omega arith)
-    ∙ sym (getD-drop ((j * n + i) * s) d k 0)
-    ∙ sym (getD-take s (drop ((j * n + i) * s) d) k 0 m))
+    in-front s n i (drop (j * (n * s)) d) h
+    ∙ ap (λ (z : ℕ). bytesOf s (drop z d) i) (sym (mul-assoc j n s))
+    ∙ behind s (j * n) i d
 
--- ---- the place of a pixel
-
--- a row of blocks is at most four pixels high
-low : (y h j : ℕ) → y < high h j → (y / 4 ≡ 0) × ((j * 4 + y) / 4 ≡ j) × ((j * 4 + y) % 4 ≡ y % 4)
-low y h j i = omega arith
+-- ---- the place of a pixel: row j is the first band of what is below j rows
 
 module _ (breadth tall j k : ℕ) (h : k < breadth * high tall j) where
   abbrev p : Picture
@@ -65,42 +44,22 @@ module _ (breadth tall j k : ℕ) (h : k < breadth * high tall j) where
   broad : 0 < p .width
   broad = wide (p .width) (high (p .height) j) k (omega (arith, mul-comm (p .width) (high (p .height) j)))
 
-  -- the column of a pixel is the same in the row and in the whole
-  columns : column p (p .width * (j * 4) + k) ≡ column p k
-  columns =
-      ap (λ (z : ℕ). z % p .width) (add-comm (p .width * (j * 4)) k) ∙ add-mul-mod-self-left k (p .width) (j * 4)
+  own-bytes : (s : ℕ) (d : List ℕ) → rowBytes s p d j ≡ take (bytesIn s (below p j) 1) (drop (bytesIn s p j) d)
+  own-bytes s d =
+      let m = across (p .width) in
+      ap (λ (z : ℕ). take (z * s) (drop (j * (m * s)) d)) (sym (one-mul m))
+      ∙ ap (λ (z : ℕ). take (1 * m * s) (drop z d)) (sym (mul-assoc j m s))
 
-  -- and its row is so much further down
-  rows : row p (p .width * (j * 4) + k) ≡ j * 4 + row p k
-  rows = mul-add-div broad (j * 4) k
-
-  within : row p k < high (p .height) j
-  within = div-lt-iff-lt-mul broad .1 (omega (arith, mul-comm (p .width) (high (p .height) j)))
-
-  -- its block, in the whole and in the row
-  whole-block : blockAt p (p .width * (j * 4) + k) ≡ j * across (p .width) + column p k / 4
-  whole-block =
-      ap (λ (z : ℕ). row p (p .width * (j * 4) + k) / 4 * across (p .width) + z / 4) columns
-      ∙ ap (λ (z : ℕ). z / 4 * across (p .width) + column p k / 4) rows
-      ∙ ap (λ (z : ℕ). z * across (p .width) + column p k / 4) (low (row p k) (p .height) j within .1)
-
-  row-block : blockAt (rowOf p j) k ≡ column p k / 4
-  row-block =
-      ap (λ (z : ℕ). z * across (p .width) + column p k / 4) (low (row p k) (p .height) j within .0)
-      ∙ ap (λ (z : ℕ). z + column p k / 4) (zero-mul (across (p .width)))
-      ∙ zero-add (column p k / 4)
+  own : T (inside (rowOf p j) k)
+  own = subst (λ (t : Bool). T t) (sym (inside-plain breadth (high tall j) k)) (lt→ltb k (breadth * high tall j) h)
 
   -- what a row shows at a pixel is what the whole shows there
   pub pixel : (shows : Shows) (s : ℕ) (d : List ℕ) → pixelAt shows s (rowOf p j) (rowBytes s p d j) k ≡ pixelAt shows s p d (p .width * (j * 4) + k)
   pixel shows s d =
-      let x = column p k % 4 in
-      let y = row p k % 4 in
-      ap (λ (z : ℕ). shows (bytesOf s (rowBytes s p d j) z) x y) row-block
-      ∙ ap (λ (l : List ℕ). shows l x y) (block (across (p .width)) s (column p k / 4) j d (covered (column p k) (p .width) (mod-lt k broad)))
-      ∙ ap (λ (z : ℕ). shows (bytesOf s d z) x y) (sym whole-block)
-      ∙ ap (λ (z : ℕ). shows (bytesOf s d (blockAt p (p .width * (j * 4) + k))) (z % 4) y) (sym columns)
-      ∙ ap (λ (z : ℕ). shows (bytesOf s d (blockAt p (p .width * (j * 4) + k))) (column p (p .width * (j * 4) + k) % 4) z)
-      (sym (low (row p k) (p .height) j within .2) ∙ ap (λ (z : ℕ). z % 4) (sym rows))
+      ap (λ (l : List ℕ). pixelAt shows s (rowOf p j) l k) (own-bytes s d)
+      ∙ pixel-top (below p j) 1 shows s (drop (bytesIn s p j) d) k own
+      ∙ sym (pixel-below p j broad shows s d k)
+      ∙ ap (λ (z : ℕ). pixelAt shows s p d (z + k)) (mul-comm (j * 4) (p .width))
 
 -- ---- a row, and all rows
 

@@ -49,7 +49,7 @@ fn of_kinds(kinds: &[usize], random: &mut Random) -> Vec<Block> {
 // Each group has numbers of its own, so that a change in one leaves the others as they are. Two, made at the same time by two requests,
 // begin at the same.
 fn rows(seed: u64) -> Vec<Row> {
-    let groups: [(u64, fn(&mut Random) -> Vec<Row>); 11] = [
+    let groups: [(u64, fn(&mut Random) -> Vec<Row>); 12] = [
         (0, glance),
         (1, single),
         (2, etc1),
@@ -61,6 +61,7 @@ fn rows(seed: u64) -> Vec<Row> {
         (8, opaque),
         (8, desktops),
         (9, bptc),
+        (10, inside),
     ];
     groups.into_iter().flat_map(|(number, group)| group(&mut Random::new(seed << 8 | number))).collect()
 }
@@ -325,6 +326,18 @@ fn bptc(random: &mut Random) -> Vec<Row> {
         picture("BC7: mode 5, each rotation", BC7, (16, 1), &others),
         picture("BC7: no mode", BC7, (4, 1), &none),
         lone(BLOCK_BC7, &lone_block),
+    ]
+}
+
+// BC7: partitions with anchors in the middle of the indices; and no index selection, with the bit behind it set.
+fn inside(random: &mut Random) -> Vec<Row> {
+    let mut of = |mode: usize, bits: usize| -> [Block; 2] { [bc7(8 * bits + mode, random), random.next().to_le_bytes()] };
+    let anchored: Vec<Block> = [(0, 4), (1, 18), (2, 23), (3, 34), (7, 19)].map(|(mode, bits)| of(mode, bits)).concat();
+    let mut unselected: Vec<Block> = [of(4, 0), of(5, 0)].concat();
+    unselected.iter_mut().step_by(2).for_each(|half| half[1] |= 1);
+    vec![
+        picture("BC7: anchors in the middle", BC7, (20, 4), &anchored),
+        picture("BC7: no index selection", BC7, (8, 4), &unselected),
     ]
 }
 
