@@ -24,7 +24,7 @@ data Row : Type 0 where
   shows : Bool → ℕ → ℕ → ℕ → ℕ → List ℕ → List ℕ → ℕ → Row
   answers : Bool → ℕ → ℕ → ℕ → ℕ → ℕ → ℕ → List ℕ → Row
 
--- both ends of the clamp, a multiplier of 0, the lowest signed base and the next, indices that go down the columns; "RG as red then
+-- both ends of the clamp, multipliers of 0, 3 and 12, the lowest signed base and the next, indices that go down the columns; "RG as red then
 -- green"; a pitch "in pixels", rows with a gap, clipped tiles, an image that is just long enough
 pictures : List Row
 pictures =
@@ -38,6 +38,8 @@ pictures =
     (replicate 16 0x0) 0
     ∷ shows false 1 4 4 4 (0x7339053977053977 ∷ [])
     (0x36C ∷ 0x3B4 ∷ 0x36C ∷ 0x3B4 ∷ 0x324 ∷ 0x3FC ∷ 0x324 ∷ 0x3FC ∷ 0x2DC ∷ 0x444 ∷ 0x2DC ∷ 0x444 ∷ 0x2AC ∷ 0x474 ∷ 0x2AC ∷ 0x474 ∷ []) 0
+    ∷ shows false 1 4 4 4 (0x80C4053977053977 ∷ [])
+    (0x2E4 ∷ 0x4C4 ∷ 0x2E4 ∷ 0x4C4 ∷ 0x1C4 ∷ 0x5E4 ∷ 0x1C4 ∷ 0x5E4 ∷ 0x104 ∷ 0x6A4 ∷ 0x104 ∷ 0x6A4 ∷ 0x0 ∷ 0x7FF ∷ 0x0 ∷ 0x7FF ∷ []) 0
     ∷ shows true 1 4 4 4 (0x8010DB6DB6DB6DB6 ∷ [])
     (replicate 16 0xFC48) 0
     ∷ shows true 1 4 4 4 (0x8110DB6DB6DB6DB6 ∷ [])
