@@ -1,21 +1,18 @@
 -- Turn i stores the eighth of value i; of these each pixel picks its byte.
 -- Assumes nothing.
-use mathlib.Core.Path.{_≡_, _∙_, refl, sym, ap, subst}
-use mathlib.Core.List.{List}
-use Prim.Native.Nat.{ℕ, _-_, _/_, _%_, _<_}
+use mathlib.Core.Path.{_≡_, _∙_, refl, ap}
+use Prim.Native.Nat.{ℕ, _-_, _<_}
 use native.Mathlib.Omega.{arith}
 use borrow.Author.Needs.{needs}
-use lib.Dec.{T}
-use lib.IntN.{ℤ, pos, natAbs, _+ℤ_}
+use lib.IntN.{pos, natAbs}
 use lib.ListN.{getD}
-use lib.Signed.{mag, nonNeg}
 use mir.Syntax.{w16}
 use Rattle.rules.specs.Notation.{build}
-use Rattle.rules.specs.Channels.{multiplier, eacByte}
+use Rattle.rules.specs.Channels.{multiplier}
 use Rattle.laws.proofs.Filled.{getD-build, build-same}
 use Rattle.laws.proofs.Filling.{Filling, inOrder, begun, stored-next, filled-all}
 use Rattle.laws.proofs.Signed.{held, held-small}
-use Rattle.eac.proofs.Bytes.{stepsIn, wholeOf, step-held, step-small, in-order, whole-at, whole-small, whole-raised, eighthOf, small-eighth, eighth, numberAt, picks, byte-picked}
+use Rattle.eac.proofs.Bytes.{wholeOf, step-held, step-small, in-order, whole-at, whole-small, whole-raised, eighthOf, small-eighth, eighth, numberAt, picks, byte-picked}
 use Rattle.eac.proofs.eac_bytes.Statement.{statement}
 use Rattle.eac.proofs.eac_bytes.Tie as tie
 

@@ -1,22 +1,19 @@
 -- Turn i stores value i; of these each pixel picks its own.
 -- Assumes nothing.
-use mathlib.Core.Path.{_≡_, _∙_, refl, sym, ap, subst}
-use mathlib.Core.List.{List}
-use Prim.Native.Nat.{ℕ, _-_, _/_, _%_, _<_}
+use mathlib.Core.Path.{_≡_, _∙_, refl, ap}
+use Prim.Native.Nat.{ℕ, _-_, _<_}
 use native.Mathlib.Omega.{arith}
 use borrow.Author.Needs.{needs}
-use lib.Dec.{T}
-use lib.IntN.{ℤ, pos, natAbs, _+ℤ_}
+use lib.IntN.{pos}
 use lib.ListN.{getD}
-use lib.Signed.{mag, nonNeg}
 use mir.Syntax.{w16}
 use Rattle.rules.specs.Notation.{build}
 use Rattle.rules.specs.Channels.{multiplier}
-use Rattle.rules.specs.Whole.{sixteen, eacWhole}
+use Rattle.rules.specs.Whole.{sixteen}
 use Rattle.laws.proofs.Filled.{getD-build, build-same}
 use Rattle.laws.proofs.Filling.{Filling, inOrder, begun, stored-next, filled-all}
 use Rattle.laws.proofs.Signed.{held, held-small}
-use Rattle.eac.proofs.Bytes.{stepsIn, wholeOf, small-whole, step-held, step-small, in-order, whole-at, whole-small, whole-raised, numberAt, picks, whole-picked}
+use Rattle.eac.proofs.Bytes.{wholeOf, small-whole, step-held, step-small, in-order, whole-at, whole-small, whole-raised, numberAt, picks, whole-picked}
 use Rattle.eac.proofs.eac_sixteens.Statement.{statement}
 use Rattle.eac.proofs.eac_sixteens.Tie as tie
 

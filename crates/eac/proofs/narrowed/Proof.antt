@@ -1,12 +1,10 @@
 -- Turn i stores value i as sixteen bits.
 -- Assumes nothing.
-use mathlib.Core.Path.{_≡_, _∙_, refl, sym, ap, subst}
-use Prim.Native.Nat.{_-_, _<_}
+use mathlib.Core.Path.{_≡_, _∙_, refl, ap}
+use Prim.Native.Nat.{_-_}
 use native.Mathlib.Omega.{arith}
-use lib.Dec.{T}
-use lib.IntN.{ℤ, pos, _+ℤ_}
+use lib.IntN.{pos}
 use lib.ListN.{getD}
-use lib.Signed.{mag, nonNeg}
 use mir.Syntax.{w16}
 use Rattle.rules.specs.Whole.{sixteen}
 use Rattle.laws.proofs.Filling.{Filling, inOrder, begun, stored-next, filled-all}

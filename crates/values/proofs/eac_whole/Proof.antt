@@ -9,7 +9,6 @@ use lib.IntN.{ℤ, pos, _+ℤ_, _*ℤ_}
 use lib.Signed.{mag, ltZ}
 use mir.Syntax.{w16}
 use mir.ValLaws.{toZ-ofZ}
-use Rattle.rules.specs.Whole.{between}
 use Rattle.laws.proofs.Signed.{held, held-small, mag-mul, mag-sum, times-le, by-fits, on-fits, on-held}
 use Rattle.values.proofs.eac_whole.Statement.{statement}
 use Rattle.values.proofs.eac_whole.Tie as tie
