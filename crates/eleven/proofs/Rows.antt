@@ -32,38 +32,50 @@ pub small : (pic : Picture) (by w : ℕ) → w ≡ across (pic .width) → pic .
 small pic by w e i j g = times-le by 65536 w 65536 (omega arith) (omega arith)
 
 module _ (n : ℕ) (signed : Bool) (d : List ℕ) (pic : Picture) where
-  -- what holds before block bx of row by: so many of its blocks have been painted, over old
-  abbrev pub Turned : ℕ → List ℕ → List ℕ → ℕ → Type 0
-  Turned by old new bx =
-      (bx ≤ across (pic .width)) × PaintsBlocks n signed d pic (by * across (pic .width)) (by * across (pic .width) + bx) old new
+  -- what holds before block bx of row by: those from one on to it have been painted, over old
+  abbrev pub Turned : ℕ → ℕ → List ℕ → List ℕ → ℕ → Type 0
+  Turned by from old new bx =
+      (from ≤ bx) × (bx ≤ across (pic .width)) × PaintsBlocks n signed d pic (by * across (pic .width) + from) (by * across (pic .width) + bx) old new
 
-  pub start : (by : ℕ) (l : List ℕ) → Turned by l l 0
-  start by l = (omega arith, none _ _ l (λ k z. omega (arith, z .from, z .to)))
+  pub start : (by bx : ℕ) (l : List ℕ) → bx ≤ across (pic .width) → Turned by bx l l bx
+  start by bx l h = (omega arith, h, none _ _ l (λ k z. omega (arith, z .from, z .to)))
 
-  pub turn : (by bx w s : ℕ) (old mid new : List ℕ) → w ≡ across (pic .width) → s ≡ n * 8 → bx < w
-      → Turned by old mid bx
+  pub turn : (by from bx w s : ℕ) (old mid new : List ℕ) → w ≡ across (pic .width) → s ≡ n * 8 → bx < w
+      → Turned by from old mid bx
       → PaintsBlock n signed (take ((by * w + bx) * s + s - (by * w + bx) * s) (drop ((by * w + bx) * s) d)) pic bx by mid new
-      → Turned by old new (bx + 1)
-  turn by bx w s old mid new ew es h a p =
+      → Turned by from old new (bx + 1)
+  turn by from bx w s old mid new ew es h a p =
       let f = by * across (pic .width) in
       let own : take ((by * w + bx) * s + s - (by * w + bx) * s) (drop ((by * w + bx) * s) d) ≡ bytesOf (n * 8) d (f + bx) =
       part s (by * w + bx) d ∙ ap (λ (z : ℕ). bytesOf z d (by * w + bx)) es ∙ ap (λ (z : ℕ). bytesOf (n * 8) d (by * z + bx)) ew in (
+        omega (arith, a .0),
         omega arith,
-        subst (λ (m : ℕ). PaintsBlocks n signed d pic f m old new) (omega arith)
-            (next-in pic (λ k. k / n) (wholeAt signed n pic d) _ f (f + bx) bx by old mid new (omega arith)
+        subst (λ (m : ℕ). PaintsBlocks n signed d pic (f + from) m old new) (omega arith)
+            (next-in pic (λ k. k / n) (wholeAt signed n pic d) _ (f + from) (f + bx) bx by old mid new (omega (arith, a .0))
             (record { short = omega arith; counted = refl })
-            (a .1)
+            (a .2)
             p
             (λ k e.
             ap (λ (l : List ℕ). wholePixel signed (k % n) l (column pic (k / n) % 4) (row pic (k / n) % 4))
             (own ∙ ap (bytesOf (n * 8) d) (sym e)))),
       )
 
-  pub ended : (by bx w : ℕ) (old new : List ℕ) → w ≡ across (pic .width) → w ≤ bx → Turned by old new bx
+  -- the first ones, as many as there are
+  pub from-first : (by m : ℕ) (old new : List ℕ) → Turned by 0 old new m
+      → (m ≤ across (pic .width)) × PaintsBlocks n signed d pic (by * across (pic .width)) (by * across (pic .width) + m) old new
+  from-first by m old new a =
+      (a .1, subst (λ (z : ℕ). PaintsBlocks n signed d pic z (by * across (pic .width) + m) old new) (omega arith) (a .2))
+
+  -- and then the others
+  pub ended : (by from bx w : ℕ) (old mid new : List ℕ) → w ≡ across (pic .width) → w ≤ bx
+      → PaintsBlocks n signed d pic (by * across (pic .width)) (by * across (pic .width) + from) old mid
+      → Turned by from mid new bx
       → PaintsBlocks n signed d pic (by * across (pic .width)) (by * across (pic .width) + across (pic .width)) old new
-  ended by bx w old new ew h a =
-      let e : bx ≡ across (pic .width) = omega (arith, a .0) in
-      subst (λ (m : ℕ). PaintsBlocks n signed d pic (by * across (pic .width)) (by * across (pic .width) + m) old new) e (a .1)
+  ended by from bx w old mid new ew h p a =
+      let f = by * across (pic .width) in
+      let e : bx ≡ across (pic .width) = omega (arith, a .1) in
+      subst (λ (m : ℕ). PaintsBlocks n signed d pic f (f + m) old new) e
+      (two-runs-in pic (λ k. k / n) f (f + from) (f + bx) (wholeAt signed n pic d) old mid new (omega arith) (omega (arith, a .0)) p (a .2))
 
   -- and before row by: so many rows of blocks
   abbrev pub Down : List ℕ → List ℕ → ℕ → Type 0

@@ -8,6 +8,7 @@ ghost use lib.ListN.{length};
 ghost use Rattle.rules.specs.Notation.{build};
 ghost use Rattle.rules.specs.Places.{across, blocks};
 ghost use Rattle.rules.specs.Answers.{limit};
+ghost use Rattle.rules.specs.Channels.{alphaSteps};
 ghost use Rattle.rules.specs.Whole.{wholePicture, ReadsWhole};
 ghost use Rattle.checks.specs.Passed.{Passed};
 ghost use Rattle.eleven.specs.Lanes.{lanes, paired, Ready, PaintsBlock, PaintsBlocks};
@@ -34,21 +35,107 @@ fn pairs(red: [u16; 16], green: [u16; 16], side: usize) -> [u16; 16]
     out
 }
 
-// Paints a block of red in column bx and row by of blocks.
-fn paint_red(signed: bool, d: &[u8], bx: usize, by: usize, pic: Picture, image: &mut [u16])
-    requires { ⌜ (8 ≤ length (now d)) × (bx < 0x10000) × (by < 0x10000) × Ready 1 pic (length (now image)) ⌝ }
+// Paints a block of red that the picture has whole, in column bx and row by of blocks.
+fn whole_red(
+    signed: bool,
+    d: &[u8],
+    table: &[[i8; 8]; 16],
+    bx: usize,
+    by: usize,
+    pic: Picture,
+    image: &mut [u16],
+)
+    requires { ⌜ (8 ≤ length (now d)) × (now table ≡ alphaSteps) × Ready 1 pic (length (now image)) ⌝ }
+    requires { ⌜ (bx * 4 + 4 ≤ pic .width) × (by * 4 + 4 ≤ pic .height) ⌝ }
     ensures { λ _. ⌜ PaintsBlock 1 signed (now (d .entry)) pic bx by (now (image .entry)) (now (image .exit)) ⌝ }
 {
-    lanes::place(eac::eac_sixteens(d, signed), bx, by, pic, image);
+    let eight = eac::eight_wholes(d, signed, table);
+    lanes::place_whole(eac::eac_sixteens(d, signed, eight), bx, by, pic, image);
 }
 
-// Paints a block of red and green there.
-fn paint_red_green(signed: bool, d: &[u8], bx: usize, by: usize, pic: Picture, image: &mut [u16])
-    requires { ⌜ (16 ≤ length (now d)) × (bx < 0x10000) × (by < 0x10000) × Ready 2 pic (length (now image)) ⌝ }
+// Paints a block of red and green that the picture has whole.
+fn whole_red_green(
+    signed: bool,
+    d: &[u8],
+    table: &[[i8; 8]; 16],
+    bx: usize,
+    by: usize,
+    pic: Picture,
+    image: &mut [u16],
+)
+    requires { ⌜ (16 ≤ length (now d)) × (now table ≡ alphaSteps) × Ready 2 pic (length (now image)) ⌝ }
+    requires { ⌜ (bx * 4 + 4 ≤ pic .width) × (by * 4 + 4 ≤ pic .height) ⌝ }
     ensures { λ _. ⌜ PaintsBlock 2 signed (now (d .entry)) pic bx by (now (image .entry)) (now (image .exit)) ⌝ }
 {
-    let red = eac::eac_sixteens(d, signed);
-    let green = eac::eac_sixteens(&d[8..], signed);
+    let half = &d[8..];
+    let red = eac::eac_sixteens(d, signed, eac::eight_wholes(d, signed, table));
+    let green = eac::eac_sixteens(half, signed, eac::eight_wholes(half, signed, table));
+    let twice = Picture {
+        width: 2 * pic.width,
+        height: pic.height,
+        pitch: 2 * pic.pitch,
+    };
+    lanes::place_whole(pairs(red, green, 0), 2 * bx, by, twice, image);
+    lanes::place_whole(pairs(red, green, 1), 2 * bx + 1, by, twice, image);
+}
+
+// Paints a block that the picture has whole.
+fn whole_block(
+    green: bool,
+    signed: bool,
+    d: &[u8],
+    table: &[[i8; 8]; 16],
+    bx: usize,
+    by: usize,
+    pic: Picture,
+    image: &mut [u16],
+)
+    requires { ⌜ (lanes green * 8 ≤ length (now d)) × (now table ≡ alphaSteps) × Ready (lanes green) pic (length (now image)) ⌝ }
+    requires { ⌜ (bx * 4 + 4 ≤ pic .width) × (by * 4 + 4 ≤ pic .height) ⌝ }
+    ensures { λ _. ⌜ PaintsBlock (lanes green) signed (now (d .entry)) pic bx by (now (image .entry)) (now (image .exit)) ⌝ }
+{
+    if green {
+        whole_red_green(signed, d, table, bx, by, pic, image);
+        return;
+    }
+    whole_red(signed, d, table, bx, by, pic, image);
+}
+
+// Paints a block of red, of which the picture may lack a part.
+fn paint_red(
+    signed: bool,
+    d: &[u8],
+    table: &[[i8; 8]; 16],
+    bx: usize,
+    by: usize,
+    pic: Picture,
+    image: &mut [u16],
+)
+    requires { ⌜ (8 ≤ length (now d)) × (now table ≡ alphaSteps) × Ready 1 pic (length (now image)) ⌝ }
+    requires { ⌜ (bx < 0x10000) × (by < 0x10000) ⌝ }
+    ensures { λ _. ⌜ PaintsBlock 1 signed (now (d .entry)) pic bx by (now (image .entry)) (now (image .exit)) ⌝ }
+{
+    let eight = eac::eight_wholes(d, signed, table);
+    lanes::place(eac::eac_sixteens(d, signed, eight), bx, by, pic, image);
+}
+
+// Paints a block of red and green, of which the picture may lack a part.
+fn paint_red_green(
+    signed: bool,
+    d: &[u8],
+    table: &[[i8; 8]; 16],
+    bx: usize,
+    by: usize,
+    pic: Picture,
+    image: &mut [u16],
+)
+    requires { ⌜ (16 ≤ length (now d)) × (now table ≡ alphaSteps) × Ready 2 pic (length (now image)) ⌝ }
+    requires { ⌜ (bx < 0x10000) × (by < 0x10000) ⌝ }
+    ensures { λ _. ⌜ PaintsBlock 2 signed (now (d .entry)) pic bx by (now (image .entry)) (now (image .exit)) ⌝ }
+{
+    let half = &d[8..];
+    let red = eac::eac_sixteens(d, signed, eac::eight_wholes(d, signed, table));
+    let green = eac::eac_sixteens(half, signed, eac::eight_wholes(half, signed, table));
     let twice = Picture {
         width: 2 * pic.width,
         height: pic.height,
@@ -58,24 +145,67 @@ fn paint_red_green(signed: bool, d: &[u8], bx: usize, by: usize, pic: Picture, i
     lanes::place(pairs(red, green, 1), 2 * bx + 1, by, twice, image);
 }
 
-// Paints a block in column bx and row by of blocks.
+// Paints a block, of which the picture may lack a part.
 fn paint_block(
     green: bool,
     signed: bool,
     d: &[u8],
+    table: &[[i8; 8]; 16],
     bx: usize,
     by: usize,
     pic: Picture,
     image: &mut [u16],
 )
-    requires { ⌜ (lanes green * 8 ≤ length (now d)) × (bx < 0x10000) × (by < 0x10000) × Ready (lanes green) pic (length (now image)) ⌝ }
+    requires { ⌜ (lanes green * 8 ≤ length (now d)) × (now table ≡ alphaSteps) × Ready (lanes green) pic (length (now image)) ⌝ }
+    requires { ⌜ (bx < 0x10000) × (by < 0x10000) ⌝ }
     ensures { λ _. ⌜ PaintsBlock (lanes green) signed (now (d .entry)) pic bx by (now (image .entry)) (now (image .exit)) ⌝ }
 {
     if green {
-        paint_red_green(signed, d, bx, by, pic, image);
+        paint_red_green(signed, d, table, bx, by, pic, image);
         return;
     }
-    paint_red(signed, d, bx, by, pic, image);
+    paint_red(signed, d, table, bx, by, pic, image);
+}
+
+// How many blocks of row by the picture has whole.
+fn whole_in(pic: Picture, by: usize) -> usize
+    requires { ⌜ by < 0x10000 ⌝ }
+    ensures { λ r. ⌜ (r * 4 ≤ pic .width) × (0 < r → by * 4 + 4 ≤ pic .height) ⌝ }
+{
+    if pic.height < by * 4 + 4 {
+        return 0;
+    }
+    pic.width / 4
+}
+
+// Paints the blocks of row by that the picture has whole: how many these are. They go by themselves, since a tile that may be clipped is
+// stored to be loaded again (docs/PERFORMANCE.md).
+fn paint_whole(
+    green: bool,
+    signed: bool,
+    data: &[u8],
+    by: usize,
+    pic: Picture,
+    image: &mut [u16],
+) -> usize
+    requires { ⌜ (blocks pic * (lanes green * 8) ≤ length (now «data»)) × (by < across (pic .height)) × (pic .height ≤ limit) ⌝ }
+    requires { ⌜ Ready (lanes green) pic (length (now image)) ⌝ }
+    ensures { λ r. ⌜ (r ≤ across (pic .width)) × PaintsBlocks (lanes green) signed (now («data» .entry)) pic (by * across (pic .width))
+        (by * across (pic .width) + r) (now (image .entry)) (now (image .exit)) ⌝ }
+{
+    let row = checks::across(pic.width);
+    let n = whole_in(pic, by);
+    let table = consts::alpha_steps();
+    let s = lanes_of(green) * 8;
+    let first = by * row;
+    let mut bx: usize = 0;
+    while bx < n {
+        let at = (first + bx) * s;
+        let end = at + s;
+        whole_block(green, signed, &data[at..end], &table, bx, by, pic, image);
+        bx += 1;
+    }
+    n
 }
 
 // Paints the blocks of row by.
@@ -86,13 +216,14 @@ fn paint_row(green: bool, signed: bool, data: &[u8], by: usize, pic: Picture, im
         (by * across (pic .width) + across (pic .width)) (now (image .entry)) (now (image .exit)) ⌝ }
 {
     let row = checks::across(pic.width);
+    let table = consts::alpha_steps();
     let s = lanes_of(green) * 8;
     let first = by * row;
-    let mut bx: usize = 0;
+    let mut bx = paint_whole(green, signed, data, by, pic, image);
     while bx < row {
         let at = (first + bx) * s;
         let end = at + s;
-        paint_block(green, signed, &data[at..end], bx, by, pic, image);
+        paint_block(green, signed, &data[at..end], &table, bx, by, pic, image);
         bx += 1;
     }
 }

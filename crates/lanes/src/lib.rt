@@ -73,8 +73,15 @@ fn place_rows(
     }
 }
 
-// Paints the tile in column bx and row by of tiles: every number of it that the picture has, and no other element. A tile that the
-// picture has whole goes by itself, so that its loops have constant ends.
+// Paints a tile that the picture has whole.
+pub fn place_whole(tile: [u16; 16], bx: usize, by: usize, pic: Picture, image: &mut [u16])
+    requires { ⌜ (bx * 4 + 4 ≤ pic .width) × (by * 4 + 4 ≤ pic .height) × Room pic (length (now image)) ⌝ }
+    ensures { λ _. ⌜ Painted (InTile pic bx by) (λ (k : ℕ). getD tile (numberIn pic k) 0) (now (image .entry)) (now (image .exit)) ⌝ }
+{
+    place_rows(tile, bx, by, 4, 4, pic, image);
+}
+
+// Paints the tile in column bx and row by of tiles: every number of it that the picture has, and no other element.
 pub fn place(tile: [u16; 16], bx: usize, by: usize, pic: Picture, image: &mut [u16])
     requires { ⌜ (bx < 0x100000) × (by < 0x100000) × Room pic (length (now image)) ⌝ }
     ensures { λ _. ⌜ Painted (InTile pic bx by) (λ (k : ℕ). getD tile (numberIn pic k) 0) (now (image .entry)) (now (image .exit)) ⌝ }
@@ -82,11 +89,13 @@ pub fn place(tile: [u16; 16], bx: usize, by: usize, pic: Picture, image: &mut [u
     if pic.width <= bx * 4 {
         return;
     }
-    let n = shown(pic.width, bx);
-    let m = shown(pic.height, by);
-    if n + m == 8 {
-        place_rows(tile, bx, by, 4, 4, pic, image);
-        return;
-    }
-    place_rows(tile, bx, by, n, m, pic, image);
+    place_rows(
+        tile,
+        bx,
+        by,
+        shown(pic.width, bx),
+        shown(pic.height, by),
+        pic,
+        image,
+    );
 }

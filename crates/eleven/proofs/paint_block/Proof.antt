@@ -8,7 +8,7 @@ paint-red-green-requires : tie.Need-paint-red-green-requires
 paint-red-green-requires c κs =
     let t = c .before in
     let p = t .before .before .before .pre in
-    (rw (t .if1 .taken) at (p .0), p .1, p .2, rw (t .if1 .taken) at (p .3))
+    ((rw (t .if1 .taken) at (p .0 .0), p .0 .1, rw (t .if1 .taken) at (p .0 .2)), p .1)
 
 same-length : tie.Need-same-length
 same-length c = search needs
@@ -22,7 +22,7 @@ paint-red-requires : tie.Need-paint-red-requires
 paint-red-requires c κs =
     let t = c .before in
     let p = t .before .before .before .pre in
-    (rw (t .if1 .left) at (p .0), p .1, p .2, rw (t .if1 .left) at (p .3))
+    ((rw (t .if1 .left) at (p .0 .0), p .0 .1, rw (t .if1 .left) at (p .0 .2)), p .1)
 
 same-length-2 : tie.Need-same-length-2
 same-length-2 c = search needs

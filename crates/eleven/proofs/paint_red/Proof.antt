@@ -8,14 +8,17 @@ use borrow.Author.Needs.{needs}
 use Rattle.eleven.proofs.paint_red.Statement.{statement}
 use Rattle.eleven.proofs.paint_red.Tie as tie
 
+eight-wholes-requires : tie.Need-eight-wholes-requires
+eight-wholes-requires c κs = search needs
+
 eac-sixteens-requires : tie.Need-eac-sixteens-requires
 eac-sixteens-requires c κs = search needs
 
 place-requires : tie.Need-place-requires
 place-requires c κs =
-    let s = c .before .before .before .before in
-    let r = s .pre .3 in
-    (omega (arith, s .pre .1), omega (arith, s .pre .2), roomy (s .args .pic) _ (r .fits) (omega (arith, r .roomy)))
+    let s = c .before .before .before .before .before in
+    let r = s .pre .0 .2 in
+    (omega (arith, s .pre .1 .0), omega (arith, s .pre .1 .1), roomy (s .args .pic) _ (r .fits) (omega (arith, r .roomy)))
 
 same-length : tie.Need-same-length
 same-length c = search needs
@@ -23,9 +26,9 @@ same-length c = search needs
 returns : tie.Need-returns
 returns c =
     let t = c .before .before .before .before in
-    let a = t .before .before .before .args in
+    let a = t .before .before .before .before .args in
     one-tile (a .pic) (a .signed) (now (a .d)) (a .bx) (a .by) (t .eac-sixteens .result) (now (a .image)) _ (t .eac-sixteens .ensures)
     (c .before .before .place .ensures)
 
 pub paint-red-spec : {M : Type 1} → statement M
-paint-red-spec = tie.close (tie.spec eac-sixteens-requires place-requires same-length returns)
+paint-red-spec = tie.close (tie.spec eight-wholes-requires eac-sixteens-requires place-requires same-length returns)

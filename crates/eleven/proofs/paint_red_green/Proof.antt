@@ -16,17 +16,23 @@ use borrow.Author.Needs.{needs}
 use Rattle.eleven.proofs.paint_red_green.Statement.{statement}
 use Rattle.eleven.proofs.paint_red_green.Tie as tie
 
+sub-half : tie.Need-sub-half
+sub-half c = search needs
+
+part-half-start : tie.Need-part-half-start
+part-half-start c = search needs
+
+part-half-end : tie.Need-part-half-end
+part-half-end c = search needs
+
+eight-wholes-requires : tie.Need-eight-wholes-requires
+eight-wholes-requires c κs = search needs
+
 eac-sixteens-requires : tie.Need-eac-sixteens-requires
 eac-sixteens-requires c κs = search needs
 
-sub-eac-sixteens : tie.Need-sub-eac-sixteens
-sub-eac-sixteens c = search needs
-
-part-eac-sixteens-start : tie.Need-part-eac-sixteens-start
-part-eac-sixteens-start c = search needs
-
-part-eac-sixteens-end : tie.Need-part-eac-sixteens-end
-part-eac-sixteens-end c = search needs
+eight-wholes-requires-2 : tie.Need-eight-wholes-requires-2
+eight-wholes-requires-2 c κs = search needs
 
 eac-sixteens-requires-2 : tie.Need-eac-sixteens-requires-2
 eac-sixteens-requires-2 c κs = search needs
@@ -45,27 +51,28 @@ mul-place-3 c = search needs
 
 -- the image has every number of the wider picture
 wide : (s : tie.Start) → Room (twice (s .args .pic)) (length (now (s .args .image)))
-wide s = room-twice (s .args .pic) (s .pre .3 .fits) _ (s .pre .3 .roomy)
+wide s = room-twice (s .args .pic) (s .pre .0 .2 .fits) _ (s .pre .0 .2 .roomy)
 
 place-requires : tie.Need-place-requires
 place-requires c κs =
-    let s = c .before .before .before .before .before .before .before .before .before in
-    (omega (arith, s .pre .1), omega (arith, s .pre .2), wide s)
+    let s = c .before .before .before .before .before .before .before .before .before .before .before in
+    (omega (arith, s .pre .1 .0), omega (arith, s .pre .1 .1), wide s)
 
 pairs-requires-2 : tie.Need-pairs-requires-2
 pairs-requires-2 c κs = search needs
 
+-- the column of the tile is small
 mul-place-4 : tie.Need-mul-place-4
-mul-place-4 c = search needs
+mul-place-4 c = let s = c .before .before .before .before .before .before .before .before .before .before .before .before .before .before .before in omega (arith, s .pre .1 .0, s .pre .0 .2 .narrow)
 
 add-place : tie.Need-add-place
-add-place c = search needs
+add-place c = let s = c .before .before .before .before .before .before .before .before .before .before .before .before .before .before .before in omega (arith, s .pre .1 .0, s .pre .0 .2 .narrow)
 
 place-requires-2 : tie.Need-place-requires-2
 place-requires-2 c κs =
     let p = c .before .before .before .before in
-    let s = p .before .before .before .before .before .before .before .before .before .before in
-    (omega (arith, s .pre .1), omega (arith, s .pre .2), kept (twice (s .args .pic)) _ _ (wide s) (p .place .ensures .same))
+    let s = p .before .before .before .before .before .before .before .before .before .before .before .before in
+    (omega (arith, s .pre .1 .0), omega (arith, s .pre .1 .1), kept (twice (s .args .pic)) _ _ (wide s) (p .place .ensures .same))
 
 same-length : tie.Need-same-length
 same-length c = search needs
@@ -78,9 +85,9 @@ returns c =
     let left = first .before .before in
     let green = left .before .before .before in
     let red = green .before .before in
-    let s = red .before .before .before in
+    let s = red .before .before .before .before .before in
     let a = s .args in
-    both-tiles (a .pic) (s .pre .3 .fits) (a .signed) (now (a .d)) (red .eac-sixteens .result) (green .eac-sixteens2 .result)
+    both-tiles (a .pic) (s .pre .0 .2 .fits) (a .signed) (now (a .d)) (red .eac-sixteens .result) (green .eac-sixteens2 .result)
     (red .eac-sixteens .ensures)
     (green .eac-sixteens2 .ensures ∙ ap (λ (l : List ℕ). build 16 (valueAt (a .signed) l)) (rest 8 (now (a .d))))
     (a .bx) (a .by) _ (left .pairs .result) (right .pairs2 .result) (now (a .image)) _ _ (omega arith)
@@ -90,10 +97,12 @@ pub paint-red-green-spec : {M : Type 1} → statement M
 paint-red-green-spec =
     tie.close
     (tie.spec
+    sub-half
+    part-half-start
+    part-half-end
+    eight-wholes-requires
     eac-sixteens-requires
-    sub-eac-sixteens
-    part-eac-sixteens-start
-    part-eac-sixteens-end
+    eight-wholes-requires-2
     eac-sixteens-requires-2
     mul-place
     mul-place-2

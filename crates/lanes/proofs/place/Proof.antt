@@ -1,4 +1,4 @@
--- `lanes::place` meets its contract: the picture has none of the tile, all of it, or some of it.
+-- `lanes::place` meets its contract: the picture has none of the tile, or some of it.
 -- Assumes nothing.
 use denote.Ref.{now}
 use Rattle.place.proofs.Tile.{nothing}
@@ -20,9 +20,6 @@ shown-requires c κs = search needs
 shown-requires-2 : tie.Need-shown-requires-2
 shown-requires-2 c κs = search needs
 
-add-if2 : tie.Need-add-if2
-add-if2 c = search needs
-
 place-rows-requires : tie.Need-place-rows-requires
 place-rows-requires c κs = search needs
 
@@ -32,15 +29,6 @@ same-length c = search needs
 returns-2 : tie.Need-returns-2
 returns-2 c = search needs
 
-place-rows-requires-2 : tie.Need-place-rows-requires-2
-place-rows-requires-2 c κs = search needs
-
-same-length-2 : tie.Need-same-length-2
-same-length-2 c = search needs
-
-returns-3 : tie.Need-returns-3
-returns-3 c = search needs
-
 pub place-spec : {M : Type 1} → statement M
 place-spec =
     tie.close
@@ -49,10 +37,6 @@ place-spec =
     returns
     shown-requires
     shown-requires-2
-    add-if2
     place-rows-requires
     same-length
-    returns-2
-    place-rows-requires-2
-    same-length-2
-    returns-3)
+    returns-2)
