@@ -11,7 +11,7 @@ ghost use Rattle.rules.specs.Answers.{limit};
 ghost use Rattle.rules.specs.Channels.{alphaSteps};
 ghost use Rattle.rules.specs.Whole.{wholePicture, ReadsWhole};
 ghost use Rattle.checks.specs.Passed.{Passed};
-ghost use Rattle.eleven.specs.Lanes.{lanes, paired, Ready, PaintsBlock, PaintsBlocks};
+ghost use Rattle.eleven.specs.Lanes.{lanes, twice, paired, Ready, PaintsBlock, PaintsBlocks};
 
 // How many numbers a pixel has: red, and green where there is one.
 fn lanes_of(green: bool) -> usize
@@ -33,6 +33,18 @@ fn pairs(red: [u16; 16], green: [u16; 16], side: usize) -> [u16; 16]
         i += 1;
     }
     out
+}
+
+// The picture of numbers: twice as many columns.
+fn doubled(pic: Picture) -> Picture
+    requires { ⌜ (pic .width ≤ limit) × (pic .pitch ≤ limit) ⌝ }
+    ensures { λ r. ⌜ r ≡ twice pic ⌝ }
+{
+    Picture {
+        width: 2 * pic.width,
+        height: pic.height,
+        pitch: 2 * pic.pitch,
+    }
 }
 
 // Paints a block of red that the picture has whole, in column bx and row by of blocks.
@@ -70,13 +82,9 @@ fn whole_red_green(
     let half = &d[8..];
     let red = eac::eac_sixteens(d, signed, eac::eight_wholes(d, signed, table));
     let green = eac::eac_sixteens(half, signed, eac::eight_wholes(half, signed, table));
-    let twice = Picture {
-        width: 2 * pic.width,
-        height: pic.height,
-        pitch: 2 * pic.pitch,
-    };
-    lanes::place_whole(pairs(red, green, 0), 2 * bx, by, twice, image);
-    lanes::place_whole(pairs(red, green, 1), 2 * bx + 1, by, twice, image);
+    let wide = doubled(pic);
+    lanes::place_whole(pairs(red, green, 0), 2 * bx, by, wide, image);
+    lanes::place_whole(pairs(red, green, 1), 2 * bx + 1, by, wide, image);
 }
 
 // Paints a block that the picture has whole.
@@ -136,13 +144,9 @@ fn paint_red_green(
     let half = &d[8..];
     let red = eac::eac_sixteens(d, signed, eac::eight_wholes(d, signed, table));
     let green = eac::eac_sixteens(half, signed, eac::eight_wholes(half, signed, table));
-    let twice = Picture {
-        width: 2 * pic.width,
-        height: pic.height,
-        pitch: 2 * pic.pitch,
-    };
-    lanes::place(pairs(red, green, 0), 2 * bx, by, twice, image);
-    lanes::place(pairs(red, green, 1), 2 * bx + 1, by, twice, image);
+    let wide = doubled(pic);
+    lanes::place(pairs(red, green, 0), 2 * bx, by, wide, image);
+    lanes::place(pairs(red, green, 1), 2 * bx + 1, by, wide, image);
 }
 
 // Paints a block, of which the picture may lack a part.
@@ -200,9 +204,9 @@ fn paint_whole(
     let first = by * row;
     let mut bx: usize = 0;
     while bx < n {
-        let at = (first + bx) * s;
-        let end = at + s;
-        whole_block(green, signed, &data[at..end], &table, bx, by, pic, image);
+        let from = (first + bx) * s;
+        let end = from + s;
+        whole_block(green, signed, &data[from..end], &table, bx, by, pic, image);
         bx += 1;
     }
     n

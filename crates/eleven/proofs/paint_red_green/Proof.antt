@@ -37,17 +37,14 @@ eight-wholes-requires-2 c κs = search needs
 eac-sixteens-requires-2 : tie.Need-eac-sixteens-requires-2
 eac-sixteens-requires-2 c κs = search needs
 
-mul-place : tie.Need-mul-place
-mul-place c = search needs
-
-mul-place-2 : tie.Need-mul-place-2
-mul-place-2 c = search needs
+doubled-requires : tie.Need-doubled-requires
+doubled-requires c κs = search needs
 
 pairs-requires : tie.Need-pairs-requires
 pairs-requires c κs = search needs
 
-mul-place-3 : tie.Need-mul-place-3
-mul-place-3 c = search needs
+mul-place : tie.Need-mul-place
+mul-place c = search needs
 
 -- the image has every number of the wider picture
 wide : (s : tie.Start) → Room (twice (s .args .pic)) (length (now (s .args .image)))
@@ -55,24 +52,26 @@ wide s = room-twice (s .args .pic) (s .pre .0 .2 .fits) _ (s .pre .0 .2 .roomy)
 
 place-requires : tie.Need-place-requires
 place-requires c κs =
-    let s = c .before .before .before .before .before .before .before .before .before .before .before in
-    (omega (arith, s .pre .1 .0), omega (arith, s .pre .1 .1), wide s)
+    let w = c .before .before in
+    let s = w .before .before .before .before .before .before .before .before in
+    rw (w .doubled .ensures) (omega (arith, s .pre .1 .0), omega (arith, s .pre .1 .1), wide s)
 
 pairs-requires-2 : tie.Need-pairs-requires-2
 pairs-requires-2 c κs = search needs
 
 -- the column of the tile is small
-mul-place-4 : tie.Need-mul-place-4
-mul-place-4 c = let s = c .before .before .before .before .before .before .before .before .before .before .before .before .before .before .before in omega (arith, s .pre .1 .0, s .pre .0 .2 .narrow)
+mul-place-2 : tie.Need-mul-place-2
+mul-place-2 c = let s = c .before .before .before .before .before .before .before .before .before .before .before .before .before .before in omega (arith, s .pre .1 .0, s .pre .0 .2 .narrow)
 
 add-place : tie.Need-add-place
-add-place c = let s = c .before .before .before .before .before .before .before .before .before .before .before .before .before .before .before in omega (arith, s .pre .1 .0, s .pre .0 .2 .narrow)
+add-place c = let s = c .before .before .before .before .before .before .before .before .before .before .before .before .before .before in omega (arith, s .pre .1 .0, s .pre .0 .2 .narrow)
 
 place-requires-2 : tie.Need-place-requires-2
 place-requires-2 c κs =
     let p = c .before .before .before .before in
-    let s = p .before .before .before .before .before .before .before .before .before .before .before .before in
-    (omega (arith, s .pre .1 .0), omega (arith, s .pre .1 .1), kept (twice (s .args .pic)) _ _ (wide s) (p .place .ensures .same))
+    let w = p .before .before .before in
+    let s = w .before .before .before .before .before .before .before .before in
+    rw (w .doubled .ensures) (omega (arith, s .pre .1 .0), omega (arith, s .pre .1 .1), kept (twice (s .args .pic)) _ _ (wide s) (p .place .ensures .same))
 
 same-length : tie.Need-same-length
 same-length c = search needs
@@ -83,7 +82,8 @@ returns c =
     let right = second .before .before in
     let first = right .before .before .before in
     let left = first .before .before in
-    let green = left .before .before .before in
+    let w = left .before in
+    let green = w .before in
     let red = green .before .before in
     let s = red .before .before .before .before .before in
     let a = s .args in
@@ -91,7 +91,7 @@ returns c =
     (red .eac-sixteens .ensures)
     (green .eac-sixteens2 .ensures ∙ ap (λ (l : List ℕ). build 16 (valueAt (a .signed) l)) (rest 8 (now (a .d))))
     (a .bx) (a .by) _ (left .pairs .result) (right .pairs2 .result) (now (a .image)) _ _ (omega arith)
-    (left .pairs .ensures) (right .pairs2 .ensures) (first .place .ensures) (second .place2 .ensures)
+    (left .pairs .ensures) (right .pairs2 .ensures) (rw (w .doubled .ensures) at (first .place .ensures)) (rw (w .doubled .ensures) at (second .place2 .ensures))
 
 pub paint-red-green-spec : {M : Type 1} → statement M
 paint-red-green-spec =
@@ -104,13 +104,12 @@ paint-red-green-spec =
     eac-sixteens-requires
     eight-wholes-requires-2
     eac-sixteens-requires-2
-    mul-place
-    mul-place-2
+    doubled-requires
     pairs-requires
-    mul-place-3
+    mul-place
     place-requires
     pairs-requires-2
-    mul-place-4
+    mul-place-2
     add-place
     place-requires-2
     same-length

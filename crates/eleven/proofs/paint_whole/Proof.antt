@@ -72,14 +72,14 @@ there c =
     fits (s .args .pic) (s .args .by) (c .before .loop .bx) (row-of c .across .result) (c .before .before .lanes-of .result * 8) (lanes (s .args .green)) _
     (row-of c .across .ensures) (size c) (in-row c) (s .pre .0 .1) (s .pre .0 .0)
 
-add-at : tie.Need-add-at Inv-loop μ-loop
-add-at c =
+add-from : tie.Need-add-from Inv-loop μ-loop
+add-from c =
     let s = start-of c in
     let w = row-of c .across in
     omega (arith, small (s .args .pic) (s .args .by) (w .result) (w .ensures) (s .pre .1 .narrow) (s .pre .0 .2) (s .pre .0 .1), in-row c, w .ensures, s .pre .1 .narrow)
 
-mul-at : tie.Need-mul-at Inv-loop μ-loop
-mul-at c = omega (arith, there c)
+mul-from : tie.Need-mul-from Inv-loop μ-loop
+mul-from c = omega (arith, there c)
 
 add-end : tie.Need-add-end Inv-loop μ-loop
 add-end c = omega (arith, there c)
@@ -148,8 +148,8 @@ paint-whole-spec =
     mul-s
     mul-first
     loop-holds
-    add-at
-    mul-at
+    add-from
+    mul-from
     add-end
     sub-whole-block
     part-whole-block-start

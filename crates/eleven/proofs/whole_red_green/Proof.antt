@@ -37,17 +37,14 @@ eight-wholes-requires-2 c κs = search needs
 eac-sixteens-requires-2 : tie.Need-eac-sixteens-requires-2
 eac-sixteens-requires-2 c κs = search needs
 
-mul-place-whole : tie.Need-mul-place-whole
-mul-place-whole c = search needs
-
-mul-place-whole-2 : tie.Need-mul-place-whole-2
-mul-place-whole-2 c = search needs
+doubled-requires : tie.Need-doubled-requires
+doubled-requires c κs = search needs
 
 pairs-requires : tie.Need-pairs-requires
 pairs-requires c κs = search needs
 
-mul-place-whole-3 : tie.Need-mul-place-whole-3
-mul-place-whole-3 c = search needs
+mul-place-whole : tie.Need-mul-place-whole
+mul-place-whole c = search needs
 
 -- the image has every number of the wider picture
 wide : (s : tie.Start) → Room (twice (s .args .pic)) (length (now (s .args .image)))
@@ -55,24 +52,26 @@ wide s = room-twice (s .args .pic) (s .pre .0 .2 .fits) _ (s .pre .0 .2 .roomy)
 
 place-whole-requires : tie.Need-place-whole-requires
 place-whole-requires c κs =
-    let s = c .before .before .before .before .before .before .before .before .before .before .before in
-    (omega (arith, s .pre .1 .0), s .pre .1 .1, wide s)
+    let w = c .before .before in
+    let s = w .before .before .before .before .before .before .before .before in
+    rw (w .doubled .ensures) (omega (arith, s .pre .1 .0), s .pre .1 .1, wide s)
 
 pairs-requires-2 : tie.Need-pairs-requires-2
 pairs-requires-2 c κs = search needs
 
 -- the column of the tile is small
-mul-place-whole-4 : tie.Need-mul-place-whole-4
-mul-place-whole-4 c = let s = c .before .before .before .before .before .before .before .before .before .before .before .before .before .before .before in omega (arith, s .pre .1 .0, s .pre .0 .2 .narrow)
+mul-place-whole-2 : tie.Need-mul-place-whole-2
+mul-place-whole-2 c = let s = c .before .before .before .before .before .before .before .before .before .before .before .before .before .before in omega (arith, s .pre .1 .0, s .pre .0 .2 .narrow)
 
 add-place-whole : tie.Need-add-place-whole
-add-place-whole c = let s = c .before .before .before .before .before .before .before .before .before .before .before .before .before .before .before in omega (arith, s .pre .1 .0, s .pre .0 .2 .narrow)
+add-place-whole c = let s = c .before .before .before .before .before .before .before .before .before .before .before .before .before .before in omega (arith, s .pre .1 .0, s .pre .0 .2 .narrow)
 
 place-whole-requires-2 : tie.Need-place-whole-requires-2
 place-whole-requires-2 c κs =
     let p = c .before .before .before .before in
-    let s = p .before .before .before .before .before .before .before .before .before .before .before .before in
-    (omega (arith, s .pre .1 .0), s .pre .1 .1, kept (twice (s .args .pic)) _ _ (wide s) (p .place-whole .ensures .same))
+    let w = p .before .before .before in
+    let s = w .before .before .before .before .before .before .before .before in
+    rw (w .doubled .ensures) (omega (arith, s .pre .1 .0), s .pre .1 .1, kept (twice (s .args .pic)) _ _ (wide s) (p .place-whole .ensures .same))
 
 same-length : tie.Need-same-length
 same-length c = search needs
@@ -83,7 +82,8 @@ returns c =
     let right = second .before .before in
     let first = right .before .before .before in
     let left = first .before .before in
-    let green = left .before .before .before in
+    let w = left .before in
+    let green = w .before in
     let red = green .before .before in
     let s = red .before .before .before .before .before in
     let a = s .args in
@@ -91,7 +91,7 @@ returns c =
     (red .eac-sixteens .ensures)
     (green .eac-sixteens2 .ensures ∙ ap (λ (l : List ℕ). build 16 (valueAt (a .signed) l)) (rest 8 (now (a .d))))
     (a .bx) (a .by) _ (left .pairs .result) (right .pairs2 .result) (now (a .image)) _ _ (omega arith)
-    (left .pairs .ensures) (right .pairs2 .ensures) (first .place-whole .ensures) (second .place-whole2 .ensures)
+    (left .pairs .ensures) (right .pairs2 .ensures) (rw (w .doubled .ensures) at (first .place-whole .ensures)) (rw (w .doubled .ensures) at (second .place-whole2 .ensures))
 
 pub whole-red-green-spec : {M : Type 1} → statement M
 whole-red-green-spec =
@@ -104,13 +104,12 @@ whole-red-green-spec =
     eac-sixteens-requires
     eight-wholes-requires-2
     eac-sixteens-requires-2
-    mul-place-whole
-    mul-place-whole-2
+    doubled-requires
     pairs-requires
-    mul-place-whole-3
+    mul-place-whole
     place-whole-requires
     pairs-requires-2
-    mul-place-whole-4
+    mul-place-whole-2
     add-place-whole
     place-whole-requires-2
     same-length
