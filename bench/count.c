@@ -6,6 +6,8 @@
 
 #define READERS(each) each(etc1) each(etc2_rgb) each(etc2_rgba1) each(etc2_rgba8) each(eacr) each(eacrg) \
     each(bc1) each(bc1a) each(bc3) each(bc7)
+/* the readers of whole values, which paint 16-bit numbers: two fit an element */
+#define WIDE(each) each(eacr11) each(eacrg11)
 
 int main(int argc, char **argv)
 {
@@ -32,6 +34,16 @@ int main(int argc, char **argv)
     if (argc > 3 && !strcmp(argv[1], #name)) \
         answer = yalivucu_decode_##name##_pitched(data, bytes, side, side, pitch, image, pitch * side);
     READERS(GAPPED)
+#endif
+#ifdef WHOLE
+#define NUMBERS(name) \
+    if (argc == 3 && !strcmp(argv[1], #name)) \
+        answer = yalivucu_decode_##name(data, bytes, side, side, (uint16_t *)image, 2 * pitch * side);
+#define NUMBERS_GAPPED(name) \
+    if (argc > 3 && !strcmp(argv[1], #name)) \
+        answer = yalivucu_decode_##name##_pitched(data, bytes, side, side, pitch, (uint16_t *)image, 2 * pitch * side);
+    WIDE(NUMBERS)
+    WIDE(NUMBERS_GAPPED)
 #endif
     /* the alpha half alone: as many blocks as the picture has, each onto its own sixteen elements */
     if (!strcmp(argv[1], "etc2_a8_block")) {

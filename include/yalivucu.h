@@ -122,6 +122,19 @@ uint32_t yalivucu_decode_bc1a_pitched(const uint8_t *data, size_t data_len, size
 uint32_t yalivucu_decode_bc3_pitched(const uint8_t *data, size_t data_len, size_t width, size_t height, size_t pitch, uint32_t *image, size_t image_len);
 uint32_t yalivucu_decode_bc7_pitched(const uint8_t *data, size_t data_len, size_t width, size_t height, size_t pitch, uint32_t *image, size_t image_len);
 
+/* All eleven bits of EAC, as 16-bit numbers: R in blocks of 8 bytes, RG in blocks of 16. Unsigned values
+ * are 0 to 2047 and signed ones -1023 to 1023. R has one number to a pixel. RG has two, red then
+ * green: number c of pixel (x, y) is image[2 * (y * pitch + x) + c], the pitch counts pixels, and
+ * image_len is wanted twice as large as answer 3 says. They test 1, 12, 2, 3 in that order. */
+uint32_t yalivucu_decode_eacr11(const uint8_t *data, size_t data_len, size_t width, size_t height, uint16_t *image, size_t image_len);
+uint32_t yalivucu_decode_eacr11_signed(const uint8_t *data, size_t data_len, size_t width, size_t height, int16_t *image, size_t image_len);
+uint32_t yalivucu_decode_eacrg11(const uint8_t *data, size_t data_len, size_t width, size_t height, uint16_t *image, size_t image_len);
+uint32_t yalivucu_decode_eacrg11_signed(const uint8_t *data, size_t data_len, size_t width, size_t height, int16_t *image, size_t image_len);
+uint32_t yalivucu_decode_eacr11_pitched(const uint8_t *data, size_t data_len, size_t width, size_t height, size_t pitch, uint16_t *image, size_t image_len);
+uint32_t yalivucu_decode_eacr11_signed_pitched(const uint8_t *data, size_t data_len, size_t width, size_t height, size_t pitch, int16_t *image, size_t image_len);
+uint32_t yalivucu_decode_eacrg11_pitched(const uint8_t *data, size_t data_len, size_t width, size_t height, size_t pitch, uint16_t *image, size_t image_len);
+uint32_t yalivucu_decode_eacrg11_signed_pitched(const uint8_t *data, size_t data_len, size_t width, size_t height, size_t pitch, int16_t *image, size_t image_len);
+
 /* An ETC1 picture, in blocks of 8 bytes, that holds no block out of range and has no byte behind its
  * blocks: what it accepts, an ETC2 decoder shows alike. With answer 4, *block is the number of the first such block, from 0,
  * left to right and then down; with any other answer *block is not written. block is not NULL

@@ -148,11 +148,10 @@ listed() {
 # Options of all three commands. ORACLE_CRATE and ORACLE_PROGRAM say the same as
 # --crate and --program.
 take_options() {
-    seed=1 blocks=300000 source=$top/../shared/docs/src eleven='' only='' day=$(date -u +%F)
+    seed=1 blocks=300000 source=$top/../shared/docs/src only='' day=$(date -u +%F)
     crate=${ORACLE_CRATE:-answers} program=${ORACLE_PROGRAM:-}
     while [ $# -gt 0 ]; do
         case $1 in
-        --eleven) eleven=--eleven && shift && continue ;;
         --seed | --blocks | --source | --crate | --program | --date | --only) [ $# -gt 1 ] || die "$1 wants a value" ;;
         *) die "unknown option $1" ;;
         esac

@@ -15,7 +15,7 @@ import sys
 from doubt_text import HOLD, NUMERAL, Module, Unreadable
 
 sys.setrecursionlimit(30000)
-TESTS = ["Sheets", "Pieces", "Held", "Censuses", "Bakings", "BitReads"]  # the files of proofs/ whose `hold` is a test that computes
+TESTS = ["Sheets", "Pieces", "Held", "Censuses", "Bakings", "BitReads", "Eleven"]  # the files of proofs/ whose `hold` is a test that computes
 FLOATS = {"Floats", "Degrees"}  # the files of specs/ whose rows are of floats, which are not computed here
 LATE = {("Answers", "judged"): 1}  # the parameter that is computed only where it is needed: what comes after the checks
 MOST_BITS = 4096  # of a number that is worth computing
@@ -89,7 +89,8 @@ LIBRARY = {
     "take": (2, "{1}[:{0}]"), "drop": (2, "{1}[{0}:]"), "replicate": (2, "repeated({0}, {1})"), "ltb": (2, "({0} < {1})"),
     "leb": (2, "({0} <= {1})"), "eqb": (2, "({0} == {1})"), "min": (2, "min({0}, {1})"), "max": (2, "max({0}, {1})"),
     "suc": (1, "({0} + 1)"), "pos": (1, "{0}"),
-    "negsuc": (1, "(-1 - {0})"), "natAbs": (1, "abs({0})"), "negℤ": (1, "(-{0})"), "shrZ": (2, "shifted({0}, {1})"),
+    "negsuc": (1, "(-1 - {0})"), "natAbs": (1, "abs({0})"), "negℤ": (1, "(-{0})"), "ltZ": (2, "({0} < {1})"),
+    "shrZ": (2, "shifted({0}, {1})"),
     "bitOr": (2, "({0} | {1})"), "true": (0, "True"), "false": (0, "False"), "zero": (0, "0"), "[]": (0, "()"),
 }
 INFIX = {

@@ -8,6 +8,7 @@ mod formats;
 mod gap;
 mod pieces;
 mod sheet;
+mod whole;
 
 use blocks::Random;
 use formats::{Format, FORMATS};
@@ -48,6 +49,7 @@ fn main() {
             alike &= pieces::print(name, format, SIDE, TURNS, &data);
         }
         println!();
+        alike &= whole::print(make);
         alike &= gap::print(title, make);
     }
     println!("filling the image alone: {:.2} ms\n", filled(SIDE));

@@ -106,6 +106,35 @@ static void pitched(void)
     }
 }
 
+/* Whole values: S13's block, a signed one, and of red and green 3 by 2 pixels in rows of 5: two numbers a pixel. */
+static void wholes(void)
+{
+    static const uint8_t block[16] = {0x80, 0x10, 0, 0, 0, 0, 0, 0, 0x01, 0x10};
+    uint16_t wide[20];
+    int16_t narrow[20];
+    for (int k = 0; k < 20; k++) wide[k] = 0x1111, narrow[k] = 0x1111;
+    same("eacr11, too large", yalivucu_decode_eacr11(block, 8, 65537, 0, wide, 20), YALIVUCU_TOO_LARGE);
+    same("eacr11, short pitch", yalivucu_decode_eacr11_pitched(block, 8, 3, 2, 2, wide, 20), YALIVUCU_SHORT_PITCH);
+    same("eacr11, short", yalivucu_decode_eacr11(block, 7, 4, 4, wide, 16), YALIVUCU_SHORT_DATA);
+    same("eacr11, short image", yalivucu_decode_eacr11(block, 8, 4, 4, wide, 15), YALIVUCU_SHORT_IMAGE);
+    same("eacrg11, short", yalivucu_decode_eacrg11(block, 15, 3, 2, wide, 12), YALIVUCU_SHORT_DATA);
+    same("eacrg11, short image", yalivucu_decode_eacrg11_pitched(block, 16, 3, 2, 5, wide, 15), YALIVUCU_SHORT_IMAGE);
+    same("eacrg11, no pixels", yalivucu_decode_eacrg11_signed(NULL, 0, 0, 65536, NULL, 0), YALIVUCU_DONE);
+    for (int k = 0; k < 20; k++) same("eac11, refused", wide[k], 0x1111);
+    same("eacr11", yalivucu_decode_eacr11(block, 8, 4, 4, wide, 20), YALIVUCU_DONE);
+    for (int k = 0; k < 20; k++) same("eacr11", wide[k], k < 16 ? 1004 : 0x1111);
+    same("eacr11_signed", yalivucu_decode_eacr11_signed_pitched(block + 8, 8, 3, 2, 5, narrow, 8), YALIVUCU_DONE);
+    for (int k = 0; k < 20; k++) same("eacr11_signed", (uint32_t)narrow[k], k < 8 && k % 5 < 3 ? (uint32_t)-16 : 0x1111);
+    for (int k = 0; k < 20; k++) wide[k] = 0x1111, narrow[k] = 0x1111;
+    same("eacrg11", yalivucu_decode_eacrg11_pitched(block, 16, 3, 2, 5, wide, 16), YALIVUCU_DONE);
+    same("eacrg11_signed", yalivucu_decode_eacrg11_signed_pitched(block, 16, 3, 2, 5, narrow, 16), YALIVUCU_DONE);
+    for (int k = 0; k < 20; k++) {
+        const int shown = k < 16 && k / 2 % 5 < 3;
+        same("eacrg11", wide[k], !shown ? 0x1111 : k % 2 ? 0 : 1004);
+        same("eacrg11_signed", (uint32_t)narrow[k], !shown ? 0x1111 : (uint32_t)(k % 2 ? -16 : -1023));
+    }
+}
+
 /* A block of red that is opaque, and one of zeros, whose opaque bit is clear: the block is written with 11 alone, and what
  * follows the blocks is ignored. */
 static void opaque(void)
@@ -503,6 +532,7 @@ int main(void)
     pictures();
     pitched();
     nothing();
+    wholes();
     strict();
     strict_pitched();
     opaque();

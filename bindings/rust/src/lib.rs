@@ -42,6 +42,7 @@ mod refusal;
 mod sheet;
 mod sys;
 pub mod typed;
+mod whole;
 
 use typed::{Format, Picture, Refusal};
 

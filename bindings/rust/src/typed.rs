@@ -18,6 +18,7 @@ pub use crate::degrees::{degrees, Legend, Reading};
 pub use crate::pieces::{Pieces, Taken};
 pub use crate::refusal::Refusal;
 pub use crate::sheet::{read_sheet, sheet_head, write_sheet, Head};
+pub use crate::whole::{decode_eacr11, decode_eacr11_signed, decode_eacrg11, decode_eacrg11_signed};
 use crate::sys;
 
 /// The formats that can be read.

@@ -13,6 +13,7 @@ ghost use lib.ListN.{length};
 ghost use Rattle.rules.specs.Places.{sized, pitched};
 ghost use Rattle.rules.specs.Readers.{ReadsPicture, ReadsStrict, ReadsOpaque, ReadsBlock, ReadsAlpha, ReadsChannel, ReplacesChannel};
 ghost use Rattle.rules.specs.Census.{rgbTests, rgba1Tests};
+ghost use Rattle.rules.specs.Whole.{ReadsWhole};
 ghost use Rattle.rules.specs.Sheets.{ReadsSheet};
 ghost use Rattle.rules.specs.Pieces.{Ends};
 ghost use Rattle.rules.specs.Checking.{Checks};
@@ -485,6 +486,130 @@ pub extern "C" fn yalivucu_decode_etc2_rgba1_opaque_pitched(
         pitch: pitch,
     };
     told::opaque(data, pic, image, block)
+}
+
+// Reads all eleven bits of an EAC R picture, 0 to 2047, into 16-bit numbers.
+#[no_mangle]
+pub extern "C" fn yalivucu_decode_eacr11(
+    data: &[u8],
+    width: usize,
+    height: usize,
+    image: &mut [u16],
+) -> u32
+    ensures { λ r. ⌜ Told
+        (λ a. ReadsWhole false 1 (now («data» .entry)) (sized width height) (now (image .entry)) a (now (image .exit)))
+        r ⌝ }
+{
+    told::read_whole(false, false, data, width, height, width, image)
+}
+
+// The same of a picture with a pitch, in pixels.
+#[no_mangle]
+pub extern "C" fn yalivucu_decode_eacr11_pitched(
+    data: &[u8],
+    width: usize,
+    height: usize,
+    pitch: usize,
+    image: &mut [u16],
+) -> u32
+    ensures { λ r. ⌜ Told
+        (λ a. ReadsWhole false 1 (now («data» .entry)) (pitched width height pitch) (now (image .entry)) a (now (image .exit)))
+        r ⌝ }
+{
+    told::read_whole(false, false, data, width, height, pitch, image)
+}
+
+// The same of a signed EAC R picture, -1023 to 1023: a negative number is in two's complement.
+#[no_mangle]
+pub extern "C" fn yalivucu_decode_eacr11_signed(
+    data: &[u8],
+    width: usize,
+    height: usize,
+    image: &mut [u16],
+) -> u32
+    ensures { λ r. ⌜ Told
+        (λ a. ReadsWhole true 1 (now («data» .entry)) (sized width height) (now (image .entry)) a (now (image .exit)))
+        r ⌝ }
+{
+    told::read_whole(false, true, data, width, height, width, image)
+}
+
+// The same of a picture with a pitch, in pixels.
+#[no_mangle]
+pub extern "C" fn yalivucu_decode_eacr11_signed_pitched(
+    data: &[u8],
+    width: usize,
+    height: usize,
+    pitch: usize,
+    image: &mut [u16],
+) -> u32
+    ensures { λ r. ⌜ Told
+        (λ a. ReadsWhole true 1 (now («data» .entry)) (pitched width height pitch) (now (image .entry)) a (now (image .exit)))
+        r ⌝ }
+{
+    told::read_whole(false, true, data, width, height, pitch, image)
+}
+
+// Reads all eleven bits of an EAC RG picture: two numbers to a pixel, red then green.
+#[no_mangle]
+pub extern "C" fn yalivucu_decode_eacrg11(
+    data: &[u8],
+    width: usize,
+    height: usize,
+    image: &mut [u16],
+) -> u32
+    ensures { λ r. ⌜ Told
+        (λ a. ReadsWhole false 2 (now («data» .entry)) (sized width height) (now (image .entry)) a (now (image .exit)))
+        r ⌝ }
+{
+    told::read_whole(true, false, data, width, height, width, image)
+}
+
+// The same of a picture with a pitch, in pixels.
+#[no_mangle]
+pub extern "C" fn yalivucu_decode_eacrg11_pitched(
+    data: &[u8],
+    width: usize,
+    height: usize,
+    pitch: usize,
+    image: &mut [u16],
+) -> u32
+    ensures { λ r. ⌜ Told
+        (λ a. ReadsWhole false 2 (now («data» .entry)) (pitched width height pitch) (now (image .entry)) a (now (image .exit)))
+        r ⌝ }
+{
+    told::read_whole(true, false, data, width, height, pitch, image)
+}
+
+// The same of a signed EAC RG picture.
+#[no_mangle]
+pub extern "C" fn yalivucu_decode_eacrg11_signed(
+    data: &[u8],
+    width: usize,
+    height: usize,
+    image: &mut [u16],
+) -> u32
+    ensures { λ r. ⌜ Told
+        (λ a. ReadsWhole true 2 (now («data» .entry)) (sized width height) (now (image .entry)) a (now (image .exit)))
+        r ⌝ }
+{
+    told::read_whole(true, true, data, width, height, width, image)
+}
+
+// The same of a picture with a pitch, in pixels.
+#[no_mangle]
+pub extern "C" fn yalivucu_decode_eacrg11_signed_pitched(
+    data: &[u8],
+    width: usize,
+    height: usize,
+    pitch: usize,
+    image: &mut [u16],
+) -> u32
+    ensures { λ r. ⌜ Told
+        (λ a. ReadsWhole true 2 (now («data» .entry)) (pitched width height pitch) (now (image .entry)) a (now (image .exit)))
+        r ⌝ }
+{
+    told::read_whole(true, true, data, width, height, pitch, image)
 }
 
 // Reads an ETC1 block of 8 bytes into the elements 0 to 15.

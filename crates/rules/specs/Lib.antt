@@ -35,3 +35,5 @@ pub mod Degrees
 pub mod Counting
 pub mod Checking
 pub mod Baking
+-- all eleven bits of EAC, of document 02
+pub mod Whole

@@ -96,9 +96,9 @@ fn at_most(most: usize, n: usize) -> usize
 fn is_reader(number: u32) -> bool
     ensures { λ r. ⌜ r ≡ isReader number ⌝ }
 {
-    let picture = (number < 9) | (number == 13);
+    let picture = number < 14;
     let block_or_desktop = (15 < number) & (number < 38);
-    let pitched = (39 < number) & (number < 49) | (number == 53);
+    let pitched = (39 < number) & (number < 54);
     let desktop_pitched = (73 < number) & (number < 78);
     picture | block_or_desktop | pitched | desktop_pitched
 }

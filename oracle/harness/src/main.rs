@@ -29,7 +29,6 @@ pub struct Options {
     seed: u64,
     blocks: usize,
     listed: Vec<String>,
-    eleven: bool,
     /// Programs that speak the protocol, and the folder of published pictures.
     mesa: String,
     android: String,
@@ -54,7 +53,6 @@ fn options(words: &[String]) -> Options {
         seed: number("--seed", 1),
         blocks: number("--blocks", 300_000) as usize,
         listed: text("--listed").split(',').map(str::to_string).collect(),
-        eleven: words.iter().any(|word| word == "--eleven"),
         mesa: text("--mesa"),
         android: text("--android"),
         squish: text("--squish"),

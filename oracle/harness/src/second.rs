@@ -10,23 +10,27 @@ use crate::rules::{blocks_across, is_new};
 use crate::specimens;
 use std::io::Result;
 
-/// Mesa in all formats; with `eleven`, EAC also by the readers of whole values.
+/// Mesa in all formats, EAC also by the readers of whole values.
 pub fn mesa(options: &crate::Options) -> Result<bool> {
     let mut same = true;
     for reader in FORMATS {
         same &= against(reader, options, &options.mesa, "Mesa", reader)?;
-        if options.eleven && is_eac(reader) {
-            same &= against(reader, options, &options.mesa, "Mesa, eleven bits,", reader + WIDE_EACR - EACR)?;
+        if is_eac(reader) {
+            same &= against(reader, options, &options.mesa, "Mesa, eleven bits,", wide(reader))?;
         }
     }
     Ok(same)
 }
 
-/// One format alone, by Mesa, and BC7 by Pillow too.
+/// One format alone, by Mesa, EAC also by the readers of whole values and at every base, and BC7 by Pillow too.
 pub fn only(options: &crate::Options) -> Result<bool> {
     let mut same = true;
     for reader in FORMATS.into_iter().filter(|&reader| name(reader) == options.only) {
         same &= against(reader, options, &options.mesa, "Mesa", reader)?;
+        if is_eac(reader) {
+            same &= against(reader, options, &options.mesa, "Mesa, eleven bits,", wide(reader))?;
+            same &= at_every_base(reader, options)?;
+        }
         if reader == BC7 {
             same &= pillow(options)? & crate::desktop::compare(options)?;
         }
@@ -124,19 +128,33 @@ fn against(reader: u32, options: &crate::Options, other: &str, label: &str, aske
     Ok(report.close())
 }
 
-/// Signed EAC at every base, with every multiplier, row and index, by Mesa.
+/// EAC at every base, by Mesa.
 pub fn every_base(options: &crate::Options) -> Result<bool> {
     let mut same = true;
-    for reader in [EACR_SIGNED, EACRG_SIGNED] {
+    for reader in FORMATS.into_iter().filter(|&reader| is_eac(reader)) {
+        same &= at_every_base(reader, options)?;
+    }
+    Ok(same)
+}
+
+// With every multiplier, row and index: as bytes and as whole values.
+fn at_every_base(reader: u32, options: &crate::Options) -> Result<bool> {
+    let mut same = true;
+    for (asked, label) in [(reader, "Mesa"), (wide(reader), "Mesa, eleven bits,")] {
         let cases: Vec<Case> = (0..=255).map(|base| every_channel(reader, base)).collect();
-        let mut report = Report::new(format!("Mesa {}, every base", name(reader)), "", cases.len());
-        let ours = ask(&options.program, cases.clone())?;
-        for ((case, seen), (_, got)) in ask(&options.mesa, cases)?.into_iter().zip(ours) {
-            report.count(&case, &from_mesa(&case, seen, reader), &got, 0);
+        let mut report = Report::new(format!("{label} {}, every base", name(reader)), "", cases.len());
+        let ours = ask(&options.program, cases.iter().cloned().map(|case| for_ours(case, asked)).collect())?;
+        for ((case, seen), (as_asked, got)) in ask(&options.mesa, cases)?.into_iter().zip(ours) {
+            report.count(&as_asked, &from_mesa(&case, seen, asked), &got, 0);
         }
         same &= report.close();
     }
     Ok(same)
+}
+
+// The reader of whole values of a format of EAC.
+fn wide(reader: u32) -> u32 {
+    reader + WIDE_EACR - EACR
 }
 
 // A block for each multiplier and row; of two halves the second has what the first has not had.
