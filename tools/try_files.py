@@ -109,6 +109,13 @@ def several(room):
     note(content(os.path.join(into, "glow.ktx.png")) == content(example("glow.png")), "--into: the picture")
     note(unpack("--into", into, GLOW, KINDS)[0] == 33 and "kinds.ktx.png" in listing(into), "--into: a name that is taken")
     note(unpack("--force", "--into", into, GLOW, KINDS)[0] == 0, "--into --force")
+    twin = os.path.join(room, "twin")
+    os.mkdir(twin)
+    other = write(os.path.join(twin, "glow.ktx"), content(KINDS))
+    for words in ([], ["--force"]):
+        status, _, sentence = unpack(*words, "--into", into, "--", GLOW, other, OLD)
+        note(status == 33 and "glow.ktx" in sentence, "--into %s: two files of one name (%d)" % (words, status))
+        note(content(os.path.join(into, "glow.ktx.png")) == content(example("glow.png")), "--into %s: the first of one name stays" % words)
     note(unpack("--into", into, "-")[0] == 32, "--into: standard input has no name")
 
 
