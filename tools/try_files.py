@@ -60,6 +60,16 @@ def two_at_once(room, big):
     note(listing(room) == ["both.png"], "two runs with one OUT: nothing else is left")
 
 
+def devices(room):
+    """A device as OUT: one of our own, since a tool that is wrong may replace it; the machine's only where this user cannot."""
+    path = os.path.join(room, "device")
+    try:
+        os.mknod(path, stat.S_IFCHR | 0o666, os.makedev(1, 3))
+        return [path]
+    except PermissionError:
+        return [] if os.access("/dev", os.W_OK) else ["/dev/null"]
+
+
 def names(room):
     """OUT that exists, that is FILE, or that is no ordinary file; words that begin with --."""
     file = shutil.copy(KINDS, os.path.join(room, "in.ktx"))
@@ -84,7 +94,7 @@ def names(room):
         note(unpack("--force", "-", file, stdin=f)[0] == 34 and content(file) == content(KINDS), "OUT is what standard input reads")
     os.mkdir(os.path.join(room, "folder"))
     os.mkfifo(os.path.join(room, "pipe"))
-    for name in ("folder", "folder/", "pipe", "/dev/null", "new/"):
+    for name in ["folder", "folder/", "pipe", "new/"] + devices(room):
         for force in ([], ["--force"]):
             status = unpack(*force, file, os.path.join(room, name), timeout=60)[0]
             note(status == 35, "OUT is %s %s: %d" % (name, force, status))
@@ -109,6 +119,13 @@ def several(room):
     note(content(os.path.join(into, "glow.ktx.png")) == content(example("glow.png")), "--into: the picture")
     note(unpack("--into", into, GLOW, KINDS)[0] == 33 and "kinds.ktx.png" in listing(into), "--into: a name that is taken")
     note(unpack("--force", "--into", into, GLOW, KINDS)[0] == 0, "--into --force")
+    twin = os.path.join(room, "twin")
+    os.mkdir(twin)
+    other = write(os.path.join(twin, "glow.ktx"), content(KINDS))
+    for words in ([], ["--force"]):
+        status, _, sentence = unpack(*words, "--into", into, "--", GLOW, other, OLD)
+        note(status == 33 and "glow.ktx" in sentence, "--into %s: two files of one name (%d)" % (words, status))
+        note(content(os.path.join(into, "glow.ktx.png")) == content(example("glow.png")), "--into %s: the first of one name stays" % words)
     note(unpack("--into", into, "-")[0] == 32, "--into: standard input has no name")
 
 

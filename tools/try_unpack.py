@@ -2,8 +2,8 @@
 
 For each example: the PNG is read by PIL, by netpbm's pngtopam and by this script's own few lines over zlib, and all three have
 the same pixels. For each bad file: the exit status is the number of the refusal, a sentence goes to standard error, and nothing
-is left behind. tools/try_levels.py has levels, keys and bare blocks, tools/try_files.py what must not happen to files, and
-tools/try_build.py how the program is built and installed. Its last line is 'N passed, M failed'.
+is left behind. tools/try_levels.py has levels, keys and bare blocks, tools/try_info.py what a file tells of itself, tools/try_files.py
+what must not happen to files, and tools/try_build.py how the program is built and installed. Its last line is 'N passed, M failed'.
 """
 import os
 import struct
@@ -16,6 +16,7 @@ from PIL import Image
 
 import try_build
 import try_files
+import try_info
 import try_levels
 from try_common import COUNT, TOP, note, unpack
 
@@ -200,6 +201,7 @@ def main():
         leftovers(room)
         opaques(room)
     try_levels.cases()
+    try_info.cases()
     try_files.cases()
     try_build.cases()
     print("%d passed, %d failed" % (COUNT[True], COUNT[False]))

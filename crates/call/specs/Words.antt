@@ -12,7 +12,7 @@ use Rattle.textures.specs.declared.Known.the-variants.{As, Not}
 use Rattle.call.specs.declared.Number.{Number}
 use Rattle.call.specs.declared.Number.the-variants.{Is, None}
 use Rattle.call.specs.declared.Asked.{Asked}
-use Rattle.call.specs.declared.Asked.the-variants.{Picture, Level, Raw, More, Check, Info, Help, Nothing}
+use Rattle.call.specs.declared.Asked.the-variants.{Picture, Level, Raw, More, Check, Info, Json, Help, Nothing}
 
 -- whether two words are the same
 unfoldable pub same : List ℕ → List ℕ → Bool
@@ -46,12 +46,13 @@ formatOf word =
     (orNamed word (101 ∷ 97 ∷ 99 ∷ 45 ∷ 114 ∷ 103 ∷ 45 ∷ 115 ∷ 105 ∷ 103 ∷ 110 ∷ 101 ∷ 100 ∷ []) EacRgSigned
     Not)))))))
 
--- what a word asks with one more behind it: "--info", "--check", or it is a file's name
+-- what a word asks with one more behind it: "--info", "--json", "--check", or it is a file's name
 unfoldable pub ofTwo : List ℕ → Asked
 ofTwo word =
     cond (same word (45 ∷ 45 ∷ 105 ∷ 110 ∷ 102 ∷ 111 ∷ [])) Info
+    (cond (same word (45 ∷ 45 ∷ 106 ∷ 115 ∷ 111 ∷ 110 ∷ [])) Json
     (cond (same word (45 ∷ 45 ∷ 99 ∷ 104 ∷ 101 ∷ 99 ∷ 107 ∷ [])) Check
-    Picture)
+    Picture))
 
 -- with three more: "--level"
 unfoldable pub ofFour : List ℕ → Asked

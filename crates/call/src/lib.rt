@@ -19,6 +19,7 @@ pub enum Asked {
     More,
     Check,
     Info,
+    Json,
     Help,
     Nothing,
 }
@@ -36,6 +37,9 @@ fn of_two(word: &[u8]) -> Asked
 {
     if is_word(word, b"--info") {
         return Asked::Info;
+    }
+    if is_word(word, b"--json") {
+        return Asked::Json;
     }
     if is_word(word, b"--check") {
         return Asked::Check;

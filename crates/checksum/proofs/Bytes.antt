@@ -20,7 +20,7 @@ bits (suc zero) (suc zero) (suc (suc z)) h i j = absurd (omega arith)
 bits (suc zero) (suc (suc y)) z h i j = absurd (omega arith)
 bits (suc (suc x)) y z h i j = absurd (omega arith)
 
-halved : (a b : ℕ) → bitXor a b / 2 ≡ bitXor (a / 2) (b / 2)
+pub halved : (a b : ℕ) → bitXor a b / 2 ≡ bitXor (a / 2) (b / 2)
 halved a b = xor-shr a b 1
 
 small : (x y : ℕ) → x < 2 → y < 2 → bitXor x y ≡ differ x y
@@ -30,7 +30,7 @@ small (suc zero) (suc zero) h i = refl
 small (suc zero) (suc (suc y)) h i = absurd (omega arith)
 small (suc (suc x)) y h i = absurd (omega arith)
 
-odd : (a b : ℕ) → bitXor a b % 2 ≡ differ (a % 2) (b % 2)
+pub odd : (a b : ℕ) → bitXor a b % 2 ≡ differ (a % 2) (b % 2)
 odd a b = xor-mod a b 1 ∙ small (a % 2) (b % 2) (omega arith) (omega arith)
 
 -- the order in which three numbers are joined does not matter; n is no less than any of them
@@ -61,7 +61,7 @@ moved h n m =
     ∙ grouped (h * 2 ^ n) (m / 2) (cond (eqb (m % 2) 1) polynomial 0)
 
 -- n steps
-linear : (n h m : ℕ) → crcSteps n (bitXor (h * 2 ^ n) m) ≡ bitXor h (crcSteps n m)
+pub linear : (n h m : ℕ) → crcSteps n (bitXor (h * 2 ^ n) m) ≡ bitXor h (crcSteps n m)
 linear zero h m = ap (λ (z : ℕ). bitXor z m) (mul-one h)
 linear (suc n) h m = ap (crcSteps n) (moved h n m) ∙ linear n h (crcStep m)
 

@@ -3,3 +3,4 @@ pub mod Bytes
 pub mod Fold
 pub mod Adler
 pub mod Known
+pub mod Four

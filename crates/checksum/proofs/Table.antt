@@ -43,6 +43,6 @@ remainders =
     ∷ 3009837614 ∷ 3294710456 ∷ 1567103746 ∷ 711928724 ∷ 3020668471 ∷ 3272380065 ∷ 1510334235 ∷ 755167117
     ∷ []
 
-pub remainder : Remainders remainders
+pub remainder : Remainders 8 remainders
 unfolding Remainders
 remainder k h = eqb→eq _ _ (below (λ j. eqb (getD remainders j 0) (crcSteps 8 j)) 256 tt k h)

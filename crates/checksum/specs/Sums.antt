@@ -31,9 +31,9 @@ crcSteps (suc n) c = crcSteps n (crcStep c)
 unfoldable pub crcByte : ℕ → ℕ → ℕ
 crcByte c b = crcSteps 8 (bitXor c b)
 
--- a table of what eight steps make of each byte
-unfoldable pub Remainders : List ℕ → Type 0
-Remainders t = (k : ℕ) → k < 256 → getD t k 0 ≡ crcSteps 8 k
+-- a table of what n steps make of each byte
+unfoldable pub Remainders : ℕ → List ℕ → Type 0
+Remainders n t = (k : ℕ) → k < 256 → getD t k 0 ≡ crcSteps n k
 
 abbrev pub crcMore : ℕ → List ℕ → ℕ
 crcMore c l = folded crcByte c l

@@ -1,8 +1,9 @@
 // The two checksums of a PNG: CRC-32 over its chunks, and Adler-32 over what its zlib stream holds.
 ghost use mathlib.Core.Path.{_≡_};
-ghost use Prim.Native.Nat.{_+_, _<_, _≤_};
+ghost use Prim.Native.Nat.{ℕ, _+_, _<_, _≤_};
+ghost use lib.Bits.{bitXor};
 ghost use lib.ListN.{length};
-ghost use Rattle.checksum.specs.Sums.{Remainders, crcByte, crcMore, crc as crcSum, adlerMore};
+ghost use Rattle.checksum.specs.Sums.{Remainders, crcSteps, crcByte, crcMore, crc as crcSum, adlerMore};
 
 // What eight steps make of each byte: a step divides by the polynomial, and this does a byte of steps at once.
 const REMAINDERS: [u32; 256] = [
@@ -264,9 +265,26 @@ const REMAINDERS: [u32; 256] = [
     755167117,
 ];
 
-// The remainder after one byte more, by the table. The table is lent: a function that names it copies all of it.
+// What eight steps more make of each byte than the table before: the first table has what eight make. Tables are lent: a function that
+// names a constant copies all of it.
+fn longer(first: &[u32; 256], before: &[u32; 256]) -> [u32; 256]
+    requires { ⌜ Remainders 8 (now first) ⌝ }
+    ensures { λ r. ⌜ ((n : ℕ) → Remainders n (now (before .entry)) → Remainders (n + 8) r) ⌝ }
+{
+    let mut table = [0u32; 256];
+    let mut i: usize = 0;
+    while i < 256 {
+        let steps = before[i];
+        let low = (steps % 256) as usize;
+        table[i] = first[low] ^ (steps / 256);
+        i += 1;
+    }
+    table
+}
+
+// The remainder after one byte more, by the table.
 fn crc_byte(table: &[u32; 256], sum: u32, b: u8) -> u32
-    requires { ⌜ Remainders (now table) ⌝ }
+    requires { ⌜ Remainders 8 (now table) ⌝ }
     ensures { λ r. ⌜ r ≡ crcByte sum b ⌝ }
 {
     let mixed = sum ^ b as u32;
@@ -274,15 +292,46 @@ fn crc_byte(table: &[u32; 256], sum: u32, b: u8) -> u32
     table[low] ^ (mixed / 256)
 }
 
-// The remainder after some bytes more, by the table.
-fn crc_by(table: &[u32; 256], sum: u32, bytes: &[u8]) -> u32
-    requires { ⌜ Remainders (now table) ⌝ }
+// The remainder after four bytes more, which are one number, the least first: by the tables of 8, 16, 24 and 32 steps.
+fn crc_four(
+    t8: &[u32; 256],
+    t16: &[u32; 256],
+    t24: &[u32; 256],
+    t32: &[u32; 256],
+    sum: u32,
+    four: u32,
+) -> u32
+    requires { ⌜ Remainders 8 (now t8) × Remainders 16 (now t16) × Remainders 24 (now t24) × Remainders 32 (now t32) ⌝ }
+    ensures { λ r. ⌜ r ≡ crcSteps 32 (bitXor sum four) ⌝ }
+{
+    let mixed = sum ^ four;
+    let a = (mixed % 256) as usize;
+    let b = (mixed / 256 % 256) as usize;
+    let c = (mixed / 256 / 256 % 256) as usize;
+    let d = (mixed / 256 / 256 / 256) as usize;
+    t32[a] ^ (t24[b] ^ (t16[c] ^ t8[d]))
+}
+
+// The remainder after some bytes more, by the tables: four at a time, and the last ones one by one.
+fn crc_by(
+    t8: &[u32; 256],
+    t16: &[u32; 256],
+    t24: &[u32; 256],
+    t32: &[u32; 256],
+    sum: u32,
+    bytes: &[u8],
+) -> u32
+    requires { ⌜ Remainders 8 (now t8) × Remainders 16 (now t16) × Remainders 24 (now t24) × Remainders 32 (now t32) ⌝ }
     ensures { λ r. ⌜ r ≡ crcMore sum (now (bytes .entry)) ⌝ }
 {
     let mut now_at = sum;
     let mut i: usize = 0;
+    while 3 < bytes.len() - i {
+        now_at = crc_four(t8, t16, t24, t32, now_at, numbers::little4(bytes, i) as u32);
+        i += 4;
+    }
     while i < bytes.len() {
-        now_at = crc_byte(table, now_at, bytes[i]);
+        now_at = crc_byte(t8, now_at, bytes[i]);
         i += 1;
     }
     now_at
@@ -292,8 +341,11 @@ fn crc_by(table: &[u32; 256], sum: u32, bytes: &[u8]) -> u32
 pub fn crc_more(sum: u32, bytes: &[u8]) -> u32
     ensures { λ r. ⌜ r ≡ crcMore sum (now (bytes .entry)) ⌝ }
 {
-    let table = REMAINDERS;
-    crc_by(&table, sum, bytes)
+    let t8 = REMAINDERS;
+    let t16 = longer(&t8, &t8);
+    let t24 = longer(&t8, &t16);
+    let t32 = longer(&t8, &t24);
+    crc_by(&t8, &t16, &t24, &t32, sum, bytes)
 }
 
 // The CRC-32 of some bytes.

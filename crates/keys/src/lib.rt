@@ -93,7 +93,7 @@ fn in_size(order: bool, count: usize, number: usize, b: u8) -> At
 }
 
 // One byte more.
-fn next(order: bool, at: At, b: u8) -> At
+pub fn next(order: bool, at: At, b: u8) -> At
     ensures { λ r. ⌜ r ≡ nextOf order at b ⌝ }
 {
     match at {

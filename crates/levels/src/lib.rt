@@ -249,7 +249,7 @@ fn ktx_held(t: Texture, d: &[u8], sizes: &[u8], keys: bool, n: usize, len: usize
 }
 
 // Whether a file's first bytes are a header that tells of levels: a whole one of KTX.
-fn has_levels(d: &[u8]) -> bool
+pub fn has_levels(d: &[u8]) -> bool
     ensures { λ r. ⌜ (r ≡ hasLevels (now (d .entry))) × (r ≡ true → 64 ≤ length (now (d .entry))) ⌝ }
 {
     if d.len() < 64 {

@@ -2,7 +2,7 @@
 -- Assumes nothing.
 use Prim.Native.Nat.{ℕ}
 use Rattle.call.specs.declared.Asked.{Asked}
-use Rattle.call.specs.declared.Asked.the-variants.{Picture, Level, Raw, More, Check, Info, Help, Nothing}
+use Rattle.call.specs.declared.Asked.the-variants.{Picture, Level, Raw, More, Check, Info, Json, Help, Nothing}
 
 -- behind `--raw` or `--more`, FORMAT, WIDTH and HEIGHT, behind `--level N`, behind one word, or first;
 -- a call that reads no file has no such place, and is given the second
@@ -13,5 +13,6 @@ placeOf Raw = 5
 placeOf More = 5
 placeOf Check = 2
 placeOf Info = 2
+placeOf Json = 2
 placeOf Help = 2
 placeOf Nothing = 2

@@ -1,6 +1,7 @@
 // The tool: a texture file to a PNG, row of blocks by row of blocks, and whether an older viewer may show it. What the bytes mean
 // is proved in the crates below; here are the files, the arguments and the words.
 mod args;
+mod info;
 mod source;
 
 use call::Asked;
@@ -15,13 +16,16 @@ fn refused(header: Header) -> u64 {
     number
 }
 
-// `--info FILE`: format, size and blocks.
-fn info(source: Source) -> u64 {
+// `--info FILE` and `--json FILE`: what the file tells of itself.
+fn described(source: Source, json: bool) -> u64 {
     let told = source.header;
     let Header::Holds(t) = told else {
         return refused(told);
     };
-    words::texture(t);
+    if !info::told(source.fd, json, t) {
+        words::refusal(words::NO_FILE);
+        return words::NO_FILE;
+    }
     0
 }
 
@@ -71,7 +75,8 @@ fn done(what: Asked, source: Source) -> u64 {
         Asked::Raw => unpacked(source, 6),
         Asked::More => unpacked(source, 6),
         Asked::Check => checked(source),
-        _ => info(source),
+        Asked::Json => described(source, true),
+        _ => described(source, false),
     }
 }
 

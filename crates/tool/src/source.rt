@@ -156,6 +156,7 @@ fn place_of(what: Asked) -> usize
         Asked::More => 5,
         Asked::Check => 2,
         Asked::Info => 2,
+        Asked::Json => 2,
         Asked::Help => 2,
         Asked::Nothing => 2,
     }

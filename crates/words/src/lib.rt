@@ -2,9 +2,7 @@
 use guard::Viewer;
 use libc::STDERR_FILENO;
 use libc::STDOUT_FILENO;
-use rules::Format;
 use textures::Header;
-use textures::Texture;
 ghost use mathlib.Core.Path.{_≡_};
 ghost use Prim.Native.Nat.{_<_};
 ghost use Rattle.textures.specs.Textures.{numberOf};
@@ -130,49 +128,6 @@ pub fn answer(number: u64) {
     tell(b"\n");
 }
 
-// The name of a format.
-fn name(f: Format) {
-    match f {
-        Format::Etc1 => tell(b"ETC1"),
-        Format::Etc2Rgb => tell(b"ETC2 RGB"),
-        Format::Etc2Rgba1 => tell(b"ETC2 RGBA1"),
-        Format::Etc2Rgba8 => tell(b"ETC2 RGBA8"),
-        Format::EacR => tell(b"EAC R"),
-        Format::EacRSigned => tell(b"EAC R signed"),
-        Format::EacRg => tell(b"EAC RG"),
-        Format::EacRgSigned => tell(b"EAC RG signed"),
-        Format::Bc1 => tell(b"BC1"),
-        Format::Bc1Alpha => tell(b"BC1 with alpha"),
-        Format::Bc3 => tell(b"BC3"),
-        Format::Bc7 => tell(b"BC7"),
-    }
-}
-
-// How many blocks there are, and where.
-fn blocks(t: Texture) {
-    let f = t.format;
-    let size = checks::size(f);
-    count((t.bytes / size) as u64);
-    tell(b" of ");
-    count(size as u64);
-    tell(b" bytes, from byte ");
-    count(t.start as u64);
-    tell(b" on\n");
-}
-
-// Format, size and blocks.
-pub fn texture(t: Texture) {
-    let f = t.format;
-    tell(b"format ");
-    name(f);
-    tell(b"\nsize ");
-    count(t.width as u64);
-    tell(b" x ");
-    count(t.height as u64);
-    tell(b" pixels\nblocks ");
-    blocks(t);
-}
-
 // What is shown of how far the work is: nothing, a row of blocks over the last one that was shown, the last row with a line end, or
 // a line end alone.
 enum Mark {
@@ -250,7 +205,8 @@ fn usage() {
         b"                        its end, a KTX file as many as it tells). Of RGBA1: whether an\n",
     );
     tell(b"                        opaque-only viewer does, by the opaque bit of every block\n");
-    tell(b"unpack --info FILE      format, size and blocks\n");
+    tell(b"unpack --info FILE      what the file tells of itself, in lines\n");
+    tell(b"unpack --json FILE      the same as JSON\n");
     tell(b"unpack --help           this\n\n");
 }
 

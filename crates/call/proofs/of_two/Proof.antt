@@ -28,11 +28,33 @@ returns-2 c =
     let e1 = c .before .before .before in
     simp (sym (e1 .before .is-word .ensures) ∙ e1 .if1 .left, sym (c .before .is-word2 .ensures) ∙ c .if2 .taken)
 
+slice-aggregate-is-word-3 : tie.Need-slice-aggregate-is-word-3
+slice-aggregate-is-word-3 c = search needs
+
+is-word-requires-3 : tie.Need-is-word-requires-3
+is-word-requires-3 c κs = search needs
+
 returns-3 : tie.Need-returns-3
 unfolding ofTwo
 returns-3 c =
-    let e1 = c .before .before .before in
-    simp (sym (e1 .before .is-word .ensures) ∙ e1 .if1 .left, sym (c .before .is-word2 .ensures) ∙ c .if2 .left)
+    let e2 = c .before .before .before in
+    let e1 = e2 .before .before .before in
+    simp (
+      sym (e1 .before .is-word .ensures) ∙ e1 .if1 .left,
+      sym (e2 .before .is-word2 .ensures) ∙ e2 .if2 .left,
+      sym (c .before .is-word3 .ensures) ∙ c .if3 .taken,
+    )
+
+returns-4 : tie.Need-returns-4
+unfolding ofTwo
+returns-4 c =
+    let e2 = c .before .before .before in
+    let e1 = e2 .before .before .before in
+    simp (
+      sym (e1 .before .is-word .ensures) ∙ e1 .if1 .left,
+      sym (e2 .before .is-word2 .ensures) ∙ e2 .if2 .left,
+      sym (c .before .is-word3 .ensures) ∙ c .if3 .left,
+    )
 
 pub of-two-spec : {M : Type 1} → statement M
 of-two-spec =
@@ -44,4 +66,7 @@ of-two-spec =
     slice-aggregate-is-word-2
     is-word-requires-2
     returns-2
-    returns-3)
+    slice-aggregate-is-word-3
+    is-word-requires-3
+    returns-3
+    returns-4)

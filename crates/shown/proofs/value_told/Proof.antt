@@ -1,0 +1,29 @@
+-- `shown::value_told` meets its contract, by its tests.
+-- Assumes nothing.
+use native.Mathlib.Omega.{arith}
+use borrow.Author.Tests.{eq-eqb, ne-eqb}
+use Rattle.shown.proofs.Puts.{told, silent}
+use borrow.Author.Needs.{needs}
+use Rattle.shown.proofs.value_told.Statement.{statement}
+use Rattle.shown.proofs.value_told.Tie as tie
+
+returns : tie.Need-returns
+returns c = silent _ _ _ 12 (simp (ne-eqb _ _ (c .if1 .taken)))
+
+returns-2 : tie.Need-returns-2
+returns-2 c = silent _ _ _ 12 (simp (eq-eqb _ _ (c .before .if1 .left), eq-eqb _ _ (c .if2 .taken)))
+
+put-byte-requires : tie.Need-put-byte-requires
+put-byte-requires c κs = search needs
+
+same-length : tie.Need-same-length
+same-length c = search needs
+
+returns-3 : tie.Need-returns-3
+returns-3 c =
+    let p = c .before .before in
+    let e = p .before .before in
+    told _ _ _ _ _ _ 6 12 (simp (eq-eqb _ _ (e .before .if1 .left), ne-eqb _ _ (e .if2 .left))) (omega arith) (p .put-byte .ensures)
+
+pub value-told-spec : {M : Type 1} → statement M
+value-told-spec = tie.close (tie.spec returns returns-2 put-byte-requires same-length returns-3)
