@@ -1,4 +1,4 @@
-/* ETC1, ETC2, EAC, BC1 and BC3 textures, and the degrees that their colours mean, read by proved code.
+/* ETC1, ETC2, EAC, BC1, BC3 and BC7 textures, and the degrees that their colours mean, read by proved code.
  *
  * Link with the static library that `bindings/archive FILE.a` writes. Every function may be
  * called from several threads at once, allocates nothing, keeps nothing between calls but in what
@@ -105,6 +105,7 @@ uint32_t yalivucu_decode_etc2_rgba8(const uint8_t *data, size_t data_len, size_t
 uint32_t yalivucu_decode_eacrg(const uint8_t *data, size_t data_len, size_t width, size_t height, uint32_t *image, size_t image_len);
 uint32_t yalivucu_decode_eacrg_signed(const uint8_t *data, size_t data_len, size_t width, size_t height, uint32_t *image, size_t image_len);
 uint32_t yalivucu_decode_bc3(const uint8_t *data, size_t data_len, size_t width, size_t height, uint32_t *image, size_t image_len);
+uint32_t yalivucu_decode_bc7(const uint8_t *data, size_t data_len, size_t width, size_t height, uint32_t *image, size_t image_len);
 
 /* The same with a pitch, for an image whose rows have a gap. With pitch = width each does what the
  * function without one does. */
@@ -119,6 +120,20 @@ uint32_t yalivucu_decode_eacrg_signed_pitched(const uint8_t *data, size_t data_l
 uint32_t yalivucu_decode_bc1_pitched(const uint8_t *data, size_t data_len, size_t width, size_t height, size_t pitch, uint32_t *image, size_t image_len);
 uint32_t yalivucu_decode_bc1a_pitched(const uint8_t *data, size_t data_len, size_t width, size_t height, size_t pitch, uint32_t *image, size_t image_len);
 uint32_t yalivucu_decode_bc3_pitched(const uint8_t *data, size_t data_len, size_t width, size_t height, size_t pitch, uint32_t *image, size_t image_len);
+uint32_t yalivucu_decode_bc7_pitched(const uint8_t *data, size_t data_len, size_t width, size_t height, size_t pitch, uint32_t *image, size_t image_len);
+
+/* All eleven bits of EAC, as 16-bit numbers: R in blocks of 8 bytes, RG in blocks of 16. Unsigned values
+ * are 0 to 2047 and signed ones -1023 to 1023. R has one number to a pixel. RG has two, red then
+ * green: number c of pixel (x, y) is image[2 * (y * pitch + x) + c], the pitch counts pixels, and
+ * image_len is wanted twice as large as answer 3 says. They test 1, 12, 2, 3 in that order. */
+uint32_t yalivucu_decode_eacr11(const uint8_t *data, size_t data_len, size_t width, size_t height, uint16_t *image, size_t image_len);
+uint32_t yalivucu_decode_eacr11_signed(const uint8_t *data, size_t data_len, size_t width, size_t height, int16_t *image, size_t image_len);
+uint32_t yalivucu_decode_eacrg11(const uint8_t *data, size_t data_len, size_t width, size_t height, uint16_t *image, size_t image_len);
+uint32_t yalivucu_decode_eacrg11_signed(const uint8_t *data, size_t data_len, size_t width, size_t height, int16_t *image, size_t image_len);
+uint32_t yalivucu_decode_eacr11_pitched(const uint8_t *data, size_t data_len, size_t width, size_t height, size_t pitch, uint16_t *image, size_t image_len);
+uint32_t yalivucu_decode_eacr11_signed_pitched(const uint8_t *data, size_t data_len, size_t width, size_t height, size_t pitch, int16_t *image, size_t image_len);
+uint32_t yalivucu_decode_eacrg11_pitched(const uint8_t *data, size_t data_len, size_t width, size_t height, size_t pitch, uint16_t *image, size_t image_len);
+uint32_t yalivucu_decode_eacrg11_signed_pitched(const uint8_t *data, size_t data_len, size_t width, size_t height, size_t pitch, int16_t *image, size_t image_len);
 
 /* An ETC1 picture, in blocks of 8 bytes, that holds no block out of range and has no byte behind its
  * blocks: what it accepts, an ETC2 decoder shows alike. With answer 4, *block is the number of the first such block, from 0,
@@ -167,6 +182,7 @@ uint32_t yalivucu_decode_etc2_rgba8_block(const uint8_t *data, size_t data_len, 
 uint32_t yalivucu_decode_eacrg_block(const uint8_t *data, size_t data_len, uint32_t *out, size_t out_len);
 uint32_t yalivucu_decode_eacrg_signed_block(const uint8_t *data, size_t data_len, uint32_t *out, size_t out_len);
 uint32_t yalivucu_decode_bc3_block(const uint8_t *data, size_t data_len, uint32_t *out, size_t out_len);
+uint32_t yalivucu_decode_bc7_block(const uint8_t *data, size_t data_len, uint32_t *out, size_t out_len);
 
 /* An alpha half of 8 bytes: replaces the top byte of out[0] to out[15] and keeps the rest. */
 uint32_t yalivucu_decode_etc2_a8_block(const uint8_t *data, size_t data_len, uint32_t *out, size_t out_len);
@@ -271,6 +287,7 @@ uint32_t yalivucu_start_eacrg_signed(size_t width, size_t height, size_t pitch, 
 uint32_t yalivucu_start_bc1(size_t width, size_t height, size_t pitch, const uint32_t *image, size_t image_len, size_t *numbers, uint8_t *kept);
 uint32_t yalivucu_start_bc1a(size_t width, size_t height, size_t pitch, const uint32_t *image, size_t image_len, size_t *numbers, uint8_t *kept);
 uint32_t yalivucu_start_bc3(size_t width, size_t height, size_t pitch, const uint32_t *image, size_t image_len, size_t *numbers, uint8_t *kept);
+uint32_t yalivucu_start_bc7(size_t width, size_t height, size_t pitch, const uint32_t *image, size_t image_len, size_t *numbers, uint8_t *kept);
 uint32_t yalivucu_take_piece(size_t *numbers, uint8_t *kept, const uint8_t *bytes, size_t bytes_len, uint32_t *image, size_t image_len, size_t *painted, size_t *unused);
 uint32_t yalivucu_end_pieces(const size_t *numbers, const uint8_t *kept);
 
@@ -317,6 +334,10 @@ static inline uint32_t yalivucu_pieces_bc1a(struct yalivucu_pieces *state, size_
 static inline uint32_t yalivucu_pieces_bc3(struct yalivucu_pieces *state, size_t width, size_t height, size_t pitch, const uint32_t *image, size_t image_len)
 {
     return yalivucu_start_bc3(width, height, pitch, image, image_len, state->numbers_, state->kept_);
+}
+static inline uint32_t yalivucu_pieces_bc7(struct yalivucu_pieces *state, size_t width, size_t height, size_t pitch, const uint32_t *image, size_t image_len)
+{
+    return yalivucu_start_bc7(width, height, pitch, image, image_len, state->numbers_, state->kept_);
 }
 static inline uint32_t yalivucu_pieces_take(struct yalivucu_pieces *state, const uint8_t *bytes, size_t bytes_len, uint32_t *image, size_t image_len, size_t *painted, size_t *unused)
 {

@@ -63,7 +63,7 @@ build_harness() { # FOLDER OF THE CRATE
     cp "$top/oracle/harness/Cargo.toml" "$build/"
     cp -R "$top/oracle/harness/src" "$build/src"
     cp "$top/oracle/harness/given/lib.rs" "$build/given/"
-    for part in color.rs macros.rs etc.rs etc bcn; do
+    for part in bitreader.rs color.rs macros.rs etc.rs etc bcn; do
         ln -s "$files/$part" "$build/given/$part"
     done
     registry=$(dpkg -L librust-paste-dev | grep '/registry$')
@@ -79,7 +79,7 @@ build_decoders() {
     GALLIUM_DRIVER=softpipe
     export GALLIUM_DRIVER
     install_packages gcc libc6-dev libegl1 libegl-mesa0 libgles2 libgl1-mesa-dri libegl-dev libgles-dev \
-        android-libetc1-dev g++ libsquish-dev
+        android-libetc1-dev g++ libsquish-dev python3-pil
     gcc -O2 -o "$room/mesa" "$top/oracle/mesa.c" -lEGL -lGLESv2 -lm || die "mesa.c does not build"
     header=$(dpkg -L android-libetc1-dev | grep '/ETC1/etc1\.h$')
     library=$(dpkg -L android-libetc1-dev | grep '/libETC1\.so$')
@@ -88,9 +88,9 @@ build_decoders() {
     g++ -O2 -o "$room/squish" "$top/oracle/squish.cpp" -lsquish || die "squish.cpp does not build"
 }
 
-# The example pictures as Debian's nvcompress encodes them, in BC1 without and with alpha and in BC3.
+# The example pictures as Debian's nvcompress encodes them, in BC1 without and with alpha and in BC3, and Godot in BC7.
 encode_pictures() {
-    install_packages libnvtt-bin
+    install_packages libnvtt-bin godot3-server
     desktop=$room/desktop
     rm -rf "$desktop" && mkdir -p "$desktop"
     for picture in "$top"/examples/*.png; do
@@ -98,6 +98,10 @@ encode_pictures() {
             nvcompress "-$format" -nomips "$picture" "$desktop/$(basename "$picture" .png)-$format.dds" >"$room/nvcompress.log" 2>&1 ||
                 die "nvcompress fails (target/oracle/nvcompress.log says why)"
         done
+        # Godot keeps logs in the folder that it is run in
+        (cd "$room" && HOME=$room godot3-server --no-window -s "$top/oracle/encode.gd" "$picture" \
+            "$desktop/$(basename "$picture" .png)-bc7.dds") >"$room/godot.log" 2>&1 ||
+            die "godot3-server fails (target/oracle/godot.log says why)"
     done
 }
 
@@ -144,12 +148,11 @@ listed() {
 # Options of all three commands. ORACLE_CRATE and ORACLE_PROGRAM say the same as
 # --crate and --program.
 take_options() {
-    seed=1 blocks=300000 source=$top/../shared/docs/src eleven='' day=$(date -u +%F)
+    seed=1 blocks=300000 source=$top/../shared/docs/src only='' day=$(date -u +%F)
     crate=${ORACLE_CRATE:-answers} program=${ORACLE_PROGRAM:-}
     while [ $# -gt 0 ]; do
         case $1 in
-        --eleven) eleven=--eleven && shift && continue ;;
-        --seed | --blocks | --source | --crate | --program | --date) [ $# -gt 1 ] || die "$1 wants a value" ;;
+        --seed | --blocks | --source | --crate | --program | --date | --only) [ $# -gt 1 ] || die "$1 wants a value" ;;
         *) die "unknown option $1" ;;
         esac
         case $1 in
@@ -157,6 +160,7 @@ take_options() {
         --blocks) blocks=$2 ;;
         --source) source=$2 ;;
         --date) day=$2 ;;
+        --only) only=$2 ;;
         --crate) crate=$2 ;;
         --program) program=$2 ;;
         esac

@@ -1,4 +1,4 @@
-/* Mesa as a decoder, speaking PROTOCOL.md for the eleven picture readers that have a format,
+/* Mesa as a decoder, speaking PROTOCOL.md for the twelve picture readers that have a format,
    and accepted cases alone. Textures go in compressed; a shader hands out the bits of each texel as
    whole numbers, so nothing is rounded on the way back. Eight-bit formats come back as
    pixel words. Of EAC an element is red16 + 65536 * green16, the sixteen bits that Mesa
@@ -14,10 +14,10 @@
 
 enum { MOST_DATA = 262144, MOST_IMAGE = 65536 };
 
-/* By the numbers of the readers; the first is ETC1 from its own extension, the last three are those of S3TC. */
-enum { S3TC = 34, READERS = 37 };
+/* By the numbers of the readers; the first is ETC1 from its own extension, then three are those of S3TC, and the last is BPTC's. */
+enum { S3TC = 34, READERS = 38 };
 static const GLenum FORMAT[READERS] = {0x8D64, 0x9274, 0x9276, 0x9278, 0x9270, 0x9271, 0x9272, 0x9273,
-                                       [S3TC] = 0x83F0, 0x83F1, 0x83F3};
+                                       [S3TC] = 0x83F0, 0x83F1, 0x83F3, 0x8E8C};
 
 static void need(int fact, const char *what)
 {

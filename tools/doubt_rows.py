@@ -15,7 +15,7 @@ import sys
 from doubt_text import HOLD, NUMERAL, Module, Unreadable
 
 sys.setrecursionlimit(30000)
-TESTS = ["Sheets", "Pieces", "Held", "Censuses", "Bakings"]  # the files of proofs/ whose `hold` is a test that computes
+TESTS = ["Sheets", "Pieces", "Held", "Censuses", "Bakings", "BitReads", "Eleven"]  # the files of proofs/ whose `hold` is a test that computes
 FLOATS = {"Floats", "Degrees"}  # the files of specs/ whose rows are of floats, which are not computed here
 LATE = {("Answers", "judged"): 1}  # the parameter that is computed only where it is needed: what comes after the checks
 MOST_BITS = 4096  # of a number that is worth computing
@@ -116,7 +116,7 @@ class File:
         self.made = {name for text in data for name in re.findall(r"^ +(\S+) :", text, re.M)}
 
     def parameters(self, clause):
-        depth, count = 0, 0
+        depth, count = 0, len(clause.given)
         for token in clause.parameters:
             count += depth == 0 and token.text != ")"
             depth += (token.text == "(") - (token.text == ")")
@@ -135,7 +135,7 @@ class Writer:
     """Writes a definition of one file as Python."""
 
     def __init__(self, files, file):
-        self.files, self.file = files, file
+        self.files, self.file, self.within = files, file, None
 
     # a definition's file and name, a constructor's name, or a name of the kit's
     def meaning(self, name):
@@ -158,6 +158,7 @@ class Writer:
         raise Unreadable(f"'{name}'")
 
     def definition(self, name):
+        self.within = name
         clauses = [clause for clause in self.file.module.clauses if clause.name == name]
         function, count = python(self.file.part, self.file.module.name, name), self.file.counts[name]
         if count == 0:
@@ -177,7 +178,7 @@ class Writer:
         )
 
     def clause(self, clause):
-        words, tests, bound, place = [token.text for token in clause.parameters], [], {}, 0
+        words, tests, bound, place = clause.given + [token.text for token in clause.parameters], [], {}, 0
         late = LATE.get((self.file.module.name, clause.name))
         while words:
             self.pattern(words, f"a{place}()" if place == late else f"a{place}", tests, bound)
@@ -252,6 +253,8 @@ class Writer:
             count, form = LIBRARY[name]
         else:
             count, function = home.counts[name], python(home.part, home.module.name, name)
+            unsaid = home.module.unsaid(name, self.within) if home is self.file else 0
+            arguments = [variable(given) for given, _ in home.module.groups[name][:unsaid]] + arguments if unsaid else arguments
             late = LATE.get((home.module.name, name))
             form = f"{function}({', '.join('lambda: {%d}' % at if at == late else '{%d}' % at for at in range(count))})"
         if len(arguments) >= count:

@@ -15,6 +15,7 @@ TOKEN = re.compile(r"(?P<space>\s+|--[^\n]*)|(?P<mark>[(){};,@.])|(?P<word>WORD(
 NUMERAL = re.compile(r"0x[0-9A-Fa-f_]+|[0-9][0-9_]*")
 HEAD = re.compile(r"(?:(?:unfoldable|abbrev|pub) )*(?P<name>[^\s:]+)(?: \{[^}]*\})? : (?P<type>.*)")
 DATA = re.compile(r"(?:pub )?data ")  # it has constructors, and no body to change
+GROUP = re.compile(r"module _(?P<parameters>(?: \([^()]*\))+) where\n")  # definitions that share their first parameters
 RECORD = re.compile(r"(?:pub )?record (?P<name>\S+)(?P<parameters>.*) : Type 0 where")
 HOLD = re.compile(r"^hold : T (?P<test>.*)\n(?:unfolding .*\n(?:[ ]+.*\n)*)?hold = tt\n", re.M)  # the test of a file of specimens
 FIELD = re.compile(r" +(?:pub )?(?P<name>\S+) : ")
@@ -23,8 +24,8 @@ Token = collections.namedtuple("Token", "text start end")
 # kind: number, name, apply, infix, lambda, let, group, field, record; parts: the nodes below; text: the name, the operator,
 # or the names that are bound or given
 Node = collections.namedtuple("Node", "kind start end parts text")
-# a clause: its parameters' tokens (of a record their types, by name), and the body's node
-Clause = collections.namedtuple("Clause", "name parameters body start")
+# a clause: its parameters' tokens (of a record their types, by name), the body's node, and the names that a group gives it before
+Clause = collections.namedtuple("Clause", "name parameters body start given")
 Change = collections.namedtuple("Change", "module name start end new kind before after line")
 
 
@@ -42,6 +43,11 @@ def tokens(text, start, end):
             found.append(Token(match.group(), match.start(), match.end()))
         start = match.end()
     return found
+
+
+# The names and types of parameters that are written (a b : A) (c : B).
+def typed(text):
+    return [(name, kind) for names, kind in re.findall(r"\(([^:]*) : ([^()]*)\)", text) for name in names.split()]
 
 
 class Reader:
@@ -143,47 +149,55 @@ class Module:
         self.brought = {}
         for module, names in re.findall(r"^use (\S+)\.\{(.*)\}$", self.text, re.M):
             self.brought.update({name.split()[-1]: (module, name.split()[0]) for name in names.split(",")})
-        self.types, self.clauses, self.unread = {}, [], []
+        self.types, self.clauses, self.unread, self.groups = {}, [], [], {}
         self.read()
 
     def line(self, at):
         return self.text.count("\n", 0, at) + 1
 
-    # A declaration starts at the margin, and what is indented below belongs to it.
-    def read(self):
-        for match in re.finditer(r"^(?![ \n])(?!--)(?!use )(?!pub mod).*\n(?:[ ]+.*\n|\n(?=[ ]))*", self.text, re.M):
-            text = match.group()
+    # A declaration starts at the margin, and what is indented below belongs to it; in a group the margin is two spaces.
+    def read(self, start=0, end=None, margin="", given=()):
+        one = rf"^{margin}(?![ \n])(?!--)(?!use )(?!pub mod).*\n(?:{margin}[ ]+.*\n|\n(?={margin}[ ]))*"
+        for match in re.compile(one, re.M).finditer(self.text, start, len(self.text) if end is None else end):
+            text = match.group()[len(margin):]
             try:
-                self.declaration(text, match.start())
+                self.declaration(text, match.start() + len(margin), given)
             except Unreadable as fault:
                 self.unread.append((self.line(match.start()), str(fault)))
 
-    def declaration(self, text, start):
-        record, head = RECORD.match(text), HEAD.match(text)
+    def declaration(self, text, start, given):
+        record, head, group = RECORD.match(text), HEAD.match(text), GROUP.match(text)
         if record:
             self.record(record, text, start)
+        elif group:
+            self.read(start + group.end(), start + len(text), "  ", typed(group["parameters"]))
         elif text.startswith("unfolding ") or DATA.match(text):
             return
         elif head:
-            self.types[head["name"]] = " ".join(head["type"].split())
+            self.types[head["name"]] = " → ".join([kind for _, kind in given] + [" ".join(head["type"].split())])
+            self.groups[head["name"]] = given
         else:
-            self.clause(text, start)
+            self.clause(text, start, [name for name, _ in given])
+
+    # How many parameters of a definition go without saying in another: those of the group that both are in.
+    def unsaid(self, name, within):
+        given = self.groups.get(name) or ()
+        return len(given) if given is self.groups.get(within) else 0
 
     def record(self, head, text, start):
-        groups = re.findall(r"\(([^:]*) : ([^()]*)\)", head["parameters"])
-        parameters = {name: kind for names, kind in groups for name in names.split()}
+        parameters = dict(typed(head["parameters"]))
         at = head.end()
         for line in text[at:].splitlines(keepends=True):
             field = FIELD.match(line)
             if field:
                 body = Reader(self.text, tokens(self.text, start + at + field.end(), start + at + len(line))).whole()
-                self.clauses.append(Clause(head["name"], parameters, body, start + at))
+                self.clauses.append(Clause(head["name"], parameters, body, start + at, []))
             at += len(line)
 
-    def clause(self, text, start):
+    def clause(self, text, start, given):
         found = tokens(self.text, start, start + len(text))
         places = [at for at, token in enumerate(found) if token.text == "="]
         if not places or found[0].text not in self.types:
             raise Unreadable(f"'{found[0].text}' is neither a type nor a clause")
         body = Reader(self.text, found[places[0] + 1:]).whole()
-        self.clauses.append(Clause(found[0].text, found[1:places[0]], body, start))
+        self.clauses.append(Clause(found[0].text, found[1:places[0]], body, start, given))

@@ -2,8 +2,8 @@
 
 For each example: the PNG is read by PIL, by netpbm's pngtopam and by this script's own few lines over zlib, and all three have
 the same pixels. For each bad file: the exit status is the number of the refusal, a sentence goes to standard error, and nothing
-is left behind. tools/try_files.py has what must not happen to files, and tools/try_build.py how the program is built and
-installed. Its last line is 'N passed, M failed'.
+is left behind. tools/try_levels.py has levels, keys and bare blocks, tools/try_files.py what must not happen to files, and
+tools/try_build.py how the program is built and installed. Its last line is 'N passed, M failed'.
 """
 import os
 import struct
@@ -16,6 +16,7 @@ from PIL import Image
 
 import try_build
 import try_files
+import try_levels
 from try_common import COUNT, TOP, note, unpack
 
 
@@ -178,9 +179,10 @@ def refusals(room):
         (["--help", "--version"], 32),
         (["--version"], 0),
         (["--raw", "dxt1", "4", "4", old, out], 23),
-        (["--raw", "etc1", "four", "4", old, out], 24),
+        (["--raw", "etc1", "four", "4", old, out], 39),
         (["--raw", "etc1", "64", "64", old, out], 2),
-        (["--raw", "eac-rg", "8", "8", old, out], 0),
+        (["--raw", "eac-rg", "8", "8", old, out], 40),
+        (["--raw", "eac-rg", "8", "8", "--more", old, out], 0),
         ([os.path.join(room, "nothing"), out], 30),
         (["", out], 30),
         ([old, os.path.join(room, "no", "folder.png")], 31),
@@ -197,6 +199,7 @@ def main():
         refusals(room)
         leftovers(room)
         opaques(room)
+    try_levels.cases()
     try_files.cases()
     try_build.cases()
     print("%d passed, %d failed" % (COUNT[True], COUNT[False]))

@@ -118,6 +118,13 @@ pub const FORMATS: [Format; 12] = [
         given: given::decode_bc3,
         limit: 0.90,
     },
+    Format {
+        name: "BC7",
+        halves: &[Half::Bc7, Half::Bc7Rest],
+        library: yalivucu::decode_bc7,
+        pitched: Some(yalivucu::decode_bc7_pitched),
+        given: given::decode_bc7,
+    },
 ];
 
 /// A block reader on one block after the other, each with sixteen elements of its own.

@@ -9,6 +9,7 @@ mod formats;
 mod gap;
 mod pieces;
 mod sheet;
+mod whole;
 
 use blocks::Random;
 use formats::{Format, FORMATS};
@@ -49,6 +50,7 @@ fn main() {
             alike &= pieces::print(name, format, SIDE, TURNS, &data);
         }
         println!();
+        alike &= whole::print(make);
         alike &= gap::print(title, make);
         alike &= bands::print(title, make);
     }

@@ -49,6 +49,7 @@ static void pictures(void)
         {"bc1", yalivucu_decode_bc1, 8, 0xff000000},
         {"bc1a", yalivucu_decode_bc1a, 8, 0xff000000},
         {"bc3", yalivucu_decode_bc3, 16, 0x00000000},
+        {"bc7", yalivucu_decode_bc7, 16, 0x00000000},
     };
     for (size_t k = 0; k < sizeof row / sizeof *row; k++) {
         clear();
@@ -84,6 +85,7 @@ static void pitched(void)
         {"bc1_pitched", yalivucu_decode_bc1_pitched, 8, 0xff000000},
         {"bc1a_pitched", yalivucu_decode_bc1a_pitched, 8, 0xff000000},
         {"bc3_pitched", yalivucu_decode_bc3_pitched, 16, 0x00000000},
+        {"bc7_pitched", yalivucu_decode_bc7_pitched, 16, 0x00000000},
     };
     for (size_t k = 0; k < sizeof row / sizeof *row; k++) {
         const char *name = row[k].name;
@@ -101,6 +103,35 @@ static void pitched(void)
         same(name, row[k].read(ZERO, row[k].size, 3, 2, 5, image, 8), YALIVUCU_DONE);
         for (size_t at = 0; at < 8; at++) same(name, image[at], at % 5 < 3 ? row[k].first : STOOD);
         untouched(name, 8);
+    }
+}
+
+/* Whole values: S13's block, a signed one, and of red and green 3 by 2 pixels in rows of 5: two numbers a pixel. */
+static void wholes(void)
+{
+    static const uint8_t block[16] = {0x80, 0x10, 0, 0, 0, 0, 0, 0, 0x01, 0x10};
+    uint16_t wide[20];
+    int16_t narrow[20];
+    for (int k = 0; k < 20; k++) wide[k] = 0x1111, narrow[k] = 0x1111;
+    same("eacr11, too large", yalivucu_decode_eacr11(block, 8, 65537, 0, wide, 20), YALIVUCU_TOO_LARGE);
+    same("eacr11, short pitch", yalivucu_decode_eacr11_pitched(block, 8, 3, 2, 2, wide, 20), YALIVUCU_SHORT_PITCH);
+    same("eacr11, short", yalivucu_decode_eacr11(block, 7, 4, 4, wide, 16), YALIVUCU_SHORT_DATA);
+    same("eacr11, short image", yalivucu_decode_eacr11(block, 8, 4, 4, wide, 15), YALIVUCU_SHORT_IMAGE);
+    same("eacrg11, short", yalivucu_decode_eacrg11(block, 15, 3, 2, wide, 12), YALIVUCU_SHORT_DATA);
+    same("eacrg11, short image", yalivucu_decode_eacrg11_pitched(block, 16, 3, 2, 5, wide, 15), YALIVUCU_SHORT_IMAGE);
+    same("eacrg11, no pixels", yalivucu_decode_eacrg11_signed(NULL, 0, 0, 65536, NULL, 0), YALIVUCU_DONE);
+    for (int k = 0; k < 20; k++) same("eac11, refused", wide[k], 0x1111);
+    same("eacr11", yalivucu_decode_eacr11(block, 8, 4, 4, wide, 20), YALIVUCU_DONE);
+    for (int k = 0; k < 20; k++) same("eacr11", wide[k], k < 16 ? 1004 : 0x1111);
+    same("eacr11_signed", yalivucu_decode_eacr11_signed_pitched(block + 8, 8, 3, 2, 5, narrow, 8), YALIVUCU_DONE);
+    for (int k = 0; k < 20; k++) same("eacr11_signed", (uint32_t)narrow[k], k < 8 && k % 5 < 3 ? (uint32_t)-16 : 0x1111);
+    for (int k = 0; k < 20; k++) wide[k] = 0x1111, narrow[k] = 0x1111;
+    same("eacrg11", yalivucu_decode_eacrg11_pitched(block, 16, 3, 2, 5, wide, 16), YALIVUCU_DONE);
+    same("eacrg11_signed", yalivucu_decode_eacrg11_signed_pitched(block, 16, 3, 2, 5, narrow, 16), YALIVUCU_DONE);
+    for (int k = 0; k < 20; k++) {
+        const int shown = k < 16 && k / 2 % 5 < 3;
+        same("eacrg11", wide[k], !shown ? 0x1111 : k % 2 ? 0 : 1004);
+        same("eacrg11_signed", (uint32_t)narrow[k], !shown ? 0x1111 : (uint32_t)(k % 2 ? -16 : -1023));
     }
 }
 
@@ -223,6 +254,7 @@ static void blocks(void)
         {"bc1_block", yalivucu_decode_bc1_block, 8, 0xff000000},
         {"bc1a_block", yalivucu_decode_bc1a_block, 8, 0xff000000},
         {"bc3_block", yalivucu_decode_bc3_block, 16, 0x00000000},
+        {"bc7_block", yalivucu_decode_bc7_block, 16, 0x00000000},
     };
     for (size_t k = 0; k < sizeof row / sizeof *row; k++) {
         clear();
@@ -272,6 +304,19 @@ static void desktop(void)
     same("bc3_alpha", yalivucu_decode_bc3_alpha(block, 8, 2, image, MOST), YALIVUCU_DONE);
     same("bc3_alpha, red", image[15], 0x11ff1111);
     untouched("bc3_alpha", 16);
+}
+
+/* A BC7 block of mode 6 whose one colour has all bits set, then of mode 5 with alpha 0 in the place of red. */
+static void bptc(void)
+{
+    const uint8_t white[16] = {0xc0, 0xff, 0xff, 0xff, 0xff, 0xff, 0xff, 0xff, 0x01};
+    const uint8_t turned[16] = {0x60, 0xff, 0xff, 0xff, 0xff, 0xff, 0x03};
+    clear();
+    same("bc7", yalivucu_decode_bc7(white, 16, 4, 4, image, MOST), YALIVUCU_DONE);
+    same("bc7, mode 6", image[15], 0xffffffff);
+    same("bc7", yalivucu_decode_bc7_block(turned, 16, image, 16), YALIVUCU_DONE);
+    same("bc7, mode 5", image[15], 0xff00ffff);
+    untouched("bc7", 16);
 }
 
 /* Blocks of the specimens: individual, differential, T, H, planar; and T with its bit clear. */
@@ -394,6 +439,7 @@ static void pieces(void)
         {"pieces_bc1", yalivucu_pieces_bc1, yalivucu_decode_bc1_pitched, 8},
         {"pieces_bc1a", yalivucu_pieces_bc1a, yalivucu_decode_bc1a_pitched, 8},
         {"pieces_bc3", yalivucu_pieces_bc3, yalivucu_decode_bc3_pitched, 16},
+        {"pieces_bc7", yalivucu_pieces_bc7, yalivucu_decode_bc7_pitched, 16},
     };
     uint8_t data[67];
     uint32_t plain[MOST];
@@ -486,12 +532,14 @@ int main(void)
     pictures();
     pitched();
     nothing();
+    wholes();
     strict();
     strict_pitched();
     opaque();
     blocks();
     channels();
     desktop();
+    bptc();
     censuses();
     baking();
     sheets();

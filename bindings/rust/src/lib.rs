@@ -1,4 +1,4 @@
-//! ETC1, ETC2, EAC, BC1 and BC3 textures, read by code that is proved to follow the public rules: a
+//! ETC1, ETC2, EAC, BC1, BC3 and BC7 textures, read by code that is proved to follow the public rules: a
 //! drop-in for those parts of `texture2ddecoder`, with its function names and their exact types.
 //!
 //! A viewer moves over by one line of `Cargo.toml`, and its source does not change:
@@ -42,6 +42,7 @@ mod refusal;
 mod sheet;
 mod sys;
 pub mod typed;
+mod whole;
 
 use typed::{Format, Picture, Refusal};
 
@@ -177,6 +178,8 @@ pictures! {
     decode_bc1a, decode_bc1a_pitched = Bc1Alpha;
     /// Reads a BC3 picture, in blocks of 16 bytes.
     decode_bc3, decode_bc3_pitched = Bc3;
+    /// Reads a BC7 picture, in blocks of 16 bytes.
+    decode_bc7, decode_bc7_pitched = Bc7;
 }
 
 blocks! {
@@ -202,6 +205,8 @@ blocks! {
     decode_bc1a_block = of(Format::Bc1Alpha);
     /// Reads a BC3 block of 16 bytes into the elements 0 to 15, row by row.
     decode_bc3_block = of(Format::Bc3);
+    /// Reads a BC7 block of 16 bytes into the elements 0 to 15, row by row.
+    decode_bc7_block = of(Format::Bc7);
     /// Reads an alpha half of 8 bytes into the top bytes of the elements 0 to 15, and keeps
     /// the rest of them.
     decode_etc2_a8_block = typed::read_alpha;

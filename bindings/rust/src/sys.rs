@@ -2,6 +2,7 @@
 //! pointer and its length.
 
 pub type Picture = unsafe extern "C" fn(*const u8, usize, usize, usize, usize, *mut u32, usize) -> u32;
+pub type Whole<T> = unsafe extern "C" fn(*const u8, usize, usize, usize, usize, *mut T, usize) -> u32;
 pub type Guarded = unsafe extern "C" fn(*const u8, usize, usize, usize, usize, *mut u32, usize, *mut usize) -> u32;
 pub type Start = unsafe extern "C" fn(usize, usize, usize, *const u32, usize, *mut [usize; 5], *mut [u8; 15]) -> u32;
 pub type Block = unsafe extern "C" fn(*const u8, usize, *mut u32, usize) -> u32;
@@ -10,6 +11,11 @@ pub type Channel = unsafe extern "C" fn(*const u8, usize, usize, *mut u32, usize
 macro_rules! declared {
     ($($name:ident)*) => {$(
         pub fn $name(data: *const u8, data_len: usize, width: usize, height: usize, pitch: usize, image: *mut u32, image_len: usize) -> u32;
+    )*};
+}
+macro_rules! declared_whole {
+    ($($name:ident: $number:ty,)*) => {$(
+        pub fn $name(data: *const u8, data_len: usize, width: usize, height: usize, pitch: usize, image: *mut $number, image_len: usize) -> u32;
     )*};
 }
 macro_rules! declared_block {
@@ -46,6 +52,13 @@ extern "C" {
         yalivucu_decode_bc1_pitched
         yalivucu_decode_bc1a_pitched
         yalivucu_decode_bc3_pitched
+        yalivucu_decode_bc7_pitched
+    }
+    declared_whole! {
+        yalivucu_decode_eacr11_pitched: u16,
+        yalivucu_decode_eacr11_signed_pitched: i16,
+        yalivucu_decode_eacrg11_pitched: u16,
+        yalivucu_decode_eacrg11_signed_pitched: i16,
     }
     declared_block! {
         yalivucu_decode_etc1_block
@@ -59,6 +72,7 @@ extern "C" {
         yalivucu_decode_bc1_block
         yalivucu_decode_bc1a_block
         yalivucu_decode_bc3_block
+        yalivucu_decode_bc7_block
         yalivucu_decode_etc2_a8_block
     }
     declared_channel! {
@@ -78,6 +92,7 @@ extern "C" {
         yalivucu_start_bc1
         yalivucu_start_bc1a
         yalivucu_start_bc3
+        yalivucu_start_bc7
     }
     declared_census! {
         yalivucu_census_etc2_rgb

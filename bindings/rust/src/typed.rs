@@ -18,6 +18,7 @@ pub use crate::degrees::{degrees, Legend, Reading};
 pub use crate::pieces::{Pieces, Taken};
 pub use crate::refusal::Refusal;
 pub use crate::sheet::{read_sheet, sheet_head, write_sheet, Head};
+pub use crate::whole::{decode_eacr11, decode_eacr11_signed, decode_eacrg11, decode_eacrg11_signed};
 use crate::sys;
 
 /// The formats that can be read.
@@ -46,11 +47,13 @@ pub enum Format {
     Bc1Alpha,
     /// BC3, in blocks of 16 bytes; always four colours, and eight bits of alpha.
     Bc3,
+    /// BC7, in blocks of 16 bytes; a block without a mode is 0.
+    Bc7,
 }
 
 impl Format {
     /// Every format.
-    pub const ALL: [Format; 11] = [
+    pub const ALL: [Format; 12] = [
         Format::Etc1,
         Format::Etc2Rgb,
         Format::Etc2Rgba1,
@@ -62,6 +65,7 @@ impl Format {
         Format::Bc1,
         Format::Bc1Alpha,
         Format::Bc3,
+        Format::Bc7,
     ];
 
     /// The bytes of a block.
@@ -71,7 +75,7 @@ impl Format {
     /// ```
     pub const fn block_size(self) -> usize {
         match self {
-            Format::Etc2Rgba8 | Format::EacRg | Format::EacRgSigned | Format::Bc3 => 16,
+            Format::Etc2Rgba8 | Format::EacRg | Format::EacRgSigned | Format::Bc3 | Format::Bc7 => 16,
             _ => 8,
         }
     }
@@ -89,6 +93,7 @@ impl Format {
             Format::Bc1 => sys::yalivucu_decode_bc1_pitched,
             Format::Bc1Alpha => sys::yalivucu_decode_bc1a_pitched,
             Format::Bc3 => sys::yalivucu_decode_bc3_pitched,
+            Format::Bc7 => sys::yalivucu_decode_bc7_pitched,
         }
     }
 
@@ -105,6 +110,7 @@ impl Format {
             Format::Bc1 => sys::yalivucu_start_bc1,
             Format::Bc1Alpha => sys::yalivucu_start_bc1a,
             Format::Bc3 => sys::yalivucu_start_bc3,
+            Format::Bc7 => sys::yalivucu_start_bc7,
         }
     }
 
@@ -121,6 +127,7 @@ impl Format {
             Format::Bc1 => sys::yalivucu_decode_bc1_block,
             Format::Bc1Alpha => sys::yalivucu_decode_bc1a_block,
             Format::Bc3 => sys::yalivucu_decode_bc3_block,
+            Format::Bc7 => sys::yalivucu_decode_bc7_block,
         }
     }
 }

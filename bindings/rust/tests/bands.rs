@@ -1,24 +1,12 @@
 //! Pictures in bands beside the plain readers: of random sizes and pitches, cut at random, accepted and refused; every
 //! answer and every element must be the plain reader's.
 #![cfg(feature = "std")]
+mod random;
+
+use random::Random;
 use yalivucu::typed::*;
 
-/// Numbers that look like nothing in particular.
-struct Random(u64);
-
 impl Random {
-    fn below(&mut self, n: usize) -> usize {
-        self.0 = self
-            .0
-            .wrapping_mul(6_364_136_223_846_793_005)
-            .wrapping_add(1_442_695_040_888_963_407);
-        ((self.0 >> 33) as usize) % n
-    }
-
-    fn bytes(&mut self, n: usize) -> Vec<u8> {
-        (0..n).map(|_| self.below(256) as u8).collect()
-    }
-
     /// Up to five numbers of rows, bands of none among them; together often fewer than the picture has, or more.
     fn cuts(&mut self) -> Vec<usize> {
         (0..self.below(6)).map(|_| self.below(4)).collect()

@@ -1,24 +1,12 @@
 //! Pictures in pieces beside the plain reader: cut at random thousands of times, ended early, and refused.
+mod random;
+
+use random::Random;
 use yalivucu::typed::{read, Format, Picture, Pieces, Refusal, Taken};
 
 const STOOD: u32 = 0x1111_1111;
 
-/// Numbers that look like nothing in particular.
-struct Random(u64);
-
 impl Random {
-    fn below(&mut self, n: usize) -> usize {
-        self.0 = self
-            .0
-            .wrapping_mul(6_364_136_223_846_793_005)
-            .wrapping_add(1_442_695_040_888_963_407);
-        ((self.0 >> 33) as usize) % n
-    }
-
-    fn bytes(&mut self, n: usize) -> Vec<u8> {
-        (0..n).map(|_| self.below(256) as u8).collect()
-    }
-
     /// A length of a piece: one of those around a block, or any up to so many.
     fn length(&mut self, most: usize) -> usize {
         match self.below(8) {

@@ -22,7 +22,7 @@ fn sheet_of(format: Format, picture: Picture) -> Vec<u8> {
 
 /// The formats that have a number in a sheet, and those that have none.
 fn by_number() -> (Vec<Format>, Vec<Format>) {
-    let none = [Format::Bc1, Format::Bc1Alpha, Format::Bc3];
+    let none = [Format::Bc1, Format::Bc1Alpha, Format::Bc3, Format::Bc7];
     Format::ALL.into_iter().partition(|format| !none.contains(format))
 }
 

@@ -8,7 +8,7 @@ type Channel = fn(&[u8], usize, &mut [u32]);
 
 const STOOD: u32 = 0x1111_1111;
 
-const PICTURES: [(Picture, usize); 11] = [
+const PICTURES: [(Picture, usize); 12] = [
     (decode_etc1, 8),
     (decode_etc2_rgb, 8),
     (decode_etc2_rgba1, 8),
@@ -20,12 +20,13 @@ const PICTURES: [(Picture, usize); 11] = [
     (decode_bc1, 8),
     (decode_bc1a, 8),
     (decode_bc3, 16),
+    (decode_bc7, 16),
 ];
 
 type Pitched = fn(&[u8], usize, usize, usize, &mut [u32]) -> Result<(), &'static str>;
 
 /// The twins that take a pitch, in the same order.
-const PITCHED: [Pitched; 11] = [
+const PITCHED: [Pitched; 12] = [
     decode_etc1_pitched,
     decode_etc2_rgb_pitched,
     decode_etc2_rgba1_pitched,
@@ -37,9 +38,10 @@ const PITCHED: [Pitched; 11] = [
     decode_bc1_pitched,
     decode_bc1a_pitched,
     decode_bc3_pitched,
+    decode_bc7_pitched,
 ];
 
-const BLOCKS: [(Block, usize); 12] = [
+const BLOCKS: [(Block, usize); 13] = [
     (decode_etc1_block, 8),
     (decode_etc2_rgb_block, 8),
     (decode_etc2_rgba1_block, 8),
@@ -52,6 +54,7 @@ const BLOCKS: [(Block, usize); 12] = [
     (decode_bc1_block, 8),
     (decode_bc1a_block, 8),
     (decode_bc3_block, 16),
+    (decode_bc7_block, 16),
 ];
 
 const CHANNELS: [Channel; 3] = [decode_eac_block, decode_eac_signed_block, |data, channel, out| {

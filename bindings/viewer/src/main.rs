@@ -9,7 +9,7 @@ type Reader = fn(&[u8], usize, usize, &mut [u32]) -> Result<(), &'static str>;
 type BlockReader = fn(&[u8], &mut [u32]);
 
 /// A table of function pointers, with the bytes of a block.
-const READERS: [(&str, Reader, usize); 11] = [
+const READERS: [(&str, Reader, usize); 12] = [
     ("etc1", decode_etc1, 8),
     ("etc2_rgb", decode_etc2_rgb, 8),
     ("etc2_rgba1", decode_etc2_rgba1, 8),
@@ -21,6 +21,7 @@ const READERS: [(&str, Reader, usize); 11] = [
     ("bc1", decode_bc1, 8),
     ("bc1a", decode_bc1a, 8),
     ("bc3", decode_bc3, 16),
+    ("bc7", decode_bc7, 16),
 ];
 
 static BLOCK_READERS: &[(&str, BlockReader, usize)] = &[
@@ -36,6 +37,7 @@ static BLOCK_READERS: &[(&str, BlockReader, usize)] = &[
     ("bc1_block", decode_bc1_block, 8),
     ("bc1a_block", decode_bc1a_block, 8),
     ("bc3_block", decode_bc3_block, 16),
+    ("bc7_block", decode_bc7_block, 16),
 ];
 
 const CHANNEL_READERS: [(&str, fn(&[u8], usize, &mut [u32])); 2] = [

@@ -1,13 +1,14 @@
 // The public readers and censuses by the numbers of oracle/PROTOCOL.md.
 use super::census;
 use super::pitched;
+use super::whole;
 use rules::Answer;
 use rules::Picture;
 ghost use Prim.Native.Nat.{_≤_};
 
-// Whether a number names a reader of pictures with a pitch, which stands in the place of a channel.
-fn is_pitched(number: u32) -> bool {
-    number >= 40
+// Whether a number names a reader of whole values.
+fn is_whole(number: u32) -> bool {
+    (8 < number) & (number < 13)
 }
 
 // Calls the reader of a number on the first n bytes and the first m elements.
@@ -36,15 +37,27 @@ fn call(
     data: &[u8],
     image: &mut [u32],
 ) -> Answer {
+    if is_whole(number) {
+        let pic = Picture {
+            width: width,
+            height: height,
+            pitch: width,
+        };
+        return whole::picture(number, data, pic, image);
+    }
     if number <= 13 {
         return picture(number, data, width, height, image);
     }
-    if is_pitched(number) {
+    // the pitch stands in the place of a channel
+    if number >= 40 {
         let pic = Picture {
             width: width,
             height: height,
             pitch: channel,
         };
+        if is_whole(number - 40) {
+            return whole::picture(number - 40, data, pic, image);
+        }
         return pitched::picture(number, data, pic, image);
     }
     if number >= 34 {
@@ -100,7 +113,8 @@ fn desktop(number: u32, data: &[u8], width: usize, height: usize, image: &mut [u
     match number {
         34 => etc::decode_bc1(data, width, height, image),
         35 => etc::decode_bc1a(data, width, height, image),
-        _ => etc::decode_bc3(data, width, height, image),
+        36 => etc::decode_bc3(data, width, height, image),
+        _ => etc::decode_bc7(data, width, height, image),
     }
 }
 
@@ -130,6 +144,7 @@ fn desktop_block(number: u32, channel: usize, data: &[u8], image: &mut [u32]) ->
         27 => etc::decode_bc1_block(data, image),
         28 => etc::decode_bc1a_block(data, image),
         29 => etc::decode_bc3_block(data, image),
-        _ => etc::decode_bc3_alpha(data, channel, image),
+        30 => etc::decode_bc3_alpha(data, channel, image),
+        _ => etc::decode_bc7_block(data, image),
     }
 }

@@ -6,6 +6,7 @@ mod case;
 mod census;
 mod pitched;
 mod replay;
+mod whole;
 
 fn main() {
     let mut head = [0u8; 24];

@@ -22,7 +22,8 @@ fn desktop(number: u32, data: &[u8], pic: Picture, image: &mut [u32]) -> Answer 
     match number {
         74 => etc::decode_bc1_pitched(data, pic, image),
         75 => etc::decode_bc1a_pitched(data, pic, image),
-        _ => etc::decode_bc3_pitched(data, pic, image),
+        76 => etc::decode_bc3_pitched(data, pic, image),
+        _ => etc::decode_bc7_pitched(data, pic, image),
     }
 }
 

@@ -1,2 +1,3 @@
+pub mod Orders
 pub mod Shares
 pub mod Turns

@@ -14,7 +14,8 @@ use Rattle.laws.proofs.Between.{alphas-small}
 use Rattle.laws.proofs.Filled.{build-same, getD-build}
 use Rattle.laws.proofs.Word.{Word, palette-word}
 
-pub eight : {a b c d e f g h a' b' c' d' e' f' g' h' : ℕ} → a ≡ a' → b ≡ b' → c ≡ c' → d ≡ d' → e ≡ e' → f ≡ f' → g ≡ g' → h ≡ h' → a ∷ b ∷ c ∷ d ∷ e ∷ f ∷ g ∷ h ∷ [] ≡ a' ∷ b' ∷ c' ∷ d' ∷ e' ∷ f' ∷ g' ∷ h' ∷ []
+pub eight : {a b c d e f g h a' b' c' d' e' f' g' h' : ℕ} → a ≡ a' → b ≡ b' → c ≡ c' → d ≡ d' → e ≡ e' → f ≡ f' → g ≡ g' → h ≡ h'
+    → a ∷ b ∷ c ∷ d ∷ e ∷ f ∷ g ∷ h ∷ [] ≡ a' ∷ b' ∷ c' ∷ d' ∷ e' ∷ f' ∷ g' ∷ h' ∷ []
 eight p q r s t u v w = rw (p, q, r, s, t, u, v, w)
 
 -- the word of a known channel
@@ -52,7 +53,9 @@ join : (p b : ℕ) → Word p → b < 256 → b * 0x1000000 + p % 0x1000000 ≡ 
 join p b h k = omega arith
 
 -- the two picks of every turn are the block's pixels
-pub shown : (d : List ℕ) (a w : ℕ) (tops hues : List ℕ) → a ≡ halfWord d → w ≡ halfWord (drop 8 d) → tops ≡ build 8 (λ k. getD (alphasIn a) k 0 * 0x1000000) → hues ≡ build 4 (λ k. getD (paletteIn true false w) k 0 % 0x1000000) → build 16 (λ k. getD tops (alphaIndexIn a k) 0 + getD hues (colourIndex w k) 0) ≡ tile bc3Pixel d
+pub shown : (d : List ℕ) (a w : ℕ) (tops hues : List ℕ) → a ≡ halfWord d → w ≡ halfWord (drop 8 d)
+    → tops ≡ build 8 (λ k. getD (alphasIn a) k 0 * 0x1000000) → hues ≡ build 4 (λ k. getD (paletteIn true false w) k 0 % 0x1000000)
+    → build 16 (λ k. getD tops (alphaIndexIn a k) 0 + getD hues (colourIndex w k) 0) ≡ tile bc3Pixel d
 unfolding bc3Pixel bc1Pixel
 shown d a w tops hues ea ew et eh =
     build-same 0 _ _ 16 (λ k h. pixel k)

@@ -1,13 +1,15 @@
 // The BC3 block of src/bcn/bc3.rs. Eight alphas and four colours first, and then two picks for each pixel. The alpha half alone goes into
 // any channel of what stood there.
 ghost use mathlib.Core.Path.{_≡_};
-ghost use mathlib.Core.Bool.{cond};
+ghost use mathlib.Core.Bool.{true, false, cond};
 ghost use Prim.Native.Nat.{ℕ, _+_, _*_, _/_, _%_, _≤_, _<_};
 ghost use lib.Dec.{ltb};
 ghost use lib.ListN.{length, getD};
 ghost use Rattle.rules.specs.Notation.{build, bits};
 ghost use Rattle.rules.specs.Places.{tile};
-ghost use Rattle.rules.specs.Desktop.{alphas as alphasOf, alphasIn, alphaIndexIn, colourIndex, bc3Alpha, replaced, bc3Pixel};
+ghost use Rattle.rules.specs.Desktop.{alphas as alphasOf, alphasIn, alphaIndexIn, colourIndex, bc3Alpha, replaced, bc3Pixel, paletteIn};
+ghost use Rattle.bc1.specs.Lanes.{lane};
+ghost use Rattle.bc3.specs.Lanes.{fifths as fifthsOf, more as moreOf, alphaLane};
 
 fn byte(b: u8) -> u32
     ensures { λ r. ⌜ (r ≡ b) × (r < 256) ⌝ }
@@ -115,18 +117,109 @@ pub fn alpha_onto(d: &[u8], channel: usize, px: [u32; 16]) -> [u32; 16]
     out
 }
 
+// Five times alpha k, where it is one of the fifths.
+fn fifths(a: u16, b: u16, k: u16) -> u16
+    ensures { λ r. ⌜ r ≡ fifthsOf a b k ⌝ }
+{
+    let x = bc1::pick(k, 3, 3, bc1::pick(k, 4, 2, bc1::pick(k, 5, 1, 0)));
+    let y = bc1::pick(k, 3, 2, bc1::pick(k, 4, 3, bc1::pick(k, 5, 4, 0)));
+    bc1::weighed(
+        a,
+        b,
+        bc1::pick(k, 0, 5, bc1::pick(k, 2, 4, x)),
+        bc1::pick(k, 1, 5, bc1::pick(k, 2, 1, y)),
+    )
+}
+
+// What seven times alpha k has more than that, where it is one of the sevenths.
+fn more(a: u16, b: u16, k: u16) -> u16
+    ensures { λ r. ⌜ r ≡ moreOf a b k ⌝ }
+{
+    let x = bc1::pick(k, 1, 0, bc1::pick(k, 7, 1, 2));
+    let y = bc1::pick(k, 1, 2, bc1::pick(k, 6, 5, bc1::pick(k, 7, 6, 0)));
+    bc1::weighed(a, b, x, y)
+}
+
+// Alpha k: c and d are a and b where sevenths are asked for, and else 0, m divides by seven or five, and g goes to the last.
+fn alpha_lane(a: u16, b: u16, c: u16, d: u16, m: u16, g: u16, k: u16) -> u16
+    ensures { λ r. ⌜ r ≡ alphaLane a b c d m g k ⌝ }
+{
+    let sum = bc1::plus(fifths(a, b, k), more(c, d, k));
+    bc1::plus(bc1::high(sum, m), bc1::times(g, bc1::pick(k, 7, 1, 0)))
+}
+
+// The eight alphas twice: a loop of eight turns would be unrolled before it becomes vector code, and the second eight are not used.
+fn alpha_lanes(a: u16, b: u16, c: u16, d: u16, m: u16, g: u16) -> [u16; 16]
+    ensures { λ r. ⌜ r ≡ build 16 (λ i. alphaLane a b c d m g (i % 8)) ⌝ }
+{
+    let mut out = [0u16; 16];
+    let mut i: usize = 0;
+    while i < 16 {
+        out[i] = alpha_lane(a, b, c, d, m, g, (i % 8) as u16);
+        i += 1;
+    }
+    out
+}
+
+fn either_lane(t: bool, x: u16, y: u16) -> u16
+    ensures { λ r. ⌜ r ≡ cond t x y ⌝ }
+{
+    if t { x } else { y }
+}
+
+fn wide(b: u8) -> u16
+    ensures { λ r. ⌜ (r ≡ b) × (r < 256) ⌝ }
+{
+    b as u16
+}
+
+// The alphas of both orders, by one formula.
+fn all_alphas(a: u8, b: u8) -> [u16; 16]
+    ensures { λ r. ⌜ ((k : ℕ) → k < 8 → getD r k 0 ≡ getD (alphasOf (ltb b a) a b) k 0) ⌝ }
+{
+    let p = wide(a);
+    let q = wide(b);
+    let sevenths = is_above(a, b);
+    alpha_lanes(
+        p,
+        q,
+        either_lane(sevenths, p, 0),
+        either_lane(sevenths, q, 0),
+        either_lane(sevenths, 9363, 13108),
+        either_lane(sevenths, 0, 255),
+    )
+}
+
 // The alphas as top bytes, and the colours without theirs: done for eight and four in place of sixteen and sixteen.
-fn tops(a: [u32; 8]) -> [u32; 8]
-    requires { ⌜ ((k : ℕ) → getD a k 0 < 256) ⌝ }
-    ensures { λ r. ⌜ r ≡ build 8 (λ k. getD a k 0 * 0x1000000) ⌝ }
+fn tops(a: [u16; 16]) -> [u32; 8]
+    ensures { λ r. ⌜ r ≡ build 8 (λ k. getD a k 0 % 256 * 0x1000000) ⌝ }
 {
     let mut out = [0u32; 8];
     let mut i: usize = 0;
     while i < 8 {
-        out[i] = a[i] * 0x1000000;
+        out[i] = (a[i] % 256) as u32 * 0x1000000;
         i += 1;
     }
     out
+}
+
+// The four colours of a half, whatever their order, as lanes.
+fn four_lanes(p: u16, q: u16) -> [u8; 16]
+    ensures { λ r. ⌜ r ≡ build 16 (lane 1 0 p q) ⌝ }
+{
+    let mut out = [0u8; 16];
+    let mut i: usize = 0;
+    while i < 16 {
+        out[i] = bc1::lane(1, 0, p, q, i as u16);
+        i += 1;
+    }
+    out
+}
+
+fn palette_in(w: u64) -> [u32; 4]
+    ensures { λ r. ⌜ r ≡ paletteIn true false w ⌝ }
+{
+    bc1::words(four_lanes(bc1::first(w), bc1::second(w)))
 }
 
 fn hues(c: [u32; 4]) -> [u32; 4]
@@ -168,8 +261,8 @@ pub fn bc3_block(d: &[u8]) -> [u32; 16]
     let w = bc1::half_word(&d[8..]);
     both(
         a,
-        tops(alphas_in(a)),
+        tops(all_alphas(first(a), second(a))),
         w,
-        hues(bc1::palette_in(w, true, false)),
+        hues(palette_in(w)),
     )
 }

@@ -40,13 +40,14 @@ fn red_and_green(reader: u8, data: &[u8], image: &mut [u32]) -> Answer {
     }
 }
 
-// Readers 11 to 14.
+// Readers 11 to 15.
 fn desktop(reader: u8, channel: usize, data: &[u8], image: &mut [u32]) -> Answer {
     match reader {
         11 => etc::decode_bc1_block(data, image),
         12 => etc::decode_bc1a_block(data, image),
         13 => etc::decode_bc3_block(data, image),
-        _ => etc::decode_bc3_alpha(data, channel, image),
+        14 => etc::decode_bc3_alpha(data, channel, image),
+        _ => etc::decode_bc7_block(data, image),
     }
 }
 
@@ -135,6 +136,30 @@ fn desktop_specimens() {
     );
 }
 
+// A block of BC7, whose first byte tells its mode.
+fn of_mode(name: &[u8], first: u64) {
+    case(name, 15, 0, first, 0x1F3D5B79_97A6C4E2);
+}
+
+// A block of each mode, and one without.
+fn bc7_specimens() {
+    of_mode(b"bc7, mode 0", 0x5D3A9C71_E4270B86);
+    of_mode(b"bc7, mode 1", 0x5E3A9C71_E4270B86);
+    of_mode(b"bc7, mode 2", 0x5C3A9C71_E4270B86);
+    of_mode(b"bc7, mode 3", 0x583A9C71_E4270B86);
+    of_mode(b"bc7, mode 4", 0xB03A9C71_E4270B86);
+    of_mode(b"bc7, mode 5", 0x603A9C71_E4270B86);
+    of_mode(b"bc7, mode 6", 0x403A9C71_E4270B86);
+    of_mode(b"bc7, mode 7", 0x803A9C71_E4270B86);
+    case(
+        b"bc7, no mode",
+        15,
+        0,
+        0x00FFFFFF_FFFFFFFF,
+        0xFFFFFFFF_FFFFFFFF,
+    );
+}
+
 // One byte joins each channel, in turn; channel 4 and the largest are refused.
 fn channels(reader: u8) {
     let block: u64 = 0x80100005_39770AFF;
@@ -218,8 +243,9 @@ fn main() {
     channels(6);
     desktop_specimens();
     channels(14);
+    bc7_specimens();
     let mut reader: u8 = 0;
-    while reader < 15 {
+    while reader < 16 {
         edges(reader);
         reader += 1;
     }

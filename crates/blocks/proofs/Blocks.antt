@@ -10,7 +10,7 @@ use native.Mathlib.Nat.{eq-or-lt-of-le, div-add-mod', mod-lt, mul-comm, mul-le-m
 use lib.Dec.{T}
 use lib.ListN.{getD}
 use Rattle.rules.specs.Pixel.{Shows}
-use Rattle.rules.specs.Places.{column, row, inside, across, blocks, blockAt, bytesOf, bytesFrom, tile, pixelBy, pictureBy}
+use Rattle.rules.specs.Places.{column, row, inside, across, blocks, blockAt, bytesOf, bytesFrom, tile, pixelBy, painted, pictureBy}
 use Rattle.rules.specs.declared.Picture.{Picture}
 use Rattle.laws.specs.Painted.{Painted}
 use Rattle.laws.proofs.Paint.{none, said, also, is-painted}
@@ -74,6 +74,33 @@ module _ (pic : Picture) where
         mul-comm (across (pic .width)) (across (pic .height)),
       )
 
+  -- one tile more, and all of them, of an image whose element k belongs to pixel `at k`: one element to a pixel, or several
+  module _ (at : ℕ → ℕ) (v : ℕ → ℕ) where
+    pub next-in : (u : ℕ → ℕ) (first b bx by : ℕ) (old mid new : List ℕ)
+        → first ≤ b
+        → Stands (across (pic .width)) b bx by
+        → Painted (λ k. InRun pic first b (at k)) v old mid
+        → Painted (λ k. InTile pic bx by (at k)) u mid new
+        → ((k : ℕ) → blockAt pic (at k) ≡ b → u k ≡ v k)
+        → Painted (λ k. InRun pic first (b + 1) (at k)) v old new
+    next-in u first b bx by old mid new h st a r e =
+        let in-it : (k : ℕ) → InTile pic bx by (at k) → blockAt pic (at k) ≡ b = λ k z. there b bx by st (at k) z in
+        also (λ k. InRun pic first b (at k)) (λ k. InTile pic bx by (at k)) (λ k. InRun pic first (b + 1) (at k)) v old mid new a
+        (said _ _ u v mid new r (λ k z. z) (λ k z. z) (λ k z. e k (in-it k z)))
+        (λ k z. record { within = z .within; from = z .from; to = omega (arith, z .to) })
+        (λ k z. record { within = z .within; from = omega (arith, in-it k z); to = omega (arith, in-it k z) })
+        (λ k z.
+        ⊎-elim (λ q. inr (back b bx by st (at k) (z .within) q))
+        (λ m. inl (record { within = z .within; from = z .from; to = m }, λ o. omega (arith, in-it k o)))
+        (eq-or-lt-of-le {n = blockAt pic (at k)} {m = b} (omega (arith, z .to))))
+
+    pub all-in : (old new : List ℕ) → Painted (λ k. InRun pic 0 (blocks pic) (at k)) v old new → new ≡ painted (λ k. inside pic (at k)) v old
+    all-in old new a =
+        is-painted (λ k. InRun pic 0 (blocks pic) (at k)) (λ k. inside pic (at k)) v old new
+        (λ k i. record { within = i; from = omega arith; to = block-in (at k) i })
+        (λ k z. z .within)
+        a
+
   module _ (shows : Shows) (g : ℕ → List ℕ) where
     -- what the tile of its block has for a pixel
     own : (b k : ℕ) (t : List ℕ) → t ≡ tile shows (g b) → blockAt pic k ≡ b → getD t (numberIn pic k) 0 ≡ pixelBy shows g pic k
@@ -99,23 +126,11 @@ module _ (pic : Picture) where
         → Painted (InTile pic bx by) (λ k. getD t (numberIn pic k) 0) mid new
         → Painted (InRun pic first (b + 1)) (pixelBy shows g pic) old new
     next first b bx by t old mid new h st a q r =
-        let at = there b bx by st in
-        also (InRun pic first b) (InTile pic bx by) (InRun pic first (b + 1)) (pixelBy shows g pic) old mid new a
-        (said _ _ (λ k. getD t (numberIn pic k) 0) (pixelBy shows g pic) mid new r (λ k z. z) (λ k z. z) (λ k z. own b k t q (at k z)))
-        (λ k z. record { within = z .within; from = z .from; to = omega (arith, z .to) })
-        (λ k z. record { within = z .within; from = omega (arith, at k z); to = omega (arith, at k z) })
-        (λ k z.
-        ⊎-elim (λ e. inr (back b bx by st k (z .within) e))
-        (λ m. inl (record { within = z .within; from = z .from; to = m }, λ o. omega (arith, at k o)))
-        (eq-or-lt-of-le {n = blockAt pic k} {m = b} (omega (arith, z .to))))
+        next-in (λ k. k) (pixelBy shows g pic) (λ k. getD t (numberIn pic k) 0) first b bx by old mid new h st a r (λ k e. own b k t q e)
 
     -- all blocks are the picture
     pub all : (old new : List ℕ) → Painted (InRun pic 0 (blocks pic)) (pixelBy shows g pic) old new → new ≡ pictureBy shows g pic old
-    all old new a =
-        is-painted (InRun pic 0 (blocks pic)) (inside pic) (pixelBy shows g pic) old new
-        (λ k i. record { within = i; from = omega arith; to = block-in k i })
-        (λ k z. z .within)
-        a
+    all old new a = all-in (λ k. k) (pixelBy shows g pic) old new a
 
   -- and so they are where the data begins with block 0
   pub whole : (shows : Shows) (s : ℕ) (d old new : List ℕ) → Painted (InRun pic 0 (blocks pic)) (pixelBy shows (bytesFrom s 0 d) pic) old new → new ≡ pictureBy shows (bytesOf s d) pic old

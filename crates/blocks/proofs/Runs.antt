@@ -60,20 +60,26 @@ module _ (pic : Picture) where
   pub run-painted : (a b : ℕ) (v : ℕ → ℕ) (old new : List ℕ) → Painted (InRun pic a b) v old new → new ≡ painted (inRun pic a b) v old
   run-painted a b v old new p = is-painted (InRun pic a b) (inRun pic a b) v old new (tested a b) (tests a b) p
 
-  -- one run, and then the next
+  -- one run, and then the next, of an image whose element k belongs to pixel `at k`
+  pub two-runs-in : (at : ℕ → ℕ) (a b c : ℕ) (v : ℕ → ℕ) (old mid new : List ℕ) → a ≤ b → b ≤ c
+      → Painted (λ k. InRun pic a b (at k)) v old mid
+      → Painted (λ k. InRun pic b c (at k)) v mid new
+      → Painted (λ k. InRun pic a c (at k)) v old new
+  two-runs-in at a b c v old mid new h i p q =
+      also (λ k. InRun pic a b (at k)) (λ k. InRun pic b c (at k)) (λ k. InRun pic a c (at k)) v old mid new p q
+      (λ k z. record { within = z .within; from = z .from; to = omega (arith, z .to) })
+      (λ k z. record { within = z .within; from = omega (arith, z .from); to = z .to })
+      (λ k z.
+      elim (decLt (blockAt pic (at k)) b) [
+        | yes m ↦ inl (record { within = z .within; from = z .from; to = m }, λ o. omega (arith, o .from, m))
+        | no m ↦ inr (record { within = z .within; from = omega (arith, m); to = z .to })
+      ])
+
   pub two-runs : (a b c : ℕ) (v : ℕ → ℕ) (old mid new : List ℕ) → a ≤ b → b ≤ c
       → Painted (InRun pic a b) v old mid
       → Painted (InRun pic b c) v mid new
       → Painted (InRun pic a c) v old new
-  two-runs a b c v old mid new h i p q =
-      also (InRun pic a b) (InRun pic b c) (InRun pic a c) v old mid new p q
-      (λ k z. record { within = z .within; from = z .from; to = omega (arith, z .to) })
-      (λ k z. record { within = z .within; from = omega (arith, z .from); to = z .to })
-      (λ k z.
-      elim (decLt (blockAt pic k) b) [
-        | yes m ↦ inl (record { within = z .within; from = z .from; to = m }, λ o. omega (arith, o .from, m))
-        | no m ↦ inr (record { within = z .within; from = omega (arith, m); to = z .to })
-      ])
+  two-runs = two-runs-in (λ k. k)
 
   -- the same, from other bytes that are equal where they are looked at
   pub other-bytes : (shows : Shows) (a b : ℕ) (g h : ℕ → List ℕ) (old new : List ℕ)

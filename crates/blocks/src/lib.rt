@@ -11,6 +11,7 @@ ghost use Rattle.rules.specs.Places.{tile, bytesOf};
 ghost use Rattle.rules.specs.Modes.{etc1Pixel, rgbPixel, rgba1Pixel};
 ghost use Rattle.rules.specs.Channels.{rgba8Pixel, redPixel, redGreenPixel};
 ghost use Rattle.rules.specs.Desktop.{bc1Pixel, bc3Pixel};
+ghost use Rattle.rules.specs.Bc7.{bc7Pixel};
 ghost use Rattle.rules.specs.Formats.{sizeOf, showsOf};
 ghost use Rattle.blocks.specs.Run.{Whole, PaintsRow};
 
@@ -168,6 +169,20 @@ fn run_bc3(data: &[u8], n: usize, bx: usize, by: usize, pic: Picture, image: &mu
     }
 }
 
+// Paints n blocks of BC7 beside each other, from column bx on in row by.
+fn run_bc7(data: &[u8], n: usize, bx: usize, by: usize, pic: Picture, image: &mut [u32])
+    requires { ⌜ (n * 16 ≤ length (now «data»)) × Whole pic bx by n (length (now image)) ⌝ }
+    ensures { λ _. ⌜ PaintsRow bc7Pixel 16 (now («data» .entry)) pic bx by n (now (image .entry)) (now (image .exit)) ⌝ }
+{
+    let mut i: usize = 0;
+    while i < n {
+        let from = i * 16;
+        let end = from + 16;
+        place::place_whole(bc7::bc7_block(&data[from..end]), bx + i, by, pic, image);
+        i += 1;
+    }
+}
+
 // Paints n blocks of any format beside each other, from column bx on in row by.
 pub fn run(f: Format, data: &[u8], n: usize, bx: usize, by: usize, pic: Picture, image: &mut [u32])
     requires { ⌜ (n * sizeOf f ≤ length (now «data»)) × Whole pic bx by n (length (now image)) ⌝ }
@@ -185,6 +200,7 @@ pub fn run(f: Format, data: &[u8], n: usize, bx: usize, by: usize, pic: Picture,
         Format::Bc1 => run_bc1(false, data, n, bx, by, pic, image),
         Format::Bc1Alpha => run_bc1(true, data, n, bx, by, pic, image),
         Format::Bc3 => run_bc3(data, n, bx, by, pic, image),
+        Format::Bc7 => run_bc7(data, n, bx, by, pic, image),
     }
 }
 

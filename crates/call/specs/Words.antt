@@ -12,7 +12,7 @@ use Rattle.textures.specs.declared.Known.the-variants.{As, Not}
 use Rattle.call.specs.declared.Number.{Number}
 use Rattle.call.specs.declared.Number.the-variants.{Is, None}
 use Rattle.call.specs.declared.Asked.{Asked}
-use Rattle.call.specs.declared.Asked.the-variants.{Picture, Raw, Check, Info, Help, Nothing}
+use Rattle.call.specs.declared.Asked.the-variants.{Picture, Level, Raw, More, Check, Info, Help, Nothing}
 
 -- whether two words are the same
 unfoldable pub same : List ℕ → List ℕ → Bool
@@ -46,19 +46,32 @@ formatOf word =
     (orNamed word (101 ∷ 97 ∷ 99 ∷ 45 ∷ 114 ∷ 103 ∷ 45 ∷ 115 ∷ 105 ∷ 103 ∷ 110 ∷ 101 ∷ 100 ∷ []) EacRgSigned
     Not)))))))
 
--- what the first word asks, where there are so many words with the program's own
+-- what a word asks with one more behind it: "--info", "--check", or it is a file's name
+unfoldable pub ofTwo : List ℕ → Asked
+ofTwo word =
+    cond (same word (45 ∷ 45 ∷ 105 ∷ 110 ∷ 102 ∷ 111 ∷ [])) Info
+    (cond (same word (45 ∷ 45 ∷ 99 ∷ 104 ∷ 101 ∷ 99 ∷ 107 ∷ [])) Check
+    Picture)
+
+-- with three more: "--level"
+unfoldable pub ofFour : List ℕ → Asked
+ofFour word = cond (same word (45 ∷ 45 ∷ 108 ∷ 101 ∷ 118 ∷ 101 ∷ 108 ∷ [])) Level Nothing
+
+-- with five more: "--raw", "--more"
+unfoldable pub ofSix : List ℕ → Asked
+ofSix word =
+    cond (same word (45 ∷ 45 ∷ 114 ∷ 97 ∷ 119 ∷ [])) Raw
+    (cond (same word (45 ∷ 45 ∷ 109 ∷ 111 ∷ 114 ∷ 101 ∷ [])) More
+    Nothing)
+
+-- what the first word asks, where there are so many words with the program's own; "--help" asks alone
 unfoldable pub meantOf : List ℕ → ℕ → Asked
 meantOf word count =
-    -- "--help"
     cond (same word (45 ∷ 45 ∷ 104 ∷ 101 ∷ 108 ∷ 112 ∷ [])) Help
-    -- "--raw"
-    (cond (eqb count 7) (cond (same word (45 ∷ 45 ∷ 114 ∷ 97 ∷ 119 ∷ [])) Raw Nothing)
-    (cond (not (eqb count 3)) Nothing
-    -- "--info"
-    (cond (same word (45 ∷ 45 ∷ 105 ∷ 110 ∷ 102 ∷ 111 ∷ [])) Info
-    -- "--check"
-    (cond (same word (45 ∷ 45 ∷ 99 ∷ 104 ∷ 101 ∷ 99 ∷ 107 ∷ [])) Check
-    Picture))))
+    (cond (eqb count 3) (ofTwo word)
+    (cond (eqb count 5) (ofFour word)
+    (cond (eqb count 7) (ofSix word)
+    Nothing)))
 
 -- the digits 0 to 9
 abbrev pub isDigit : ℕ → Bool

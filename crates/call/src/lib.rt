@@ -3,7 +3,7 @@ use rules::Format;
 use textures::Known;
 ghost use mathlib.Core.Path.{_≡_};
 ghost use Prim.Native.Nat.{_<_};
-ghost use Rattle.call.specs.Words.{same, orNamed, formatOf, meantOf, moreOf, numberOf};
+ghost use Rattle.call.specs.Words.{same, orNamed, formatOf, ofTwo, ofFour, ofSix, meantOf, moreOf, numberOf};
 
 // A number that somebody wrote, or none.
 pub enum Number {
@@ -14,7 +14,9 @@ pub enum Number {
 // What the words ask.
 pub enum Asked {
     Picture,
+    Level,
     Raw,
+    More,
     Check,
     Info,
     Help,
@@ -28,22 +30,10 @@ fn is_word(word: &[u8], other: &[u8]) -> bool
     check::same(word, other)
 }
 
-// What a word asks, where there are so many words with the program's own.
-pub fn meant(word: &[u8], count: usize) -> Asked
-    ensures { λ r. ⌜ r ≡ meantOf (now (word .entry)) count ⌝ }
+// What a word asks with one more behind it.
+fn of_two(word: &[u8]) -> Asked
+    ensures { λ r. ⌜ r ≡ ofTwo (now (word .entry)) ⌝ }
 {
-    if is_word(word, b"--help") {
-        return Asked::Help;
-    }
-    if count == 7 {
-        if is_word(word, b"--raw") {
-            return Asked::Raw;
-        }
-        return Asked::Nothing;
-    }
-    if count != 3 {
-        return Asked::Nothing;
-    }
     if is_word(word, b"--info") {
         return Asked::Info;
     }
@@ -51,6 +41,48 @@ pub fn meant(word: &[u8], count: usize) -> Asked
         return Asked::Check;
     }
     Asked::Picture
+}
+
+// What a word asks with three more behind it.
+fn of_four(word: &[u8]) -> Asked
+    ensures { λ r. ⌜ r ≡ ofFour (now (word .entry)) ⌝ }
+{
+    if is_word(word, b"--level") {
+        return Asked::Level;
+    }
+    Asked::Nothing
+}
+
+// What a word asks with five more behind it.
+fn of_six(word: &[u8]) -> Asked
+    ensures { λ r. ⌜ r ≡ ofSix (now (word .entry)) ⌝ }
+{
+    if is_word(word, b"--raw") {
+        return Asked::Raw;
+    }
+    if is_word(word, b"--more") {
+        return Asked::More;
+    }
+    Asked::Nothing
+}
+
+// What a word asks, where there are so many words with the program's own.
+pub fn meant(word: &[u8], count: usize) -> Asked
+    ensures { λ r. ⌜ r ≡ meantOf (now (word .entry)) count ⌝ }
+{
+    if is_word(word, b"--help") {
+        return Asked::Help;
+    }
+    if count == 3 {
+        return of_two(word);
+    }
+    if count == 5 {
+        return of_four(word);
+    }
+    if count == 7 {
+        return of_six(word);
+    }
+    Asked::Nothing
 }
 
 // The format, where a word is its name, or else what is known already.

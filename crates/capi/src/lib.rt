@@ -13,6 +13,7 @@ ghost use lib.ListN.{length};
 ghost use Rattle.rules.specs.Places.{sized, pitched};
 ghost use Rattle.rules.specs.Readers.{ReadsPicture, ReadsStrict, ReadsOpaque, ReadsBlock, ReadsAlpha, ReadsChannel, ReplacesChannel};
 ghost use Rattle.rules.specs.Census.{rgbTests, rgba1Tests};
+ghost use Rattle.rules.specs.Whole.{ReadsWhole};
 ghost use Rattle.rules.specs.Sheets.{ReadsSheet};
 ghost use Rattle.rules.specs.Pieces.{Ends};
 ghost use Rattle.rules.specs.Checking.{Checks};
@@ -364,6 +365,37 @@ pub extern "C" fn yalivucu_decode_bc3_pitched(
     told::read(Format::Bc3, data, width, height, pitch, image)
 }
 
+// Reads a BC7 picture.
+#[no_mangle]
+pub extern "C" fn yalivucu_decode_bc7(
+    data: &[u8],
+    width: usize,
+    height: usize,
+    image: &mut [u32],
+) -> u32
+    ensures { λ r. ⌜ Told
+        (λ a. ReadsPicture Format.Bc7 (now («data» .entry)) (sized width height) (now (image .entry)) a (now (image .exit)))
+        r ⌝ }
+{
+    told::read(Format::Bc7, data, width, height, width, image)
+}
+
+// The same of a picture with a pitch.
+#[no_mangle]
+pub extern "C" fn yalivucu_decode_bc7_pitched(
+    data: &[u8],
+    width: usize,
+    height: usize,
+    pitch: usize,
+    image: &mut [u32],
+) -> u32
+    ensures { λ r. ⌜ Told
+        (λ a. ReadsPicture Format.Bc7 (now («data» .entry)) (pitched width height pitch) (now (image .entry)) a (now (image .exit)))
+        r ⌝ }
+{
+    told::read(Format::Bc7, data, width, height, pitch, image)
+}
+
 // Reads an ETC1 picture that holds no block out of range. Where it refuses for one, `block` is its number; otherwise `block` stays as it
 // was.
 #[no_mangle]
@@ -410,8 +442,8 @@ pub extern "C" fn yalivucu_decode_etc1_strict_pitched(
     told::strict(data, pic, image, block)
 }
 
-// Reads an ETC2 RGBA1 picture for a viewer that knows ETC2 RGB alone. Where it refuses for a block whose opaque bit is clear, `block` is its
-// number; otherwise `block` stays as it was.
+// Reads an ETC2 RGBA1 picture for a viewer that knows ETC2 RGB alone. Where it refuses for a block whose opaque bit is clear, `block` is
+// its number; otherwise `block` stays as it was.
 #[no_mangle]
 pub extern "C" fn yalivucu_decode_etc2_rgba1_opaque(
     data: &[u8],
@@ -454,6 +486,130 @@ pub extern "C" fn yalivucu_decode_etc2_rgba1_opaque_pitched(
         pitch: pitch,
     };
     told::opaque(data, pic, image, block)
+}
+
+// Reads all eleven bits of an EAC R picture, 0 to 2047, into 16-bit numbers.
+#[no_mangle]
+pub extern "C" fn yalivucu_decode_eacr11(
+    data: &[u8],
+    width: usize,
+    height: usize,
+    image: &mut [u16],
+) -> u32
+    ensures { λ r. ⌜ Told
+        (λ a. ReadsWhole false 1 (now («data» .entry)) (sized width height) (now (image .entry)) a (now (image .exit)))
+        r ⌝ }
+{
+    told::read_whole(false, false, data, width, height, width, image)
+}
+
+// The same of a picture with a pitch, in pixels.
+#[no_mangle]
+pub extern "C" fn yalivucu_decode_eacr11_pitched(
+    data: &[u8],
+    width: usize,
+    height: usize,
+    pitch: usize,
+    image: &mut [u16],
+) -> u32
+    ensures { λ r. ⌜ Told
+        (λ a. ReadsWhole false 1 (now («data» .entry)) (pitched width height pitch) (now (image .entry)) a (now (image .exit)))
+        r ⌝ }
+{
+    told::read_whole(false, false, data, width, height, pitch, image)
+}
+
+// The same of a signed EAC R picture, -1023 to 1023: a negative number is in two's complement.
+#[no_mangle]
+pub extern "C" fn yalivucu_decode_eacr11_signed(
+    data: &[u8],
+    width: usize,
+    height: usize,
+    image: &mut [u16],
+) -> u32
+    ensures { λ r. ⌜ Told
+        (λ a. ReadsWhole true 1 (now («data» .entry)) (sized width height) (now (image .entry)) a (now (image .exit)))
+        r ⌝ }
+{
+    told::read_whole(false, true, data, width, height, width, image)
+}
+
+// The same of a picture with a pitch, in pixels.
+#[no_mangle]
+pub extern "C" fn yalivucu_decode_eacr11_signed_pitched(
+    data: &[u8],
+    width: usize,
+    height: usize,
+    pitch: usize,
+    image: &mut [u16],
+) -> u32
+    ensures { λ r. ⌜ Told
+        (λ a. ReadsWhole true 1 (now («data» .entry)) (pitched width height pitch) (now (image .entry)) a (now (image .exit)))
+        r ⌝ }
+{
+    told::read_whole(false, true, data, width, height, pitch, image)
+}
+
+// Reads all eleven bits of an EAC RG picture: two numbers to a pixel, red then green.
+#[no_mangle]
+pub extern "C" fn yalivucu_decode_eacrg11(
+    data: &[u8],
+    width: usize,
+    height: usize,
+    image: &mut [u16],
+) -> u32
+    ensures { λ r. ⌜ Told
+        (λ a. ReadsWhole false 2 (now («data» .entry)) (sized width height) (now (image .entry)) a (now (image .exit)))
+        r ⌝ }
+{
+    told::read_whole(true, false, data, width, height, width, image)
+}
+
+// The same of a picture with a pitch, in pixels.
+#[no_mangle]
+pub extern "C" fn yalivucu_decode_eacrg11_pitched(
+    data: &[u8],
+    width: usize,
+    height: usize,
+    pitch: usize,
+    image: &mut [u16],
+) -> u32
+    ensures { λ r. ⌜ Told
+        (λ a. ReadsWhole false 2 (now («data» .entry)) (pitched width height pitch) (now (image .entry)) a (now (image .exit)))
+        r ⌝ }
+{
+    told::read_whole(true, false, data, width, height, pitch, image)
+}
+
+// The same of a signed EAC RG picture.
+#[no_mangle]
+pub extern "C" fn yalivucu_decode_eacrg11_signed(
+    data: &[u8],
+    width: usize,
+    height: usize,
+    image: &mut [u16],
+) -> u32
+    ensures { λ r. ⌜ Told
+        (λ a. ReadsWhole true 2 (now («data» .entry)) (sized width height) (now (image .entry)) a (now (image .exit)))
+        r ⌝ }
+{
+    told::read_whole(true, true, data, width, height, width, image)
+}
+
+// The same of a picture with a pitch, in pixels.
+#[no_mangle]
+pub extern "C" fn yalivucu_decode_eacrg11_signed_pitched(
+    data: &[u8],
+    width: usize,
+    height: usize,
+    pitch: usize,
+    image: &mut [u16],
+) -> u32
+    ensures { λ r. ⌜ Told
+        (λ a. ReadsWhole true 2 (now («data» .entry)) (pitched width height pitch) (now (image .entry)) a (now (image .exit)))
+        r ⌝ }
+{
+    told::read_whole(true, true, data, width, height, pitch, image)
 }
 
 // Reads an ETC1 block of 8 bytes into the elements 0 to 15.
@@ -542,6 +698,14 @@ pub extern "C" fn yalivucu_decode_bc3_block(data: &[u8], out: &mut [u32]) -> u32
     ensures { λ r. ⌜ Told (λ a. ReadsBlock Format.Bc3 (now («data» .entry)) (now (out .entry)) a (now (out .exit))) r ⌝ }
 {
     etc::number(etc::decode_bc3_block(data, out))
+}
+
+// Reads a BC7 block of 16 bytes into the elements 0 to 15.
+#[no_mangle]
+pub extern "C" fn yalivucu_decode_bc7_block(data: &[u8], out: &mut [u32]) -> u32
+    ensures { λ r. ⌜ Told (λ a. ReadsBlock Format.Bc7 (now («data» .entry)) (now (out .entry)) a (now (out .exit))) r ⌝ }
+{
+    etc::number(etc::decode_bc7_block(data, out))
 }
 
 // Reads an alpha half of 8 bytes into the top bytes of the elements 0 to 15, and keeps the rest of them.
@@ -712,7 +876,8 @@ pub extern "C" fn yalivucu_start_etc1(
     kept: &mut [u8; 15],
 ) -> u32
     ensures { λ r. ⌜ Told
-        (λ a. StartLent Format.Etc1 (pitched width height pitch) (length (now (image .entry))) a (now (numbers .exit)) (now (kept .exit)))
+        (λ a. StartLent Format.Etc1 (pitched width height pitch) (length (now (image .entry)))
+        a (now (numbers .exit)) (now (kept .exit)))
         r ⌝ }
 {
     let pic = Picture {
@@ -734,7 +899,8 @@ pub extern "C" fn yalivucu_start_etc2_rgb(
     kept: &mut [u8; 15],
 ) -> u32
     ensures { λ r. ⌜ Told
-        (λ a. StartLent Format.Etc2Rgb (pitched width height pitch) (length (now (image .entry))) a (now (numbers .exit)) (now (kept .exit)))
+        (λ a. StartLent Format.Etc2Rgb (pitched width height pitch) (length (now (image .entry)))
+        a (now (numbers .exit)) (now (kept .exit)))
         r ⌝ }
 {
     let pic = Picture {
@@ -756,7 +922,8 @@ pub extern "C" fn yalivucu_start_etc2_rgba1(
     kept: &mut [u8; 15],
 ) -> u32
     ensures { λ r. ⌜ Told
-        (λ a. StartLent Format.Etc2Rgba1 (pitched width height pitch) (length (now (image .entry))) a (now (numbers .exit)) (now (kept .exit)))
+        (λ a. StartLent Format.Etc2Rgba1 (pitched width height pitch) (length (now (image .entry)))
+        a (now (numbers .exit)) (now (kept .exit)))
         r ⌝ }
 {
     let pic = Picture {
@@ -778,7 +945,8 @@ pub extern "C" fn yalivucu_start_etc2_rgba8(
     kept: &mut [u8; 15],
 ) -> u32
     ensures { λ r. ⌜ Told
-        (λ a. StartLent Format.Etc2Rgba8 (pitched width height pitch) (length (now (image .entry))) a (now (numbers .exit)) (now (kept .exit)))
+        (λ a. StartLent Format.Etc2Rgba8 (pitched width height pitch) (length (now (image .entry)))
+        a (now (numbers .exit)) (now (kept .exit)))
         r ⌝ }
 {
     let pic = Picture {
@@ -800,7 +968,8 @@ pub extern "C" fn yalivucu_start_eacr(
     kept: &mut [u8; 15],
 ) -> u32
     ensures { λ r. ⌜ Told
-        (λ a. StartLent Format.EacR (pitched width height pitch) (length (now (image .entry))) a (now (numbers .exit)) (now (kept .exit)))
+        (λ a. StartLent Format.EacR (pitched width height pitch) (length (now (image .entry)))
+        a (now (numbers .exit)) (now (kept .exit)))
         r ⌝ }
 {
     let pic = Picture {
@@ -822,7 +991,8 @@ pub extern "C" fn yalivucu_start_eacr_signed(
     kept: &mut [u8; 15],
 ) -> u32
     ensures { λ r. ⌜ Told
-        (λ a. StartLent Format.EacRSigned (pitched width height pitch) (length (now (image .entry))) a (now (numbers .exit)) (now (kept .exit)))
+        (λ a. StartLent Format.EacRSigned (pitched width height pitch) (length (now (image .entry)))
+        a (now (numbers .exit)) (now (kept .exit)))
         r ⌝ }
 {
     let pic = Picture {
@@ -844,7 +1014,8 @@ pub extern "C" fn yalivucu_start_eacrg(
     kept: &mut [u8; 15],
 ) -> u32
     ensures { λ r. ⌜ Told
-        (λ a. StartLent Format.EacRg (pitched width height pitch) (length (now (image .entry))) a (now (numbers .exit)) (now (kept .exit)))
+        (λ a. StartLent Format.EacRg (pitched width height pitch) (length (now (image .entry)))
+        a (now (numbers .exit)) (now (kept .exit)))
         r ⌝ }
 {
     let pic = Picture {
@@ -866,7 +1037,8 @@ pub extern "C" fn yalivucu_start_eacrg_signed(
     kept: &mut [u8; 15],
 ) -> u32
     ensures { λ r. ⌜ Told
-        (λ a. StartLent Format.EacRgSigned (pitched width height pitch) (length (now (image .entry))) a (now (numbers .exit)) (now (kept .exit)))
+        (λ a. StartLent Format.EacRgSigned (pitched width height pitch) (length (now (image .entry)))
+        a (now (numbers .exit)) (now (kept .exit)))
         r ⌝ }
 {
     let pic = Picture {
@@ -888,7 +1060,8 @@ pub extern "C" fn yalivucu_start_bc1(
     kept: &mut [u8; 15],
 ) -> u32
     ensures { λ r. ⌜ Told
-        (λ a. StartLent Format.Bc1 (pitched width height pitch) (length (now (image .entry))) a (now (numbers .exit)) (now (kept .exit)))
+        (λ a. StartLent Format.Bc1 (pitched width height pitch) (length (now (image .entry)))
+        a (now (numbers .exit)) (now (kept .exit)))
         r ⌝ }
 {
     let pic = Picture {
@@ -910,7 +1083,8 @@ pub extern "C" fn yalivucu_start_bc1a(
     kept: &mut [u8; 15],
 ) -> u32
     ensures { λ r. ⌜ Told
-        (λ a. StartLent Format.Bc1Alpha (pitched width height pitch) (length (now (image .entry))) a (now (numbers .exit)) (now (kept .exit)))
+        (λ a. StartLent Format.Bc1Alpha (pitched width height pitch) (length (now (image .entry)))
+        a (now (numbers .exit)) (now (kept .exit)))
         r ⌝ }
 {
     let pic = Picture {
@@ -932,7 +1106,8 @@ pub extern "C" fn yalivucu_start_bc3(
     kept: &mut [u8; 15],
 ) -> u32
     ensures { λ r. ⌜ Told
-        (λ a. StartLent Format.Bc3 (pitched width height pitch) (length (now (image .entry))) a (now (numbers .exit)) (now (kept .exit)))
+        (λ a. StartLent Format.Bc3 (pitched width height pitch) (length (now (image .entry)))
+        a (now (numbers .exit)) (now (kept .exit)))
         r ⌝ }
 {
     let pic = Picture {
@@ -941,6 +1116,28 @@ pub extern "C" fn yalivucu_start_bc3(
         pitch: pitch,
     };
     etc::number(pieces_lent::start(Format::Bc3, pic, image, numbers, kept))
+}
+
+// Starts to read a BC7 picture in pieces; the caller keeps the state, in the two arrays.
+#[no_mangle]
+pub extern "C" fn yalivucu_start_bc7(
+    width: usize,
+    height: usize,
+    pitch: usize,
+    image: &[u32],
+    numbers: &mut [usize; 5],
+    kept: &mut [u8; 15],
+) -> u32
+    ensures { λ r. ⌜ Told
+        (λ a. StartLent Format.Bc7 (pitched width height pitch) (length (now (image .entry))) a (now (numbers .exit)) (now (kept .exit)))
+        r ⌝ }
+{
+    let pic = Picture {
+        width: width,
+        height: height,
+        pitch: pitch,
+    };
+    etc::number(pieces_lent::start(Format::Bc7, pic, image, numbers, kept))
 }
 
 // Takes a piece of a picture that was started.

@@ -5,11 +5,11 @@ use mathlib.Core.List.{List, []}
 use Prim.Native.Nat.{ℕ, _+_, _*_, _/_, _%_, _<_}
 use native.Mathlib.Omega.{arith}
 use lib.Dec.{eqb, eqb→eq, lit<}
-use lib.IntN.{ℤ, pos, _+ℤ_, _*ℤ_}
+use lib.IntN.{ℤ, pos}
 use lib.ListN.{length, getD}
 use lib.Signed.{mag}
 use mir.Syntax.{w16}
-use Rattle.rules.specs.Notation.{byte, bits, build, clamp}
+use Rattle.rules.specs.Notation.{byte, bits, build}
 use Rattle.rules.specs.Channels.{alphaSteps, alphaIndex, alphaStep}
 use Rattle.laws.proofs.Every.{below}
 use Rattle.laws.proofs.Filled.{getD-build}
@@ -49,7 +49,3 @@ step-held d steps k e h = held-at (stepAt d) steps k e h (omega (arith, small-st
 
 pub step-small : (d : List ℕ) (steps : List ℤ) (k : ℕ) → steps ≡ build 16 (stepAt d) → k < 16 → mag (held w16 (getD steps k (pos 0))) < 16
 step-small d steps k e h = rw (step-held d steps k e h) (small-step d (k % 4) (k / 4))
-
--- a base moved by a multiple of a step, and clamped, is the same where its parts are
-pub moved-same : (top : ℕ) {a b s t : ℤ} {m n : ℕ} → a ≡ b → m ≡ n → s ≡ t → clamp top (a +ℤ pos m *ℤ s) ≡ clamp top (b +ℤ pos n *ℤ t)
-moved-same top e f g = cc

@@ -27,6 +27,7 @@ pub fn size(f: Format) -> usize
         Format::Bc1 => 8,
         Format::Bc1Alpha => 8,
         Format::Bc3 => 16,
+        Format::Bc7 => 16,
     }
 }
 
@@ -79,7 +80,7 @@ pub fn short_data(size: usize, pic: Picture, bytes: usize) -> bool
 }
 
 // Check 6: more bytes than the blocks of a picture have, which is not too large.
-pub fn long_data(size: usize, pic: Picture, bytes: usize) -> bool
+fn long_data(size: usize, pic: Picture, bytes: usize) -> bool
     requires { ⌜ (size ≤ 16) × (pic .width ≤ limit) × (pic .height ≤ limit) ⌝ }
     ensures { λ r. ⌜ r ≡ ltb (blocks pic * size) bytes ⌝ }
 {

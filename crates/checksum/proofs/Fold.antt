@@ -2,10 +2,11 @@
 -- Assumes nothing.
 use mathlib.Core.Path.{_≡_, _∙_, refl, sym, ap}
 use mathlib.Core.List.{List, [], _∷_, _++_}
-use Prim.Native.Nat.{ℕ, _+_, _≤_, _<_}
+use Prim.Native.Nat.{ℕ, _+_, _-_, _≤_, _<_}
 use native.Mathlib.Numerals.{add-one}
-use lib.ListN.{length, getD, drop, drop-of-length-le}
-use lib.Seq.{drop-cons}
+use native.Mathlib.Omega.{arith}
+use lib.ListN.{length, getD, take, drop, drop-of-length-le, take-append-drop}
+use lib.Seq.{drop-cons, drop-drop}
 use Rattle.checksum.specs.Sums.{folded}
 
 module _ (f : ℕ → ℕ → ℕ) where
@@ -27,3 +28,13 @@ module _ (f : ℕ → ℕ → ℕ) where
   unfolding folded
   joined s [] m = refl
   joined s (b ∷ l) m = joined (f s b) l m
+
+  -- what is left to fold, a run of bytes further on
+  pub past : (l : List ℕ) (i e s t : ℕ) → i ≤ e → t ≡ folded f s (take (e - i) (drop i l)) → folded f t (drop e l) ≡ folded f s (drop i l)
+  past l i e s t h k =
+      let run = take (e - i) (drop i l) in
+      let on : e ≡ i + (e - i) = omega arith in
+      ap (λ (z : ℕ). folded f z (drop e l)) k
+      ∙ ap (folded f (folded f s run)) (ap (λ (n : ℕ). drop n l) on ∙ sym (drop-drop (e - i) i l))
+      ∙ sym (joined s run (drop (e - i) (drop i l)))
+      ∙ ap (folded f s) (take-append-drop (e - i) (drop i l))

@@ -1,4 +1,5 @@
 pub mod Table
 pub mod Bytes
 pub mod Fold
+pub mod Adler
 pub mod Known

@@ -1,12 +1,11 @@
 -- The table of remainders is its rule: one computed test over all its entries.
 -- Assumes nothing.
-use mathlib.Core.Path.{_≡_}
 use mathlib.Core.List.{List, [], _∷_}
-use Prim.Native.Nat.{ℕ, _<_}
+use Prim.Native.Nat.{ℕ}
 use lib.Dec.{eqb, eqb→eq}
 use lib.ListN.{getD}
 use Rattle.laws.proofs.Every.{below}
-use Rattle.checksum.specs.Sums.{crcSteps}
+use Rattle.checksum.specs.Sums.{Remainders, crcSteps}
 
 abbrev pub remainders : List ℕ
 remainders =
@@ -44,5 +43,6 @@ remainders =
     ∷ 3009837614 ∷ 3294710456 ∷ 1567103746 ∷ 711928724 ∷ 3020668471 ∷ 3272380065 ∷ 1510334235 ∷ 755167117
     ∷ []
 
-pub remainder : (k : ℕ) → k < 256 → getD remainders k 0 ≡ crcSteps 8 k
+pub remainder : Remainders remainders
+unfolding Remainders
 remainder k h = eqb→eq _ _ (below (λ j. eqb (getD remainders j 0) (crcSteps 8 j)) 256 tt k h)

@@ -1,10 +1,12 @@
 -- CRC-32, as the PNG specification has it, and Adler-32, as RFC 1950 has it.
 -- Assumes nothing.
+use mathlib.Core.Path.{_≡_}
 use mathlib.Core.Bool.{cond}
 use mathlib.Core.List.{List, [], _∷_}
-use Prim.Native.Nat.{ℕ, zero, suc, _+_, _*_, _/_, _%_}
+use Prim.Native.Nat.{ℕ, zero, suc, _+_, _*_, _/_, _%_, _<_}
 use lib.Bits.{bitXor}
 use lib.Dec.{eqb}
+use lib.ListN.{getD}
 
 -- a state, taken through the bytes of a list from left to right
 unfoldable pub folded : (ℕ → ℕ → ℕ) → ℕ → List ℕ → ℕ
@@ -28,6 +30,10 @@ crcSteps (suc n) c = crcSteps n (crcStep c)
 -- a byte joins the remainder, and its eight bits are divided
 unfoldable pub crcByte : ℕ → ℕ → ℕ
 crcByte c b = crcSteps 8 (bitXor c b)
+
+-- a table of what eight steps make of each byte
+unfoldable pub Remainders : List ℕ → Type 0
+Remainders t = (k : ℕ) → k < 256 → getD t k 0 ≡ crcSteps 8 k
 
 abbrev pub crcMore : ℕ → List ℕ → ℕ
 crcMore c l = folded crcByte c l

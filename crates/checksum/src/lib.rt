@@ -1,6 +1,8 @@
 // The two checksums of a PNG: CRC-32 over its chunks, and Adler-32 over what its zlib stream holds.
 ghost use mathlib.Core.Path.{_≡_};
-ghost use Rattle.checksum.specs.Sums.{crcByte, crcMore, crc as crcSum, adlerByte, adlerMore};
+ghost use Prim.Native.Nat.{_+_, _<_, _≤_};
+ghost use lib.ListN.{length};
+ghost use Rattle.checksum.specs.Sums.{Remainders, crcByte, crcMore, crc as crcSum, adlerMore};
 
 // What eight steps make of each byte: a step divides by the polynomial, and this does a byte of steps at once.
 const REMAINDERS: [u32; 256] = [
@@ -262,26 +264,36 @@ const REMAINDERS: [u32; 256] = [
     755167117,
 ];
 
-// The remainder after one byte more.
-fn crc_byte(sum: u32, b: u8) -> u32
+// The remainder after one byte more, by the table. The table is lent: a function that names it copies all of it.
+fn crc_byte(table: &[u32; 256], sum: u32, b: u8) -> u32
+    requires { ⌜ Remainders (now table) ⌝ }
     ensures { λ r. ⌜ r ≡ crcByte sum b ⌝ }
 {
     let mixed = sum ^ b as u32;
     let low = (mixed % 256) as usize;
-    REMAINDERS[low] ^ (mixed / 256)
+    table[low] ^ (mixed / 256)
+}
+
+// The remainder after some bytes more, by the table.
+fn crc_by(table: &[u32; 256], sum: u32, bytes: &[u8]) -> u32
+    requires { ⌜ Remainders (now table) ⌝ }
+    ensures { λ r. ⌜ r ≡ crcMore sum (now (bytes .entry)) ⌝ }
+{
+    let mut now_at = sum;
+    let mut i: usize = 0;
+    while i < bytes.len() {
+        now_at = crc_byte(table, now_at, bytes[i]);
+        i += 1;
+    }
+    now_at
 }
 
 // The remainder after some bytes more.
 pub fn crc_more(sum: u32, bytes: &[u8]) -> u32
     ensures { λ r. ⌜ r ≡ crcMore sum (now (bytes .entry)) ⌝ }
 {
-    let mut now_at = sum;
-    let mut i: usize = 0;
-    while i < bytes.len() {
-        now_at = crc_byte(now_at, bytes[i]);
-        i += 1;
-    }
-    now_at
+    let table = REMAINDERS;
+    crc_by(&table, sum, bytes)
 }
 
 // The CRC-32 of some bytes.
@@ -291,13 +303,31 @@ pub fn crc(bytes: &[u8]) -> u32
     crc_more(0xFFFFFFFF, bytes) ^ 0xFFFFFFFF
 }
 
-// The two sums after one byte more.
-fn adler_byte(sum: u32, b: u8) -> u32
-    ensures { λ r. ⌜ r ≡ adlerByte sum b ⌝ }
+// The two sums after a run of bytes. They are reduced once, behind the last byte, since a division costs more than many sums.
+fn adler_run(sum: u32, run: &[u8]) -> u32
+    requires { ⌜ (0 < length (now run)) × (length (now run) ≤ 4096) ⌝ }
+    ensures { λ r. ⌜ r ≡ adlerMore sum (now (run .entry)) ⌝ }
 {
-    let first = (sum % 0x10000 + b as u32) % 65521;
-    let second = (sum / 0x10000 + first) % 65521;
-    second * 0x10000 + first
+    let mut first = (sum % 0x10000) as u64;
+    let mut second = (sum / 0x10000) as u64;
+    let mut i: usize = 0;
+    while i < run.len() {
+        first += run[i] as u64;
+        second += first;
+        i += 1;
+    }
+    (second % 65521 * 0x10000 + first % 65521) as u32
+}
+
+// Where a run of bytes that begins at a place ends.
+fn run_end(start: usize, len: usize) -> usize
+    requires { ⌜ start < len ⌝ }
+    ensures { λ r. ⌜ (start < r) × (r ≤ len) × (r ≤ start + 4096) ⌝ }
+{
+    if len - start < 4096 {
+        return len;
+    }
+    start + 4096
 }
 
 // The two sums after some bytes more.
@@ -307,8 +337,9 @@ pub fn adler_more(sum: u32, bytes: &[u8]) -> u32
     let mut now_at = sum;
     let mut i: usize = 0;
     while i < bytes.len() {
-        now_at = adler_byte(now_at, bytes[i]);
-        i += 1;
+        let end = run_end(i, bytes.len());
+        now_at = adler_run(now_at, &bytes[i..end]);
+        i = end;
     }
     now_at
 }

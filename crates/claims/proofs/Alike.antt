@@ -12,7 +12,7 @@ use lib.Dec.{T, ltb, eqb}
 use lib.ListN.{length, getD, take, drop, length-take, length-drop}
 use lib.Seq.{take-append-le, drop-append-le}
 use Rattle.rules.specs.Pixel.{Shows}
-use Rattle.rules.specs.Places.{inside, inTile, needed, blocks, blockAt, bytesOf, column, row, pixelAt, pictureBy, Alike, Beside}
+use Rattle.rules.specs.Places.{inside, inTile, needed, blocks, blockAt, bytesOf, column, row, pixelAt, painted, pictureBy, Alike, Beside}
 use Rattle.rules.specs.Answers.{refusal, limitCheck, pitchCheck, dataCheck, imageCheck, pictureChecks, exactChecks, judged}
 use Rattle.rules.specs.declared.Picture.{Picture}
 use Rattle.laws.proofs.Paint.{length-painted, getD-painted, painted-same}
@@ -22,10 +22,14 @@ use Rattle.blocks.proofs.Blocks.{block-in, room}
 abbrev pub over : Shows → ℕ → Picture → List ℕ → List ℕ → List ℕ
 over shows s pic image d = pictureBy shows (bytesOf s d) pic image
 
--- ".. differ at most in that block's clipped tile." (demand 2): images that are the same outside the tile of block n
-pub record OnlyInTile (pic : Picture) (n : ℕ) (new new' : List ℕ) : Type 0 where
+-- ".. differ at most in that block's clipped tile." (demand 2): images that are the same outside the tile of block n, where element k
+-- belongs to pixel `at k`: one element to a pixel, or several
+pub record OnlyInTileBy (at : ℕ → ℕ) (pic : Picture) (n : ℕ) (new new' : List ℕ) : Type 0 where
   pub as-long : length new ≡ length new'
-  pub outside : (k : ℕ) → k < length new → inTile pic n k ≡ false → getD new k 0 ≡ getD new' k 0
+  pub outside : (k : ℕ) → k < length new → inTile pic n (at k) ≡ false → getD new k 0 ≡ getD new' k 0
+
+abbrev pub OnlyInTile : Picture → ℕ → List ℕ → List ℕ → Type 0
+OnlyInTile pic n new new' = OnlyInTileBy (λ k. k) pic n new new'
 
 -- two lists, of lengths m and n, that have as many bytes of a block of s bytes that stands at byte t and ends before byte u: both
 -- have the whole block, or neither
@@ -50,22 +54,28 @@ module _ (s : ℕ) (pic : Picture) (d e : List ℕ) where
   pixel shows k = ap (λ (l : List ℕ). shows l (column pic k % 4) (row pic k % 4))
 
   -- outside the tile of block n an element is no pixel of the picture, or one of another block
-  pub beside-in-tile : (shows : Shows) (n : ℕ) → Beside s pic n d e → (old : List ℕ) → OnlyInTile pic n (over shows s pic old d) (over shows s pic old e)
-  beside-in-tile shows n b old =
+  pub beside-by : (at : ℕ → ℕ) (v w : ℕ → ℕ) (n : ℕ) → Beside s pic n d e
+      → ((k : ℕ) → bytesOf s d (blockAt pic (at k)) ≡ bytesOf s e (blockAt pic (at k)) → v k ≡ w k)
+      → (old : List ℕ)
+      → OnlyInTileBy at pic n (painted (λ k. inside pic (at k)) v old) (painted (λ k. inside pic (at k)) w old)
+  beside-by at v w n b same old =
       record {
-        as-long = length-painted (inside pic) (pixelAt shows s pic d) old ∙ sym (length-painted (inside pic) (pixelAt shows s pic e) old);
+        as-long = length-painted (λ k. inside pic (at k)) v old ∙ sym (length-painted (λ k. inside pic (at k)) w old);
         outside =
             λ k h out.
-            let l : k < length old = omega (arith, length-painted (inside pic) (pixelAt shows s pic d) old) in
-            getD-painted (inside pic) (pixelAt shows s pic d) old k l
-            ∙ choose (inside pic k) (eqb (blockAt pic k) n) _ _ (getD old k 0) out
-            (λ i z. pixel shows k (b (blockAt pic k) (block-in pic k i) (λ q. true≢false (sym (eq-eqb (blockAt pic k) n q) ∙ z))))
-            ∙ sym (getD-painted (inside pic) (pixelAt shows s pic e) old k l);
+            let l : k < length old = omega (arith, length-painted (λ k. inside pic (at k)) v old) in
+            getD-painted (λ k. inside pic (at k)) v old k l
+            ∙ choose (inside pic (at k)) (eqb (blockAt pic (at k)) n) (v k) (w k) (getD old k 0) out
+            (λ i z. same k (b (blockAt pic (at k)) (block-in pic (at k) i) (λ q. true≢false (sym (eq-eqb (blockAt pic (at k)) n q) ∙ z))))
+            ∙ sym (getD-painted (λ k. inside pic (at k)) w old k l);
       }
     where
       choose : (t u : Bool) (v w o : ℕ) → (t && u) ≡ false → (T t → u ≡ false → v ≡ w) → cond t v o ≡ cond t w o
       choose true u v w o h e = e tt h
       choose false u v w o h e = refl
+
+  pub beside-in-tile : (shows : Shows) (n : ℕ) → Beside s pic n d e → (old : List ℕ) → OnlyInTile pic n (over shows s pic old d) (over shows s pic old e)
+  beside-in-tile shows n b old = beside-by (λ k. k) (pixelAt shows s pic d) (pixelAt shows s pic e) n b (pixel shows) old
 
   module _ (same : Alike s pic d e) where
     -- the whole picture, and what the checks say
@@ -83,7 +93,8 @@ module _ (s : ℕ) (pic : Picture) (d e : List ℕ) where
         ∙ ap (judged (pictureChecks s pic (length e) elements)) q
 
 -- where nothing is left over, a reader that wants an exact length says what any other does
-pub none-left : (s : ℕ) (pic : Picture) (bytes elements : ℕ) (then : List ℕ) → bytes ≤ blocks pic * s → judged (exactChecks s pic bytes elements) then ≡ judged (pictureChecks s pic bytes elements) then
+pub none-left : (s : ℕ) (pic : Picture) (bytes elements : ℕ) (then : List ℕ)
+    → bytes ≤ blocks pic * s → judged (exactChecks s pic bytes elements) then ≡ judged (pictureChecks s pic bytes elements) then
 none-left s pic bytes elements then h =
     ap (λ (t : Bool). judged (limitCheck pic ∷ pitchCheck pic ∷ dataCheck (blocks pic * s) bytes ∷ refusal 6 t ∷ imageCheck (needed pic) elements ∷ []) then)
     (le-ltb (blocks pic * s) bytes h)

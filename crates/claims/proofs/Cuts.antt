@@ -80,14 +80,16 @@ all-taken p =
     ]
 
 -- "Ending answers 0 when all blocks are painted, else 2", of a picture that starting does not refuse
-pub ending-answers-by-the-painted-blocks : (p : Progress) → limitCheck (p .picture) .fails ≡ false → pitchCheck (p .picture) .fails ≡ false → verdict (endChecks p) ≡ cond {A = List ℕ} (ltb (finished p) (blocks (p .picture))) (2 ∷ []) (0 ∷ [])
+pub ending-answers-by-the-painted-blocks : (p : Progress) → limitCheck (p .picture) .fails ≡ false → pitchCheck (p .picture) .fails ≡ false
+    → verdict (endChecks p) ≡ cond {A = List ℕ} (ltb (finished p) (blocks (p .picture))) (2 ∷ []) (0 ∷ [])
 ending-answers-by-the-painted-blocks p a b =
     ap (λ (t : Bool). judged (refusal 1 t ∷ pitchCheck (p .picture) ∷ refusal 2 (ltb (p .taken) (whole p)) ∷ []) (0 ∷ [])) a
     ∙ ap (λ (t : Bool). judged (refusal 12 t ∷ refusal 2 (ltb (p .taken) (whole p)) ∷ []) (0 ∷ [])) b
     ∙ ap (λ (t : Bool). cond {A = List ℕ} t (2 ∷ []) (0 ∷ [])) (all-taken p)
 
 -- "and nothing is taken or changed"
-pub a-refused-piece-changes-nothing : (p : Progress) (e image : List ℕ) (r : Taken) (new : List ℕ) → Takes p e image r new → accepts (said (r .answer)) ≡ false → (r .progress ≡ p) × (r .painted ≡ 0) × (r .unused ≡ length e) × (new ≡ image)
+pub a-refused-piece-changes-nothing : (p : Progress) (e image : List ℕ) (r : Taken) (new : List ℕ)
+    → Takes p e image r new → accepts (said (r .answer)) ≡ false → (r .progress ≡ p) × (r .painted ≡ 0) × (r .unused ≡ length e) × (new ≡ image)
 a-refused-piece-changes-nothing p e image r new t y =
     let no : accepts (pieceVerdict p image) ≡ false = sym (ap accepts (t .says)) ∙ y in (
       t .state ∙ ap (λ (b : Bool). cond b (after p e) p) no,
@@ -138,7 +140,8 @@ pub record Read (f : Format) (pic : Picture) (d image : List ℕ) (q : Progress)
   pub unused : used f pic d + u ≡ length d
 
 module _ (f : Format) (pic : Picture) (image : List ℕ) where
-  pub coursed : {p q : Progress} {im new : List ℕ} {es : List (List ℕ)} {n u : ℕ} (d : List ℕ) → p ≡ stateOf f pic d → im ≡ soFar f pic d image → Course p im es q new n u → Coursed f pic d image (joined es) q new n u
+  pub coursed : {p q : Progress} {im new : List ℕ} {es : List (List ℕ)} {n u : ℕ} (d : List ℕ)
+      → p ≡ stateOf f pic d → im ≡ soFar f pic d image → Course p im es q new n u → Coursed f pic d image (joined es) q new n u
   coursed d a b nothing =
       let e : d ≡ d ++ [] = sym (append-nil d) in
       record {
@@ -302,7 +305,8 @@ module _ (f : Format) (pic : Picture) (image : List ℕ) (es : List (List ℕ)) 
     the-counts-add-up = from-the-start f pic image es q new n u c .painted ∙ all-wholes f pic (joined es) enough
 
 -- a whole picture in one piece is what the plain reader shows
-pub in-one-piece : (f : Format) (pic : Picture) (d image : List ℕ) (r : Taken) (new other : List ℕ) → Takes (fresh f pic) d image r new → accepts (said (r .answer)) ≡ true → ReadsPicture f d pic image Done other → new ≡ other
+pub in-one-piece : (f : Format) (pic : Picture) (d image : List ℕ) (r : Taken) (new other : List ℕ)
+    → Takes (fresh f pic) d image r new → accepts (said (r .answer)) ≡ true → ReadsPicture f d pic image Done other → new ≡ other
 in-one-piece f pic d image r new other t y p =
     the-picture-is-the-plain-one f pic image (d ∷ []) (r .progress) new (r .painted + 0) (r .unused + 0) (followed r t y nothing) other
     (subst (λ (l : List ℕ). ReadsPicture f l pic image Done other) (sym (append-nil d)) p)

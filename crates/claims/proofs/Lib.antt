@@ -15,7 +15,9 @@ pub mod Encoded
 pub mod Back
 pub mod Skipped
 pub mod Lowest
+pub mod Eleven
 pub mod Desktop
+pub mod Bptc
 pub mod Arrived
 pub mod Step
 pub mod Cuts

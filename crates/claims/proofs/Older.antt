@@ -74,7 +74,9 @@ spread c s h q e = let z : min (c + s) 255 ≡ min (c - s) 255 = e ∙ lowered c
 apart : (a b c a' b' c' : ℕ) → a ≤ 255 → b ≤ 255 → c ≤ 255 → a' ≤ 255 → b' ≤ 255 → c' ≤ 255 → word 255 a b c ≡ word 255 a' b' c' → (a ≡ a') × (b ≡ b')
 apart a b c a' b' c' h i j h' i' j' e = (omega arith, omega arith)
 
-alike : (c c' : List ℕ) (s s' : ℤ) → shaded c s ≡ shaded c' s' → (clamp 255 (pos (getD c 0 0) +ℤ s) ≡ clamp 255 (pos (getD c' 0 0) +ℤ s')) × (clamp 255 (pos (getD c 1 0) +ℤ s) ≡ clamp 255 (pos (getD c' 1 0) +ℤ s'))
+alike : (c c' : List ℕ) (s s' : ℤ) → shaded c s ≡ shaded c' s'
+    → (clamp 255 (pos (getD c 0 0) +ℤ s) ≡ clamp 255 (pos (getD c' 0 0) +ℤ s'))
+    × (clamp 255 (pos (getD c 1 0) +ℤ s) ≡ clamp 255 (pos (getD c' 1 0) +ℤ s'))
 alike c c' s s' e =
     apart _ _ _ _ _ _
     (clamp-le 255 (pos (getD c 0 0) +ℤ s)) (clamp-le 255 (pos (getD c 1 0) +ℤ s)) (clamp-le 255 (pos (getD c 2 0) +ℤ s))

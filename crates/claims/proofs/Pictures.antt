@@ -32,7 +32,7 @@ use Rattle.laws.proofs.Reach.{some-bytes}
 use Rattle.claims.proofs.Outcomes.{Same, same-outcome, an-acceptance-paints, the-length-stays, the-rest-stays}
 use Rattle.claims.proofs.Alike.{over, OnlyInTile, beside-in-tile, picture-alike, verdict-alike, behind}
 
-holds : (t : Bool) → T t → t ≡ true
+pub holds : (t : Bool) → T t → t ≡ true
 holds true h = refl
 holds false h = absurd h
 
@@ -65,6 +65,14 @@ empty-passes s pic d image then e t f =
           };
     })
 
+-- the pixel at the element of (x, y): what block number (y / 4) * ceil(width / 4) + x / 4 shows in its column x % 4 and row y % 4
+pub pixel-of : (shows : Shows) (s : ℕ) (pic : Picture) (d : List ℕ) (x y : ℕ) → x < pic .pitch
+    → pixelAt shows s pic d (element pic x y) ≡ shows (bytesOf s d (blockOf pic x y)) (x % 4) (y % 4)
+pixel-of shows s pic d x y h =
+    let at = element pic x y in
+    ap (λ (c : ℕ). shows (bytesOf s d (blockOf pic c (row pic at))) (c % 4) (row pic at % 4)) (column-at pic x y h)
+    ∙ ap (λ (r : ℕ). shows (bytesOf s d (blockOf pic x r)) (x % 4) (r % 4)) (row-at pic x y h)
+
 module _ (shows : Shows) (s : ℕ) (pic : Picture) (image : List ℕ) where
   -- the promise of a picture reader with this verdict
   abbrev pub Reads : List ℕ → List ℕ → Answer → List ℕ → Type 0
@@ -91,8 +99,7 @@ module _ (shows : Shows) (s : ℕ) (pic : Picture) (image : List ℕ) where
         ap (λ (l : List ℕ). getD l at 0) (an-acceptance-paints verdict (over shows s pic image d) image new a p r)
         ∙ getD-painted (inside pic) (pixelAt shows s pic d) image at within
         ∙ ap (λ (t : Bool). cond t (pixelAt shows s pic d at) (getD image at 0)) (holds (inside pic at) own)
-        ∙ ap (λ (c : ℕ). shows (bytesOf s d (blockOf pic c (row pic at))) (c % 4) (row pic at % 4)) (column-at pic x y wide)
-        ∙ ap (λ (r : ℕ). shows (bytesOf s d (blockOf pic x r)) (x % 4) (r % 4)) (row-at pic x y wide)
+        ∙ pixel-of shows s pic d x y wide
 
     -- "Width 0 or height 0, where the checks pass, is accepted and changes nothing."
     pub an-empty-picture : Empty pic → verdict ≡ 0 ∷ [] → Same a Done new image

@@ -78,8 +78,10 @@ module _ (f : Format) (pic : Picture) (d e : List ℕ) where
       let b = was-painted pic (got p / s) (later p e / s) (pixelBy (showsOf f) (bytesFrom s (got p / s) (held p ++ e)) pic) mid new (kept pic _ _ room n) q in
       run-painted pic 0 (later p e / s) v image new
       (two-runs pic 0 (got p / s) (later p e / s) v image mid new (omega arith) up
-      (other-bytes pic (showsOf f) 0 (got p / s) (bytesOf s d) (bytesOf s (d ++ e)) image mid (λ m i j. old-block s W (got p) (later p e) d e (p .kept) (few-bytes f) (some-bytes f) g refl kept-is m j) a)
-      (other-bytes pic (showsOf f) (got p / s) (later p e / s) (bytesFrom s (got p / s) (held p ++ e)) (bytesOf s (d ++ e)) mid new (λ m i j. new-block s W (got p) (later p e) d e (p .kept) (few-bytes f) (some-bytes f) g refl kept-is m i j) b))
+      (other-bytes pic (showsOf f) 0 (got p / s) (bytesOf s d) (bytesOf s (d ++ e)) image mid
+      (λ m i j. old-block s W (got p) (later p e) d e (p .kept) (few-bytes f) (some-bytes f) g refl kept-is m j) a)
+      (other-bytes pic (showsOf f) (got p / s) (later p e / s) (bytesFrom s (got p / s) (held p ++ e)) (bytesOf s (d ++ e)) mid new
+      (λ m i j. new-block s W (got p) (later p e) d e (p .kept) (few-bytes f) (some-bytes f) g refl kept-is m i j) b))
       ∙ ap (λ (x : ℕ). painted (inRun pic 0 (x / s)) (pixelAt (showsOf f) s pic (d ++ e)) image) later-is
 
   -- where a piece is taken, the image has room

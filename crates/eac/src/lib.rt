@@ -1,5 +1,6 @@
-// The EAC channels of src/etc/eac.rs. The unsigned and the signed reader differ only in the centre of a block's values, so one
-// function serves both. The whole value of eleven bits comes first, from crates/values; the byte is a last step of its own.
+// The EAC channels of src/etc/eac.rs. The unsigned and the signed reader differ only in the numbers that crates/values gives, so one
+// function serves both. The whole value of eleven bits comes first; the byte is a last step of its own, and so are the sixteen bits. Each
+// has its own loop over the sixteen, since an array of whole values between two loops costs a quarter more (docs/DECISIONS.md).
 ghost use mathlib.Core.Path.{_≡_};
 ghost use Prim.Native.Nat.{ℕ, _+_, _*_, _/_, _%_, _^_, _≤_, _<_};
 ghost use lib.ListN.{length, getD};
@@ -7,19 +8,43 @@ ghost use Rattle.rules.specs.Notation.{build};
 ghost use Rattle.rules.specs.Pixel.{word};
 ghost use Rattle.rules.specs.Places.{tile};
 ghost use Rattle.rules.specs.Channels.{eacByte, redPixel, redGreenPixel, orChannel};
+ghost use Rattle.rules.specs.Whole.{eacWhole, sixteen};
 
-// The byte of each pixel, row by row: an eighth of its value.
+// The byte of each pixel, row by row: an eighth of its value, counted from the least.
 fn eac_bytes(d: &[u8], signed: bool) -> [u32; 16]
     requires { ⌜ 8 ≤ length (now d) ⌝ }
     ensures { λ r. ⌜ r ≡ build 16 (λ k. eacByte signed (now (d .entry)) (k % 4) (k / 4)) ⌝ }
 {
-    let base = values::centre_of(d[0], signed);
+    let base = values::middle_of(d[0], signed);
     let m = values::times_of(picks::multiplier_of(d[1]));
+    let low = values::least_of(signed);
+    let high = values::most_of(signed);
+    let up = values::added_of(signed);
     let steps = channel::steps_of(d);
     let mut out = [0u32; 16];
     let mut i: usize = 0;
     while i < 16 {
-        out[i] = values::eac_value(base, m, steps[i]) / 8;
+        out[i] = values::byte_of(values::eac_whole(base, m, steps[i], low, high), up);
+        i += 1;
+    }
+    out
+}
+
+// The value of each pixel as sixteen bits, row by row.
+pub fn eac_sixteens(d: &[u8], signed: bool) -> [u16; 16]
+    requires { ⌜ 8 ≤ length (now d) ⌝ }
+    ensures { λ r. ⌜ r ≡ build 16 (λ k. sixteen (eacWhole signed (now (d .entry)) (k % 4) (k / 4))) ⌝ }
+{
+    let base = values::middle_of(d[0], signed);
+    let m = values::times_of(picks::multiplier_of(d[1]));
+    let low = values::least_of(signed);
+    let high = values::most_of(signed);
+    let up = values::added_of(signed);
+    let steps = channel::steps_of(d);
+    let mut out = [0u16; 16];
+    let mut i: usize = 0;
+    while i < 16 {
+        out[i] = values::sixteen(values::eac_whole(base, m, steps[i], low, high), up);
         i += 1;
     }
     out

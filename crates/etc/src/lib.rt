@@ -1,8 +1,9 @@
-// The public list of src/etc.rs: eleven block readers, eight picture readers, strict ETC1 and RGBA1 for an opaque-only viewer, each of
-// these ten with a twin that takes the description with its pitch; two censuses; the readers and the writer of sheets; the reader of a
-// picture in pieces; the reader of degrees; and the checker and the baker of ETC1 blocks. None asks anything of its caller. Each promises
-// the answer and every element of what it is lent afterwards, for all inputs; what that is, crates/rules/specs/Readers.antt, Census.antt,
-// Sheets.antt, Pieces.antt, Degrees.antt, Checking.antt and Baking.antt say for all of them. Refusals: 1 width,
+// The public list: that of src/etc.rs, BC1, BC3 and BC7. Sixteen block readers, twelve picture readers, strict ETC1 and RGBA1 for an
+// opaque-only viewer, each of these fourteen with a twin that takes the description with its pitch; four readers of EAC's whole values,
+// likewise; two censuses; the readers and the writer of sheets; the reader of a picture in pieces; the reader of degrees; and the checker
+// and the baker of ETC1 blocks. None asks anything of its caller. Each promises the answer and every element of what it is lent
+// afterwards, for all inputs; what that is, crates/rules/specs/Readers.antt, Whole.antt, Census.antt, Sheets.antt, Pieces.antt,
+// Degrees.antt, Checking.antt and Baking.antt say for all of them. Refusals: 1 width,
 // height or pitch above 65,536 (of a sheet: width or height above 16,384); 12 a pitch below the width; 2 too few bytes; 6 too many (strict
 // only); 3 too few elements, or too little room for a sheet; 4 a block out of range, with its number (strict only); 5 a channel above 3; of
 // sheets, 7 a record cut short, 8 no head, 9 another kind, 10 not exactly the blocks; 11 a block whose opaque bit is clear, with its
@@ -29,11 +30,13 @@ ghost use Rattle.rules.specs.Places.{sized};
 ghost use Rattle.rules.specs.Answers.{said};
 ghost use Rattle.rules.specs.Census.{CountsRgb, CountsRgba1};
 ghost use Rattle.rules.specs.Readers.{ReadsPicture, ReadsStrict, ReadsOpaque, ReadsBlock, ReadsAlpha, ReadsChannel, ReplacesChannel};
+ghost use Rattle.rules.specs.Whole.{ReadsWhole};
 ghost use Rattle.rules.specs.Sheets.{TellsHead, ReadsSheet, WritesSheet};
 ghost use Rattle.rules.specs.Pieces.{Starts, Takes, Ends};
 ghost use Rattle.rules.specs.Degrees.{ReadsDegrees};
 ghost use Rattle.rules.specs.Checking.{bakingSaid, Checks};
 ghost use Rattle.rules.specs.Baking.{Bakes};
+ghost use Rattle.eleven.specs.Lanes.{lanes};
 
 // Document 01's number of an answer.
 pub fn number(answer: Answer) -> u32
@@ -210,6 +213,20 @@ pub fn decode_bc3_pitched(data: &[u8], pic: Picture, image: &mut [u32]) -> Answe
     picture::read(Format::Bc3, data, pic, image)
 }
 
+// Reads a BC7 picture.
+pub fn decode_bc7(data: &[u8], width: usize, height: usize, image: &mut [u32]) -> Answer
+    ensures { λ r. ⌜ ReadsPicture Format.Bc7 (now («data» .entry)) (sized width height) (now (image .entry)) r (now (image .exit)) ⌝ }
+{
+    read(Format::Bc7, data, width, height, image)
+}
+
+// The same of a picture with a pitch.
+pub fn decode_bc7_pitched(data: &[u8], pic: Picture, image: &mut [u32]) -> Answer
+    ensures { λ r. ⌜ ReadsPicture Format.Bc7 (now («data» .entry)) pic (now (image .entry)) r (now (image .exit)) ⌝ }
+{
+    picture::read(Format::Bc7, data, pic, image)
+}
+
 // Reads an ETC1 picture that holds no block out of range and has no bytes behind its blocks; it refuses any other, where a block is out
 // of range with the number of the first such block. Each pixel that it paints is the one that the ETC2 RGB rule gives.
 pub fn decode_etc1_strict(data: &[u8], width: usize, height: usize, image: &mut [u32]) -> Answer
@@ -253,6 +270,82 @@ pub fn decode_etc2_rgba1_opaque_pitched(data: &[u8], pic: Picture, image: &mut [
     ensures { λ r. ⌜ ReadsOpaque (now («data» .entry)) pic (now (image .entry)) r (now (image .exit)) ⌝ }
 {
     picture::read_opaque(data, pic, image)
+}
+
+// Reads whole values of EAC by a picture's width and height: of red, or of red and green. Its rows have no gap.
+fn read_whole(
+    green: bool,
+    signed: bool,
+    data: &[u8],
+    width: usize,
+    height: usize,
+    image: &mut [u16],
+) -> Answer
+    ensures { λ r. ⌜ ReadsWhole signed (lanes green) (now («data» .entry)) (sized width height)
+        (now (image .entry)) r (now (image .exit)) ⌝ }
+{
+    let pic = Picture {
+        width: width,
+        height: height,
+        pitch: width,
+    };
+    eleven::read(green, signed, data, pic, image)
+}
+
+// Reads all eleven bits of an EAC R picture, 0 to 2047, into 16-bit numbers.
+pub fn decode_eacr11(data: &[u8], width: usize, height: usize, image: &mut [u16]) -> Answer
+    ensures { λ r. ⌜ ReadsWhole false 1 (now («data» .entry)) (sized width height) (now (image .entry)) r (now (image .exit)) ⌝ }
+{
+    read_whole(false, false, data, width, height, image)
+}
+
+// The same of a picture with a pitch, in pixels.
+pub fn decode_eacr11_pitched(data: &[u8], pic: Picture, image: &mut [u16]) -> Answer
+    ensures { λ r. ⌜ ReadsWhole false 1 (now («data» .entry)) pic (now (image .entry)) r (now (image .exit)) ⌝ }
+{
+    eleven::read(false, false, data, pic, image)
+}
+
+// The same of a signed EAC R picture, -1023 to 1023: a negative number is in two's complement.
+pub fn decode_eacr11_signed(data: &[u8], width: usize, height: usize, image: &mut [u16]) -> Answer
+    ensures { λ r. ⌜ ReadsWhole true 1 (now («data» .entry)) (sized width height) (now (image .entry)) r (now (image .exit)) ⌝ }
+{
+    read_whole(false, true, data, width, height, image)
+}
+
+// The same of a picture with a pitch, in pixels.
+pub fn decode_eacr11_signed_pitched(data: &[u8], pic: Picture, image: &mut [u16]) -> Answer
+    ensures { λ r. ⌜ ReadsWhole true 1 (now («data» .entry)) pic (now (image .entry)) r (now (image .exit)) ⌝ }
+{
+    eleven::read(false, true, data, pic, image)
+}
+
+// Reads all eleven bits of an EAC RG picture: two numbers to a pixel, red then green.
+pub fn decode_eacrg11(data: &[u8], width: usize, height: usize, image: &mut [u16]) -> Answer
+    ensures { λ r. ⌜ ReadsWhole false 2 (now («data» .entry)) (sized width height) (now (image .entry)) r (now (image .exit)) ⌝ }
+{
+    read_whole(true, false, data, width, height, image)
+}
+
+// The same of a picture with a pitch, in pixels.
+pub fn decode_eacrg11_pitched(data: &[u8], pic: Picture, image: &mut [u16]) -> Answer
+    ensures { λ r. ⌜ ReadsWhole false 2 (now («data» .entry)) pic (now (image .entry)) r (now (image .exit)) ⌝ }
+{
+    eleven::read(true, false, data, pic, image)
+}
+
+// The same of a signed EAC RG picture.
+pub fn decode_eacrg11_signed(data: &[u8], width: usize, height: usize, image: &mut [u16]) -> Answer
+    ensures { λ r. ⌜ ReadsWhole true 2 (now («data» .entry)) (sized width height) (now (image .entry)) r (now (image .exit)) ⌝ }
+{
+    read_whole(true, true, data, width, height, image)
+}
+
+// The same of a picture with a pitch, in pixels.
+pub fn decode_eacrg11_signed_pitched(data: &[u8], pic: Picture, image: &mut [u16]) -> Answer
+    ensures { λ r. ⌜ ReadsWhole true 2 (now («data» .entry)) pic (now (image .entry)) r (now (image .exit)) ⌝ }
+{
+    eleven::read(true, true, data, pic, image)
 }
 
 // Reads an ETC1 block of 8 bytes into the elements 0 to 15.
@@ -330,6 +423,13 @@ pub fn decode_bc3_block(data: &[u8], image: &mut [u32]) -> Answer
     ensures { λ r. ⌜ ReadsBlock Format.Bc3 (now («data» .entry)) (now (image .entry)) r (now (image .exit)) ⌝ }
 {
     single::read_block(Format::Bc3, data, image)
+}
+
+// Reads a BC7 block of 16 bytes into the elements 0 to 15.
+pub fn decode_bc7_block(data: &[u8], image: &mut [u32]) -> Answer
+    ensures { λ r. ⌜ ReadsBlock Format.Bc7 (now («data» .entry)) (now (image .entry)) r (now (image .exit)) ⌝ }
+{
+    single::read_block(Format::Bc7, data, image)
 }
 
 // Reads an alpha half of 8 bytes into the top bytes of the elements 0 to 15, and keeps the rest of them.

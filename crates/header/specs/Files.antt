@@ -6,13 +6,12 @@ use Prim.Native.Nat.{ℕ, _+_, _*_, _/_}
 use lib.Dec.{eqb, ltb}
 use lib.ListN.{length}
 use Rattle.numbers.specs.Numbers.{little, big}
-use Rattle.textures.specs.Textures.{oldPkm, newPkm, glFormat, laidOut}
+use Rattle.textures.specs.Textures.{oldPkm, newPkm, glFormat, heldThen, laidOut}
 use Rattle.textures.specs.declared.Known.{Known}
 use Rattle.textures.specs.declared.Known.the-variants.{As, Not}
 use Rattle.textures.specs.declared.Texture.{Texture}
 use Rattle.textures.specs.declared.Header.{Header}
-use Rattle.textures.specs.declared.Header.the-variants.{Holds, TooLarge, ShortData, Cut, NoTexture}
-use Rattle.textures.specs.declared.Header.the-variants.{NoVersion, NoFormat, SizesDisagree, LongLevel, NotFlat, NoPixels}
+use Rattle.textures.specs.declared.Header.the-variants.{Holds, Cut, NoTexture, NoVersion, NoFormat, SizesDisagree, LongLevel, NotFlat}
 
 -- a side, made up to whole blocks
 abbrev pub padded : ℕ → ℕ
@@ -56,22 +55,12 @@ inLevel t n =
     record { format = t .format; width = t .width; height = t .height; start = t .start; bytes = t .bytes; level = n }
 
 -- a picture that is laid out well, held to the size of level 0 as the file tells it in four bytes
-unfoldable pub sizeTold : Bool → List ℕ → Header → Header
-sizeTold order level (Holds t) =
+unfoldable pub sizeTold : Bool → List ℕ → Texture → Header
+sizeTold order level t =
     cond (ltb (length level) 4) Cut
     (cond (ltb (word32 order level 0) (t .bytes)) SizesDisagree
     (cond (ltb (t .bytes) (word32 order level 0)) (LongLevel (inLevel t (word32 order level 0)))
     (Holds (inLevel t (word32 order level 0)))))
-sizeTold order level TooLarge = TooLarge
-sizeTold order level ShortData = ShortData
-sizeTold order level Cut = Cut
-sizeTold order level NoTexture = NoTexture
-sizeTold order level NoVersion = NoVersion
-sizeTold order level NoFormat = NoFormat
-sizeTold order level SizesDisagree = SizesDisagree
-sizeTold order level (LongLevel t) = LongLevel t
-sizeTold order level NotFlat = NotFlat
-sizeTold order level NoPixels = NoPixels
 
 -- one picture: no depth (byte 44), no array (48), one face (52)
 unfoldable pub isFlat : Bool → List ℕ → Bool
@@ -83,7 +72,7 @@ unfoldable pub ktxAs : Known → Bool → List ℕ → List ℕ → ℕ → Head
 ktxAs Not order d level len = NoFormat
 ktxAs (As f) order d level len =
     cond (isFlat order d)
-    (sizeTold order level (laidOut f (word32 order d 36) (word32 order d 40) (68 + word32 order d 60) len))
+    (heldThen (sizeTold order level) (laidOut f (word32 order d 36) (word32 order d 40) (68 + word32 order d 60) len))
     NotFlat
 
 -- KTX in a byte order: the type at byte 16 and the format at byte 24 are 0, as they are of compressed pictures; the format

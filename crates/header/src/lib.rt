@@ -5,11 +5,12 @@ use textures::Texture;
 ghost use mathlib.Core.Path.{_≡_};
 ghost use Prim.Native.Nat.{_+_, _<_, _≤_};
 ghost use lib.ListN.{length};
+ghost use Rattle.textures.specs.Textures.{heldThen};
 ghost use Rattle.header.specs.Files.{word32, padded as paddedTo, pkmAs, pkmOf, levelAt};
 ghost use Rattle.header.specs.Files.{sizeTold, isFlat, ktxAs, ktxIn, ktxOf, isKtx, headerOf};
 
 // The four bytes at a place, in a file's own order.
-fn word(order: bool, d: &[u8], at: usize) -> usize
+pub fn word(order: bool, d: &[u8], at: usize) -> usize
     requires { ⌜ at + 4 ≤ length (now d) ⌝ }
     ensures { λ r. ⌜ (r ≡ word32 order (now (d .entry)) at) × (r < 0x100000000) ⌝ }
 {
@@ -75,7 +76,7 @@ pub fn level_at(d: &[u8]) -> usize
 
 // A picture that is laid out well, held to the size of level 0 that the file tells.
 fn size_told(order: bool, level: &[u8], header: Header) -> Header
-    ensures { λ r. ⌜ r ≡ sizeTold order (now (level .entry)) header ⌝ }
+    ensures { λ r. ⌜ r ≡ heldThen (sizeTold order (now (level .entry))) header ⌝ }
 {
     let Header::Holds(t) = header else {
         return header;
@@ -173,7 +174,7 @@ fn ktx(d: &[u8], level: &[u8], len: usize) -> Header
 }
 
 // Whether a file's first bytes are those of KTX 1.
-fn is_ktx(d: &[u8]) -> bool
+pub fn is_ktx(d: &[u8]) -> bool
     requires { ⌜ 12 ≤ length (now d) ⌝ }
     ensures { λ r. ⌜ r ≡ isKtx (now (d .entry)) ⌝ }
 {

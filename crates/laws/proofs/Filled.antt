@@ -41,6 +41,11 @@ module _ {A : Type 0} (f : ℕ → A) (d : A) where
         | no s ↦ getD-set-other l o k v d s ∙ q k b (⊎-elim (λ t. absurd (s (u k b t))) (λ t. t) (eq-or-lt-of-le {n = p k} {m = i} (omega arith)))
       ]
 
+  -- the same in order
+  pub fills : (l : List A) (i : ℕ) (v : A) → i < length l → ((k : ℕ) → k < i → getD l k d ≡ f k) → v ≡ f i
+      → (k : ℕ) → k < i + 1 → getD (set l i v) k d ≡ f k
+  fills l i v h p e k m = fills-by (λ j. j) (i + 1) l i i v h (λ j b t. t) (λ j b t. p j t) e k m m
+
 -- two rules that agree make the same list
 pub build-same : {A : Type 0} (z : A) (g f : ℕ → A) (n : ℕ) → ((k : ℕ) → k < n → g k ≡ f k) → build n g ≡ build n f
 build-same z g f n e = is-build f z n (build n g) (length-build g z n) (λ k h. getD-build g z n k h ∙ e k h)

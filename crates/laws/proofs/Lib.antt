@@ -9,6 +9,11 @@ pub mod Rows
 pub mod Paint
 pub mod Range
 pub mod Between
+pub mod Number
+pub mod Refuse
+pub mod Shift
+pub mod Tables
+pub mod Shades
 pub mod Word
 pub mod First
 pub mod Unique

@@ -14,12 +14,14 @@ use Rattle.rules.specs.Colour.{index, half, code, differs, individual, differen
 use Rattle.rules.specs.Modes.{tBases, tDistance, tColours, hBases, hDistance, hColours, planarBases, planarPixel, coloursOf, isPlanar, indexed, clearSteps, etc1Bases, etc1Pixel, rgbPixel, rgba1Pixel}
 use Rattle.rules.specs.Channels.{withAlpha, alphaStep, alphaByte, rgba8Pixel, eacValue, eacByte, redPixel, redGreenPixel}
 use Rattle.numbers.specs.Numbers.{little}
+use Rattle.numbers.proofs.Little.{inside}
 use Rattle.rules.specs.Desktop.{halfWord, paletteIn, colourIndex, alphasIn, alphaIndexIn, bc1Pixel, bc3Alpha, bc3Pixel, replaced}
+use Rattle.rules.specs.Bc7.{pixelOf, bc7Pixel}
 use Rattle.rules.specs.Formats.{sizeOf, showsOf}
 use Rattle.rules.specs.declared.Kind.{Kind}
 use Rattle.rules.specs.declared.Kind.the-variants.{Individual, Differential, T, H, Planar}
 use Rattle.rules.specs.declared.Format.{Format}
-use Rattle.rules.specs.declared.Format.the-variants.{Etc1, Etc2Rgb, Etc2Rgba1, Etc2Rgba8, EacR, EacRSigned, EacRg, EacRgSigned, Bc1, Bc1Alpha, Bc3}
+use Rattle.rules.specs.declared.Format.the-variants.{Etc1, Etc2Rgb, Etc2Rgba1, Etc2Rgba8, EacR, EacRSigned, EacRg, EacRgSigned, Bc1, Bc1Alpha, Bc3, Bc7}
 use Rattle.laws.proofs.Filled.{build-same}
 
 -- the first eight bytes of a list
@@ -181,6 +183,11 @@ bc3 d x y =
     ap (λ (p : ℕ). replaced 3 p (bc3Alpha d x y)) (second (bc1Pixel true false) (bc1 true false) d x y)
     ∙ ap (λ (a : ℕ). replaced 3 (bc1Pixel true false (drop 8 (take 16 d)) x y) a) (first bc3Alpha bc3-alpha 16 (omega arith) d x y)
 
+-- BC7 goes by the number that its sixteen bytes make
+bc7 : (d : List ℕ) (x y : ℕ) → bc7Pixel d x y ≡ bc7Pixel (take 16 d) x y
+unfolding bc7Pixel
+bc7 d x y = ap (λ (w : ℕ). pixelOf w (4 * y + x)) (sym (inside 16 0 16 d (omega arith)))
+
 -- every format reads the bytes of its block alone
 pub reads-its-block : (f : Format) (d : List ℕ) (x y : ℕ) → showsOf f d x y ≡ showsOf f (take (sizeOf f) d) x y
 unfolding showsOf sizeOf
@@ -195,6 +202,7 @@ reads-its-block EacRgSigned d x y = red-green true d x y
 reads-its-block Bc1 d x y = first (bc1Pixel false false) (bc1 false false) 8 (omega arith) d x y
 reads-its-block Bc1Alpha d x y = first (bc1Pixel false true) (bc1 false true) 8 (omega arith) d x y
 reads-its-block Bc3 d x y = bc3 d x y
+reads-its-block Bc7 d x y = bc7 d x y
 
 -- and has at least one
 pub some-bytes : (f : Format) → 0 < sizeOf f
@@ -210,6 +218,7 @@ some-bytes EacRgSigned = omega arith
 some-bytes Bc1 = omega arith
 some-bytes Bc1Alpha = omega arith
 some-bytes Bc3 = omega arith
+some-bytes Bc7 = omega arith
 
 -- and at most 16
 pub few-bytes : (f : Format) → sizeOf f ≤ 16
@@ -225,3 +234,4 @@ few-bytes EacRgSigned = omega arith
 few-bytes Bc1 = omega arith
 few-bytes Bc1Alpha = omega arith
 few-bytes Bc3 = omega arith
+few-bytes Bc7 = omega arith

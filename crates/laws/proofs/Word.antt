@@ -1,11 +1,12 @@
 -- Every pixel is a word below 2^32, whatever the bytes; and the four bytes of a word are read back from it.
 -- Assumes nothing.
-use mathlib.Core.Path.{_≡_}
+use mathlib.Core.Path.{_≡_, refl}
 use mathlib.Core.Bool.{Bool, true, false, cond}
 use mathlib.Core.List.{List, [], _∷_}
 use Prim.Native.Nat.{ℕ, zero, suc, _+_, _*_, _^_, _≤_, _<_}
 use native.Mathlib.Omega.{arith}
-use lib.Dec.{lit<, eqb}
+use lib.Dec.{lit<, eqb, ltb}
+use borrow.Author.Tests.{ltb-false}
 use lib.IntN.{ℤ, pos, _+ℤ_, _-ℤ_, _*ℤ_}
 use lib.ListN.{getD, drop}
 use Rattle.rules.specs.Notation.{byte, bits, minus, quarter}
@@ -15,13 +16,15 @@ use Rattle.rules.specs.Modes.{tBases, tDistance, tColours, hBases, hDistance, h
 use Rattle.rules.specs.Modes.{isPlanar, indexed, clearSteps, etc1Bases, etc1Pixel, rgbPixel, rgba1Pixel}
 use Rattle.rules.specs.Channels.{alphaByte, alphaStep, rgba8Pixel, centre, multiplier, eacValue, eacByte, redPixel, redGreenPixel}
 use Rattle.rules.specs.Desktop.{halfWord, rgb565, mix, mixture, palette, paletteIn, hasFour, colourIndex, alphaIndexIn, bc1Pixel, bc3Alpha, bc3Pixel, replaced}
+use Rattle.rules.specs.Bc7.{modeOf, modeAt, blockWord, pixelIn, bc7Pixel}
 use Rattle.rules.specs.Formats.{showsOf}
 use Rattle.rules.specs.declared.Kind.{Kind}
 use Rattle.rules.specs.declared.Kind.the-variants.{Individual, Differential, T, H, Planar}
 use Rattle.rules.specs.declared.Format.{Format}
-use Rattle.rules.specs.declared.Format.the-variants.{Etc1, Etc2Rgb, Etc2Rgba1, Etc2Rgba8, EacR, EacRSigned, EacRg, EacRgSigned, Bc1, Bc1Alpha, Bc3}
+use Rattle.rules.specs.declared.Format.the-variants.{Etc1, Etc2Rgb, Etc2Rgba1, Etc2Rgba8, EacR, EacRSigned, EacRg, EacRgSigned, Bc1, Bc1Alpha, Bc3, Bc7}
 use Rattle.laws.proofs.Signed.{clamp-le}
 use Rattle.laws.proofs.Between.{alphas-small}
+use Rattle.laws.proofs.Shades.{pixel-word}
 
 abbrev pub Word : ℕ → Type 0
 Word n = n < 2 ^ 32
@@ -131,7 +134,8 @@ plain q = of-bytes 255 (getD (rgb565 q) 0 0) (getD (rgb565 q) 1 0) (getD (rgb565
 between : (m n p q : ℕ) → ((a b : ℕ) → a ≤ 255 → b ≤ 255 → mix m n a b ≤ 255) → Word (mixture m n (rgb565 p) (rgb565 q))
 between m n p q h =
     let at : (k : ℕ) → mix m n (getD (rgb565 p) k 0) (getD (rgb565 q) k 0) ≤ 255 = λ k. h (getD (rgb565 p) k 0) (getD (rgb565 q) k 0) (rgb-le p k) (rgb-le q k) in
-    of-bytes 255 (mix m n (getD (rgb565 p) 0 0) (getD (rgb565 q) 0 0)) (mix m n (getD (rgb565 p) 1 0) (getD (rgb565 q) 1 0)) (mix m n (getD (rgb565 p) 2 0) (getD (rgb565 q) 2 0)) (omega arith) (at 0) (at 1) (at 2)
+    of-bytes 255 (mix m n (getD (rgb565 p) 0 0) (getD (rgb565 q) 0 0)) (mix m n (getD (rgb565 p) 1 0) (getD (rgb565 q) 1 0))
+    (mix m n (getD (rgb565 p) 2 0) (getD (rgb565 q) 2 0)) (omega arith) (at 0) (at 1) (at 2)
 
 black : (a : Bool) → Word (word (cond a 0 255) 0 0 0)
 black true = lit< tt
@@ -157,6 +161,15 @@ unfolding bc3Pixel bc3Alpha
 bc3 d x y =
     replaced-word (bc1Pixel true false (drop 8 d) x y) _ (bc1 true false (drop 8 d) x y) (alphas-small (halfWord d) (alphaIndexIn (halfWord d) (4 * y + x)))
 
+-- nothing where there is no mode, else a pixel of the mode
+of-mode : (t : Bool) (d m i : ℕ) → ltb 7 m ≡ t → Word (cond t 0 (pixelIn d m (modeAt m) i))
+of-mode true d m i e = lit< tt
+of-mode false d m i e = pixel-word d m (omega (arith, ltb-false 7 m e)) i
+
+bc7 : (d : List ℕ) (x y : ℕ) → Word (bc7Pixel d x y)
+unfolding bc7Pixel
+bc7 d x y = of-mode (ltb 7 (modeOf (blockWord d))) (blockWord d) (modeOf (blockWord d)) (4 * y + x) refl
+
 -- every pixel of every format
 pub word-below : (f : Format) (d : List ℕ) (x y : ℕ) → Word (showsOf f d x y)
 unfolding showsOf
@@ -171,3 +184,4 @@ word-below EacRgSigned d x y = red-green true d x y
 word-below Bc1 d x y = bc1 false false d x y
 word-below Bc1Alpha d x y = bc1 false true d x y
 word-below Bc3 d x y = bc3 d x y
+word-below Bc7 d x y = bc7 d x y

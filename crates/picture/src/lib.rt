@@ -56,7 +56,8 @@ fn verify(viewer: Viewer, pic: Picture, bytes: usize, elements: usize) -> Answer
 
 // The answer of a viewer's reader: the checks, then every block, before one is painted.
 fn guarded_answer(viewer: Viewer, d: &[u8], pic: Picture, elements: usize) -> Answer
-    ensures { λ r. ⌜ said r ≡ guardVerdict (guardOf viewer) (checksFor viewer pic (length (now (d .entry))) elements) pic (now (d .entry)) ⌝ }
+    ensures { λ r. ⌜ said r ≡
+        guardVerdict (guardOf viewer) (checksFor viewer pic (length (now (d .entry))) elements) pic (now (d .entry)) ⌝ }
 {
     let answer = verify(viewer, pic, d.len(), elements);
     let Answer::Done = answer else {

@@ -18,12 +18,13 @@ fn read(reader: usize, data: &[u8], width: usize, height: usize, image: &mut [u3
     desktop(reader, data, width, height, image)
 }
 
-// Readers 9 to 11.
+// Readers 9 to 12.
 fn desktop(reader: usize, data: &[u8], width: usize, height: usize, image: &mut [u32]) -> Answer {
     match reader {
         9 => etc::decode_bc1(data, width, height, image),
         10 => etc::decode_bc1a(data, width, height, image),
-        _ => etc::decode_bc3(data, width, height, image),
+        11 => etc::decode_bc3(data, width, height, image),
+        _ => etc::decode_bc7(data, width, height, image),
     }
 }
 
@@ -140,7 +141,7 @@ fn empty(width: usize, height: usize) {
     printing::say_number(height);
     printing::say(b":");
     let mut reader: usize = 0;
-    while reader < 12 {
+    while reader < 13 {
         nothing(reader, width, height);
         reader += 1;
     }
@@ -253,7 +254,7 @@ fn say_digest(digest: u64) {
 
 // One size of one reader, over fresh bytes and a fresh image.
 fn fresh_case(reader: usize, width: usize, height: usize)
-    requires { ⌜ (reader < 12) × (width < 10) × (height < 10) ⌝ }
+    requires { ⌜ (reader < 13) × (width < 10) × (height < 10) ⌝ }
 {
     let mut data = [0u8; 144];
     let mut image = [0x11111111u32; 84];
@@ -263,7 +264,7 @@ fn fresh_case(reader: usize, width: usize, height: usize)
 
 // The heights 0 to 9 of one width.
 fn heights(reader: usize, width: usize)
-    requires { ⌜ (reader < 12) × (width < 10) ⌝ }
+    requires { ⌜ (reader < 13) × (width < 10) ⌝ }
 {
     printing::say(b"reader ");
     printing::say_number(reader);
@@ -279,7 +280,7 @@ fn heights(reader: usize, width: usize)
 }
 
 fn widths(reader: usize)
-    requires { ⌜ reader < 12 ⌝ }
+    requires { ⌜ reader < 13 ⌝ }
 {
     let mut width: usize = 0;
     while width < 10 {
@@ -298,7 +299,7 @@ fn main() {
     s17(31, 24);
     largest();
     let mut reader: usize = 0;
-    while reader < 12 {
+    while reader < 13 {
         widths(reader);
         reader += 1;
     }

@@ -7,7 +7,7 @@ use Prim.Native.Nat.{ℕ}
 use Rattle.rules.specs.Answers.{accepts}
 use Rattle.rules.specs.Pieces.{after, pieceVerdict, Starts, Takes}
 use Rattle.rules.specs.declared.Format.{Format}
-use Rattle.rules.specs.declared.Format.the-variants.{Etc1, Etc2Rgb, Etc2Rgba1, Etc2Rgba8, EacR, EacRSigned, EacRg, EacRgSigned, Bc1, Bc1Alpha, Bc3}
+use Rattle.rules.specs.declared.Format.the-variants.{Etc1, Etc2Rgb, Etc2Rgba1, Etc2Rgba8, EacR, EacRSigned, EacRg, EacRgSigned, Bc1, Bc1Alpha, Bc3, Bc7}
 use Rattle.rules.specs.declared.Picture.{Picture}
 use Rattle.rules.specs.declared.Progress.{Progress}
 use Rattle.rules.specs.declared.Started.{Started}
@@ -28,6 +28,7 @@ numbered EacRgSigned = refl
 numbered Bc1 = refl
 numbered Bc1Alpha = refl
 numbered Bc3 = refl
+numbered Bc7 = refl
 
 pub begun : (f : Format) (p : Picture) (n m : ℕ) (t : Started) → Starts f p n t → m ≡ numberOf f → StartLent f p n (t .answer) (m ∷ p .width ∷ p .height ∷ p .pitch ∷ 0 ∷ []) (t .progress .kept)
 begun f p n m t a e =
@@ -53,7 +54,9 @@ stays : (p q : Progress) (e : List ℕ) (b : Bool) → q ≡ cond b (after p e) 
 stays p q e true h = ap (λ (x : Progress). with p (x .taken) (x .kept)) h ∙ sym h
 stays p q e false h = ap (λ (x : Progress). with p (x .taken) (x .kept)) h ∙ sym h
 
-pub carried : (numbers kept e image : List ℕ) (p : Progress) (r : Taken) (new : List ℕ) → p ≡ stateIn numbers kept → Takes p e image r new → PieceLent numbers kept e image (r .answer) (withTaken numbers (r .progress .taken)) (r .progress .kept) (r .painted) (r .unused) new
+pub carried : (numbers kept e image : List ℕ) (p : Progress) (r : Taken) (new : List ℕ)
+    → p ≡ stateIn numbers kept → Takes p e image r new
+    → PieceLent numbers kept e image (r .answer) (withTaken numbers (r .progress .taken)) (r .progress .kept) (r .painted) (r .unused) new
 carried numbers kept e image q r new h u =
     let p = stateIn numbers kept in
     let t = subst (λ (x : Progress). Takes x e image r new) h u in

@@ -9,13 +9,14 @@ use Rattle.rules.specs.Places.{pitched}
 use Rattle.rules.specs.Pieces.{Starts, Takes}
 use Rattle.rules.specs.declared.Answer.{Answer}
 use Rattle.rules.specs.declared.Format.{Format}
-use Rattle.rules.specs.declared.Format.the-variants.{Etc1, Etc2Rgb, Etc2Rgba1, Etc2Rgba8, EacR, EacRSigned, EacRg, EacRgSigned, Bc1, Bc1Alpha, Bc3}
+use Rattle.rules.specs.declared.Format.the-variants.{Etc1, Etc2Rgb, Etc2Rgba1, Etc2Rgba8, EacR, EacRSigned, EacRg, EacRgSigned}
+use Rattle.rules.specs.declared.Format.the-variants.{Bc1, Bc1Alpha, Bc3, Bc7}
 use Rattle.rules.specs.declared.Picture.{Picture}
 use Rattle.rules.specs.declared.Progress.{Progress}
 
 -- the formats by their numbers here, a table of its own; a number behind it is read as the first
 abbrev pub formats : List Format
-formats = Etc1 ∷ Etc2Rgb ∷ Etc2Rgba1 ∷ Etc2Rgba8 ∷ EacR ∷ EacRSigned ∷ EacRg ∷ EacRgSigned ∷ Bc1 ∷ Bc1Alpha ∷ Bc3 ∷ []
+formats = Etc1 ∷ Etc2Rgb ∷ Etc2Rgba1 ∷ Etc2Rgba8 ∷ EacR ∷ EacRSigned ∷ EacRg ∷ EacRgSigned ∷ Bc1 ∷ Bc1Alpha ∷ Bc3 ∷ Bc7 ∷ []
 
 unfoldable pub formatAt : ℕ → Format
 formatAt n = getD formats n Etc1
@@ -33,6 +34,7 @@ numberOf EacRgSigned = 7
 numberOf Bc1 = 8
 numberOf Bc1Alpha = 9
 numberOf Bc3 = 10
+numberOf Bc7 = 11
 
 -- the state that the arrays hold, whatever is in them
 abbrev pub stateIn : List ℕ → List ℕ → Progress
@@ -54,7 +56,8 @@ pub record StartLent (f : Format) (p : Picture) (elements : ℕ) (answer : Answe
   pub these : numbers ≡ numberOf f ∷ p .width ∷ p .height ∷ p .pitch ∷ 0 ∷ []
 
 -- A piece e: so do they, and of the five numbers only that of the bytes taken is written.
-pub record PieceLent (numbers kept e image : List ℕ) (answer : Answer) (numbers' kept' : List ℕ) (painted unused : ℕ) (new : List ℕ) : Type 0 where
+pub record PieceLent (numbers kept e image : List ℕ) (answer : Answer) (numbers' kept' : List ℕ) (painted unused : ℕ) (new : List ℕ)
+    : Type 0 where
   pub takes :
       Takes (stateIn numbers kept) e image
       (record { answer = answer; progress = stateIn numbers' kept'; painted = painted; unused = unused })

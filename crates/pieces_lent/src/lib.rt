@@ -24,6 +24,7 @@ fn format_at(n: usize) -> Format
         8 => Format::Bc1,
         9 => Format::Bc1Alpha,
         10 => Format::Bc3,
+        11 => Format::Bc7,
         _ => Format::Etc1,
     }
 }
@@ -44,6 +45,7 @@ fn number_of(f: Format) -> usize
         Format::Bc1 => 8,
         Format::Bc1Alpha => 9,
         Format::Bc3 => 10,
+        Format::Bc7 => 11,
     }
 }
 

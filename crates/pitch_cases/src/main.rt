@@ -20,12 +20,13 @@ fn read(reader: usize, data: &[u8], pic: Picture, image: &mut [u32]) -> Answer {
     desktop(reader, data, pic, image)
 }
 
-// Readers 9 to 11.
+// Readers 9 to 12.
 fn desktop(reader: usize, data: &[u8], pic: Picture, image: &mut [u32]) -> Answer {
     match reader {
         9 => etc::decode_bc1_pitched(data, pic, image),
         10 => etc::decode_bc1a_pitched(data, pic, image),
-        _ => etc::decode_bc3_pitched(data, pic, image),
+        11 => etc::decode_bc3_pitched(data, pic, image),
+        _ => etc::decode_bc7_pitched(data, pic, image),
     }
 }
 
@@ -89,7 +90,7 @@ fn empty(width: usize, height: usize, pitch: usize) {
     let pic = pitched(width, height, pitch);
     say_size(pic);
     let mut reader: usize = 0;
-    while reader < 12 {
+    while reader < 13 {
         nothing(reader, pic);
         reader += 1;
     }
@@ -125,7 +126,7 @@ fn largest() {
 
 // A long picture over n fresh bytes: the answer, and how many elements changed.
 fn long(reader: usize, pic: Picture, n: usize)
-    requires { ⌜ reader < 12 ⌝ }
+    requires { ⌜ reader < 13 ⌝ }
 {
     let mut data = [0u8; 262144];
     let mut image = [0x11111111u32; 65544];
@@ -141,7 +142,7 @@ fn long_of(width: usize, height: usize, pitch: usize, n: usize) {
     let pic = pitched(width, height, pitch);
     say_size(pic);
     let mut reader: usize = 0;
-    while reader < 12 {
+    while reader < 13 {
         long(reader, pic, 262144);
         reader += 1;
     }
@@ -251,7 +252,7 @@ fn elements_of(pic: Picture) -> usize
 // One size with one gap, over fresh bytes and images: the answers to a pitch below the width, to one byte and one element less than
 // enough, and to enough; then how many elements are wrong.
 fn fresh_case(reader: usize, width: usize, height: usize, gap: usize)
-    requires { ⌜ (reader < 12) × (width < 10) × (height < 10) × (gap < 6) ⌝ }
+    requires { ⌜ (reader < 13) × (width < 10) × (height < 10) × (gap < 6) ⌝ }
 {
     let pic = pitched(width, height, width + gap);
     let elements = elements_of(pic);
@@ -281,7 +282,7 @@ fn fresh_case(reader: usize, width: usize, height: usize, gap: usize)
 
 // The heights 0 to 9 of one width and gap.
 fn heights(reader: usize, width: usize, gap: usize)
-    requires { ⌜ (reader < 12) × (width < 10) × (gap < 6) ⌝ }
+    requires { ⌜ (reader < 13) × (width < 10) × (gap < 6) ⌝ }
 {
     printing::say(b"reader ");
     printing::say_number(reader);
@@ -299,7 +300,7 @@ fn heights(reader: usize, width: usize, gap: usize)
 }
 
 fn gaps(reader: usize, width: usize)
-    requires { ⌜ (reader < 12) × (width < 10) ⌝ }
+    requires { ⌜ (reader < 13) × (width < 10) ⌝ }
 {
     let mut gap: usize = 0;
     while gap < 6 {
@@ -309,7 +310,7 @@ fn gaps(reader: usize, width: usize)
 }
 
 fn widths(reader: usize)
-    requires { ⌜ reader < 12 ⌝ }
+    requires { ⌜ reader < 13 ⌝ }
 {
     let mut width: usize = 0;
     while width < 10 {
@@ -324,7 +325,7 @@ fn main() {
     long_of(1, 65536, 1, 131072);
     long_of(4, 2, 65536, 8);
     let mut reader: usize = 0;
-    while reader < 12 {
+    while reader < 13 {
         widths(reader);
         reader += 1;
     }

@@ -18,6 +18,8 @@ use Rattle.rules.specs.Modes.{rgbPixel, rgba1Pixel, etc1Pixel}
 use Rattle.rules.specs.Channels.{alphaStep, alphaByte, rgba8Pixel, eacValue, eacByte, redPixel, redGreenPixel}
 use Rattle.numbers.specs.Numbers.{little}
 use Rattle.rules.specs.Desktop.{bc1Pixel, bc3Alpha, bc3Pixel}
+use Rattle.rules.specs.Bptc.{two, three, anchorOfTwo, anchorOfThree1, anchorOfThree2, subset, anchor}
+use Rattle.rules.specs.Bc7.{modeTable, lowest, bitsBefore, pixelIn, bc7Pixel}
 use Rattle.rules.specs.Formats.{sizeOf, showsOf}
 use Rattle.rules.specs.Readers.{pictureOf, pictureVerdict, ReadsPicture, strictChecks, strictVerdict, ReadsStrict, opaqueChecks, opaqueVerdict, ReadsOpaque}
 use Rattle.rules.specs.Readers.{blockVerdict, blockPainted, ReadsBlock, alphaPainted, ReadsAlpha, channelVerdict, channelPainted, ReadsChannel}
@@ -192,4 +194,5 @@ unfolding numbers numbersOf tested words orders places every bench table pitches
     painted firstOf differential wrapped kindBySums outOfRange tBases tDistance hBases hDistance planarBases planarChannel indexed
     rgbPixel rgba1Pixel etc1Pixel alphaStep alphaByte rgba8Pixel eacValue eacByte redPixel redGreenPixel sizeOf showsOf
     little bc1Pixel bc3Alpha bc3Pixel
+    two three anchorOfTwo anchorOfThree1 anchorOfThree2 subset anchor modeTable lowest bitsBefore pixelIn bc7Pixel
 hold = tt

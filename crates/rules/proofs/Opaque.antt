@@ -2,7 +2,6 @@
 -- lengths and answers are worked out by hand from the request's sentences.
 -- Assumes nothing.
 use mathlib.Core.List.{List, [], _∷_, _++_}
-use Prim.Native.Nat.{ℕ}
 use lib.ListN.{replicate}
 use Rattle.rules.proofs.Rows.{opaque, paddedOpaque, Row, shows, refuses, answers}
 use Rattle.rules.proofs.Specimens.{all, rows, columns, one, stays}

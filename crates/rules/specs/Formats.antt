@@ -6,10 +6,13 @@ use Rattle.rules.specs.Pixel.{Shows}
 use Rattle.rules.specs.Modes.{etc1Pixel, rgbPixel, rgba1Pixel}
 use Rattle.rules.specs.Channels.{rgba8Pixel, redPixel, redGreenPixel}
 use Rattle.rules.specs.Desktop.{bc1Pixel, bc3Pixel}
+use Rattle.rules.specs.Bc7.{bc7Pixel}
 use Rattle.rules.specs.declared.Format.{Format}
-use Rattle.rules.specs.declared.Format.the-variants.{Etc1, Etc2Rgb, Etc2Rgba1, Etc2Rgba8, EacR, EacRSigned, EacRg, EacRgSigned, Bc1, Bc1Alpha, Bc3}
+use Rattle.rules.specs.declared.Format.the-variants.{Etc1, Etc2Rgb, Etc2Rgba1, Etc2Rgba8, EacR, EacRSigned, EacRg, EacRgSigned}
+use Rattle.rules.specs.declared.Format.the-variants.{Bc1, Bc1Alpha, Bc3, Bc7}
 
--- "a block has 8 bytes, or 16 for RGBA8 and both EAC RG forms"; and of M-106's, 8 for BC1, or 16 for BC3, which has two halves
+-- "a block has 8 bytes, or 16 for RGBA8 and both EAC RG forms"; and of M-106's, 8 for BC1, or 16 for BC3, which has two halves; and 16 for
+-- BC7 (M-108)
 unfoldable pub sizeOf : Format → ℕ
 sizeOf Etc1 = 8
 sizeOf Etc2Rgb = 8
@@ -22,6 +25,7 @@ sizeOf EacRgSigned = 16
 sizeOf Bc1 = 8
 sizeOf Bc1Alpha = 8
 sizeOf Bc3 = 16
+sizeOf Bc7 = 16
 
 -- "Every accepted pixel is what the Khronos text says of its own block and place" (demand 2): what it says
 unfoldable pub showsOf : Format → Shows
@@ -36,3 +40,4 @@ showsOf EacRgSigned = redGreenPixel true
 showsOf Bc1 = bc1Pixel false false
 showsOf Bc1Alpha = bc1Pixel false true
 showsOf Bc3 = bc3Pixel
+showsOf Bc7 = bc7Pixel

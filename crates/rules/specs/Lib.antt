@@ -13,6 +13,10 @@ pub mod Modes
 pub mod Channels
 -- BC1 and BC3, of document 02
 pub mod Desktop
+-- bits, and BC7, of document 02
+pub mod Bits
+pub mod Bptc
+pub mod Bc7
 -- the formats, and what every reader owes its caller
 pub mod Formats
 pub mod Guards
@@ -31,3 +35,5 @@ pub mod Degrees
 pub mod Counting
 pub mod Checking
 pub mod Baking
+-- all eleven bits of EAC, of document 02
+pub mod Whole

@@ -1,6 +1,6 @@
 // The vocabulary: the words that the rules, the readers and their callers share. It has no functions.
 
-// The formats: the eight of document 01, in its order of readers, and those of M-106.
+// The formats: the eight of document 01, in its order of readers, and those of M-106 and M-108.
 pub enum Format {
     Etc1,
     Etc2Rgb,
@@ -13,6 +13,7 @@ pub enum Format {
     Bc1,
     Bc1Alpha,
     Bc3,
+    Bc7,
 }
 
 // The five kinds of colour block.
@@ -109,6 +110,28 @@ pub enum Sheet {
 pub struct Written {
     pub answer: Answer,
     pub bytes: usize,
+}
+
+// What a read of some bits answers. Document 01's number and value of each case are `bitsSaid`, in specs/Bits.antt.
+pub enum Bits {
+    Value(u8),
+    // over 8 bits, or past the lent bytes
+    Refused,
+}
+
+// A mode of BC7: how many subsets it has, and how many bits each kind of field. The p-bits are one of each endpoint's own, or one that
+// both endpoints of a subset share; an index is the first, or the second where there are two.
+pub struct Mode {
+    pub subsets: usize,
+    pub partition: usize,
+    pub rotation: usize,
+    pub selection: usize,
+    pub colour: usize,
+    pub alpha: usize,
+    pub own: usize,
+    pub shared: usize,
+    pub index: usize,
+    pub second: usize,
 }
 
 // What has been read of a picture whose bytes arrive in pieces: how many bytes of its blocks were taken, of which those of the block

@@ -13,6 +13,6 @@ sampleAt seed (suc i) = (sampleAt seed i * 5 + 89) % 256
 abbrev pub sampleByte : Bool → ℕ → ℕ
 sampleByte plain v = cond plain (v / 4 * 4 + v % 2) v
 
--- RGBA8, both RG and BC3 have blocks of sixteen bytes
+-- RGBA8, both RG, BC3 and BC7 have blocks of sixteen bytes
 abbrev pub readerSize : ℕ → ℕ
-readerSize reader = cond (((eqb reader 3 || eqb reader 6) || eqb reader 7) || eqb reader 11) 16 8
+readerSize reader = cond ((((eqb reader 3 || eqb reader 6) || eqb reader 7) || eqb reader 11) || eqb reader 12) 16 8

@@ -74,7 +74,7 @@ pub fn bytes_of(reader: usize, width: usize, height: usize) -> usize
     ensures { λ r. ⌜ (r ≡ across width * across height * readerSize reader) × (r < 145) ⌝ }
 {
     let blocks = checks::across(width) * checks::across(height);
-    let long = (reader == 3) | (reader == 6) | (reader == 7) | (reader == 11);
+    let long = (reader == 3) | (reader == 6) | (reader == 7) | (reader == 11) | (reader == 12);
     if long { blocks * 16 } else { blocks * 8 }
 }
 

@@ -13,7 +13,8 @@ use Rattle.rules.specs.declared.Picture.{Picture}
 use Rattle.rules.specs.declared.Answer.{Answer}
 use Rattle.rules.specs.declared.Answer.the-variants.{ShortData}
 use Rattle.rules.specs.declared.Format.{Format}
-use Rattle.rules.specs.declared.Format.the-variants.{Etc1, Etc2Rgb, Etc2Rgba1, Etc2Rgba8, EacR, EacRSigned, EacRg, EacRgSigned, Bc1, Bc1Alpha, Bc3}
+use Rattle.rules.specs.declared.Format.the-variants.{Etc1, Etc2Rgb, Etc2Rgba1, Etc2Rgba8, EacR, EacRSigned, EacRg, EacRgSigned}
+use Rattle.rules.specs.declared.Format.the-variants.{Bc1, Bc1Alpha, Bc3, Bc7}
 use Rattle.textures.specs.Textures.{fileLimit}
 use Rattle.textures.specs.declared.Texture.{Texture}
 use Rattle.guard.specs.Viewers.{guardOf}
@@ -34,6 +35,7 @@ isAsked EacRgSigned = false
 isAsked Bc1 = false
 isAsked Bc1Alpha = false
 isAsked Bc3 = false
+isAsked Bc7 = false
 
 abbrev pub viewerOf : Format → Viewer
 viewerOf Etc1 = viewer.Etc1
@@ -47,6 +49,7 @@ viewerOf EacRgSigned = viewer.Etc1
 viewerOf Bc1 = viewer.Etc1
 viewerOf Bc1Alpha = viewer.Etc1
 viewerOf Bc3 = viewer.Etc1
+viewerOf Bc7 = viewer.Etc1
 
 -- whether a level has bytes behind its blocks that its viewer minds: only a strict reader does
 abbrev pub leftOver : Viewer → Texture → Bool
@@ -89,4 +92,5 @@ pub record Judges (t : Texture) (number : ℕ) : Type 0 where
   pub names : number ≡ 4 → Looked (viewerOf (t .format)) t number
   pub names-clear : number ≡ 11 → Looked (viewerOf (t .format)) t number
   pub only-then : number ≡ 6 → leftOver (viewerOf (t .format)) t ≡ true
-  pub then-always : isAsked (t .format) ≡ true → t .width ≤ fileLimit → t .height ≤ fileLimit → leftOver (viewerOf (t .format)) t ≡ true → number ≡ 6
+  pub then-always : isAsked (t .format) ≡ true → t .width ≤ fileLimit → t .height ≤ fileLimit
+      → leftOver (viewerOf (t .format)) t ≡ true → number ≡ 6

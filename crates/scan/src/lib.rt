@@ -92,6 +92,7 @@ fn is_asked(f: Format) -> bool
         Format::Bc1 => false,
         Format::Bc1Alpha => false,
         Format::Bc3 => false,
+        Format::Bc7 => false,
     }
 }
 
@@ -111,6 +112,7 @@ fn viewer_of(f: Format) -> Viewer
         Format::Bc1 => Viewer::Etc1,
         Format::Bc1Alpha => Viewer::Etc1,
         Format::Bc3 => Viewer::Etc1,
+        Format::Bc7 => Viewer::Etc1,
     }
 }
 

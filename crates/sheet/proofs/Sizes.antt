@@ -6,7 +6,7 @@ use native.Mathlib.Nat.{mul-le-mul}
 use Rattle.rules.specs.Places.{blocks}
 use Rattle.rules.specs.Formats.{sizeOf}
 use Rattle.rules.specs.declared.Format.{Format}
-use Rattle.rules.specs.declared.Format.the-variants.{Etc1, Etc2Rgb, Etc2Rgba1, Etc2Rgba8, EacR, EacRSigned, EacRg, EacRgSigned, Bc1, Bc1Alpha, Bc3}
+use Rattle.rules.specs.declared.Format.the-variants.{Etc1, Etc2Rgb, Etc2Rgba1, Etc2Rgba8, EacR, EacRSigned, EacRg, EacRgSigned, Bc1, Bc1Alpha, Bc3, Bc7}
 use Rattle.rules.specs.declared.Picture.{Picture}
 use Rattle.rules.specs.Sheets.{sheetLimit, formatOf, blockBytes}
 
@@ -31,6 +31,7 @@ small EacRgSigned = omega arith
 small Bc1 = omega arith
 small Bc1Alpha = omega arith
 small Bc3 = omega arith
+small Bc7 = omega arith
 
 pub bytes : (f : ℕ) (p : Picture) → p .width ≤ sheetLimit → p .height ≤ sheetLimit → blockBytes f p ≤ 0x10000000
 bytes f p n l = mul-le-mul (few p n l) (small (formatOf f))

@@ -1,6 +1,6 @@
 -- What a texture file may hold, what its numbers stand for, and the number of each answer.
 -- Assumes nothing.
-use mathlib.Core.Bool.{cond}
+use mathlib.Core.Bool.{Bool, cond}
 use mathlib.Core.List.{List, [], _∷_}
 use Prim.Native.Nat.{ℕ, _+_, _-_, _*_}
 use lib.Dec.{eqb, ltb}
@@ -11,9 +11,11 @@ use Rattle.rules.specs.declared.Format.{Format}
 use Rattle.rules.specs.declared.Format.the-variants.{Etc1, Etc2Rgb, Etc2Rgba1, Etc2Rgba8, EacR, EacRSigned, EacRg, EacRgSigned}
 use Rattle.textures.specs.declared.Known.{Known}
 use Rattle.textures.specs.declared.Known.the-variants.{As, Not}
+use Rattle.textures.specs.declared.Texture.{Texture}
 use Rattle.textures.specs.declared.Header.{Header}
 use Rattle.textures.specs.declared.Header.the-variants.{Holds, TooLarge, ShortData, Cut, NoTexture}
 use Rattle.textures.specs.declared.Header.the-variants.{NoVersion, NoFormat, SizesDisagree, LongLevel, NotFlat, NoPixels}
+use Rattle.textures.specs.declared.Header.the-variants.{WrongBase, BrokenKeys, LevelsMissing, NoLevel, NoNumber, BytesLeft}
 
 -- the number of each answer: document 01's where it has one, and from 20 on for files
 abbrev pub numberOf : Header → ℕ
@@ -28,6 +30,32 @@ numberOf SizesDisagree = 24
 numberOf (LongLevel t) = 24
 numberOf NotFlat = 25
 numberOf NoPixels = 26
+numberOf WrongBase = 28
+numberOf BrokenKeys = 29
+numberOf LevelsMissing = 37
+numberOf NoLevel = 38
+numberOf NoNumber = 39
+numberOf BytesLeft = 40
+
+-- what more is said of a picture that is held; a refusal stays as it is
+unfoldable pub heldThen : (Texture → Header) → Header → Header
+heldThen says (Holds t) = says t
+heldThen says TooLarge = TooLarge
+heldThen says ShortData = ShortData
+heldThen says Cut = Cut
+heldThen says NoTexture = NoTexture
+heldThen says NoVersion = NoVersion
+heldThen says NoFormat = NoFormat
+heldThen says SizesDisagree = SizesDisagree
+heldThen says (LongLevel t) = LongLevel t
+heldThen says NotFlat = NotFlat
+heldThen says NoPixels = NoPixels
+heldThen says WrongBase = WrongBase
+heldThen says BrokenKeys = BrokenKeys
+heldThen says LevelsMissing = LevelsMissing
+heldThen says NoLevel = NoLevel
+heldThen says NoNumber = NoNumber
+heldThen says BytesLeft = BytesLeft
 
 -- a row of a list of formats: a number, and the format that it stands for
 pub record Row : Type 0 where
@@ -105,3 +133,8 @@ laidOut f w h start len =
     (cond (tooLarge fileLimit (sized w h)) TooLarge
     (cond (ltb len (start + bytesFor f w h)) ShortData
     (Holds (record { format = f; width = w; height = h; start = start; bytes = bytesFor f w h; level = len - start })))))
+
+-- bare blocks, of a format and a size that somebody says, with nothing behind them unless more may follow
+unfoldable pub bareOf : Format → ℕ → ℕ → ℕ → Bool → Header
+bareOf f w h len more =
+    heldThen (λ t. cond more (Holds t) (cond (ltb (t .bytes) (t .level)) BytesLeft (Holds t))) (laidOut f w h 0 len)

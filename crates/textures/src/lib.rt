@@ -3,7 +3,7 @@ use rules::Format;
 use rules::Picture;
 ghost use mathlib.Core.Path.{_≡_};
 ghost use Prim.Native.Nat.{_<_};
-ghost use Rattle.textures.specs.Textures.{oldPkm, newPkm, glFormat, laidOut};
+ghost use Rattle.textures.specs.Textures.{oldPkm, newPkm, glFormat, laidOut, bareOf};
 
 // What a number stands for, in a list of formats.
 pub enum Known {
@@ -45,6 +45,18 @@ pub enum Header {
     NotFlat,
     // a side of 0, which a PNG cannot have
     NoPixels,
+    // a type size or a base format that contradicts the format
+    WrongBase,
+    // key and value data that is no run of whole entries
+    BrokenKeys,
+    // fewer levels than the file tells
+    LevelsMissing,
+    // no level of the number that somebody says
+    NoLevel,
+    // no number where somebody says one
+    NoNumber,
+    // bytes behind bare blocks
+    BytesLeft,
 }
 
 // The format of a number in a PKM file of version 1.0.
@@ -135,9 +147,19 @@ pub fn laid_out(f: Format, width: usize, height: usize, start: usize, len: usize
     })
 }
 
-// Bare blocks, whose format and size somebody says: the same checks.
-pub fn bare(f: Format, width: usize, height: usize, len: usize) -> Header
-    ensures { λ r. ⌜ r ≡ laidOut f width height 0 len ⌝ }
+// Bare blocks, whose format and size somebody says, and whether more bytes may follow them: the same checks, and that none is left.
+pub fn bare(f: Format, width: usize, height: usize, len: usize, more: bool) -> Header
+    ensures { λ r. ⌜ r ≡ bareOf f width height len more ⌝ }
 {
-    laid_out(f, width, height, 0, len)
+    let told = laid_out(f, width, height, 0, len);
+    let Header::Holds(t) = told else {
+        return told;
+    };
+    if more {
+        return told;
+    }
+    if t.bytes < t.level {
+        return Header::BytesLeft;
+    }
+    told
 }

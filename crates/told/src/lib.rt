@@ -5,6 +5,8 @@ use rules::Picture;
 ghost use mathlib.Core.Path.{_≡_};
 ghost use Rattle.rules.specs.Places.{pitched};
 ghost use Rattle.rules.specs.Readers.{ReadsPicture, ReadsStrict, ReadsOpaque};
+ghost use Rattle.rules.specs.Whole.{ReadsWhole};
+ghost use Rattle.eleven.specs.Lanes.{lanes};
 ghost use Rattle.told.specs.Told.{Told, answerNumber, blockOr};
 
 // Reads a picture of any format and pitch.
@@ -26,6 +28,28 @@ pub fn read(
         pitch: pitch,
     };
     spoken::number(picture::read(f, data, pic, image))
+}
+
+// Reads whole values of EAC, of red, or of red and green, with any pitch.
+pub fn read_whole(
+    green: bool,
+    signed: bool,
+    data: &[u8],
+    width: usize,
+    height: usize,
+    pitch: usize,
+    image: &mut [u16],
+) -> u32
+    ensures { λ r. ⌜ Told
+        (λ a. ReadsWhole signed (lanes green) (now («data» .entry)) (pitched width height pitch) (now (image .entry)) a (now (image .exit)))
+        r ⌝ }
+{
+    let pic = Picture {
+        width: width,
+        height: height,
+        pitch: pitch,
+    };
+    spoken::number(eleven::read(green, signed, data, pic, image))
 }
 
 // The number of an answer. The block that it names is written, and an answer that names none writes none.

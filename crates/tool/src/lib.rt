@@ -67,7 +67,9 @@ fn unpacked(source: Source, place: usize) -> u64 {
 fn done(what: Asked, source: Source) -> u64 {
     match what {
         Asked::Picture => unpacked(source, 2),
+        Asked::Level => unpacked(source, 4),
         Asked::Raw => unpacked(source, 6),
+        Asked::More => unpacked(source, 6),
         Asked::Check => checked(source),
         _ => info(source),
     }

@@ -1,10 +1,12 @@
-// The whole value of a pixel of an EAC channel, eleven bits, of what its block says: the centre, the multiplier and a step.
+// The whole value of a pixel of an EAC channel, eleven bits, of what its block says: the middle, the multiplier and a step; and what is
+// made of it, a byte or sixteen bits.
 ghost use mathlib.Core.Path.{_≡_};
-ghost use Prim.Native.Nat.{_<_};
-ghost use lib.IntN.{pos, _+ℤ_, _*ℤ_};
-ghost use lib.Signed.{mag};
-ghost use Rattle.rules.specs.Notation.{clamp};
-ghost use Rattle.rules.specs.Channels.{signedBase, centre, multiplier};
+ghost use Prim.Native.Nat.{_<_, _/_};
+ghost use lib.Dec.{T};
+ghost use lib.IntN.{pos, natAbs, _+ℤ_, _*ℤ_};
+ghost use lib.Signed.{mag, nonNeg};
+ghost use Rattle.rules.specs.Channels.{signedBase, multiplier};
+ghost use Rattle.rules.specs.Whole.{least, most, between, middle, added, sixteen as sixteenOf};
 
 // The signed base: a byte as two's complement, where -128 is read as -127.
 fn signed_byte(b: u8) -> i16
@@ -19,12 +21,12 @@ fn signed_byte(b: u8) -> i16
     }
 }
 
-// The value in the middle of a block's, to which steps are added: 8 * b0 + 4, or as two's complement with 1023 for 4.
-pub fn centre_of(b: u8, signed: bool) -> i16
-    ensures { λ r. ⌜ (r ≡ centre signed b) × (mag r < 4096) ⌝ }
+// The value in the middle of a block's, to which steps are added: 8 * b0 + 4, or 8 times the signed base.
+pub fn middle_of(b: u8, signed: bool) -> i16
+    ensures { λ r. ⌜ (r ≡ middle signed b) × (mag r < 4096) ⌝ }
 {
     if signed {
-        1023 + 8 * signed_byte(b)
+        8 * signed_byte(b)
     } else {
         4 + 8 * b as i16
     }
@@ -38,17 +40,62 @@ pub fn times_of(m: u8) -> u8
     if m == 0 { 1 } else { 8 * m }
 }
 
-// The whole value of a pixel, clamped to eleven bits.
-pub fn eac_value(base: i16, m: u8, s: i16) -> u32
+// The least of the values.
+pub fn least_of(signed: bool) -> i16
+    ensures { λ r. ⌜ r ≡ least signed ⌝ }
+{
+    if signed { -1023 } else { 0 }
+}
+
+// The most of them.
+pub fn most_of(signed: bool) -> i16
+    ensures { λ r. ⌜ r ≡ most signed ⌝ }
+{
+    if signed { 1023 } else { 2047 }
+}
+
+// The whole value of a pixel, clamped.
+pub fn eac_whole(base: i16, m: u8, s: i16, low: i16, high: i16) -> i16
     requires { ⌜ (mag base < 4096) × (m < 121) × (mag s < 16) ⌝ }
-    ensures { λ r. ⌜ (r ≡ clamp 2047 (base +ℤ pos m *ℤ s)) × (r < 2048) ⌝ }
+    ensures { λ r. ⌜ r ≡ between low high (base +ℤ pos m *ℤ s) ⌝ }
 {
     let v = base + m as i16 * s;
-    if v < 0 {
-        0
-    } else if 2047 < v {
-        2047
+    if v < low {
+        low
+    } else if high < v {
+        high
     } else {
-        v as u32
+        v
     }
+}
+
+// What makes a value no less than 0.
+pub fn added_of(signed: bool) -> u16
+    ensures { λ r. ⌜ (r ≡ added signed) × (r < 2048) ⌝ }
+{
+    if signed { 1023 } else { 0 }
+}
+
+// A value with that added.
+fn raised(v: i16, up: u16) -> u16
+    requires { ⌜ (mag v < 2048) × (up < 2048) × T (nonNeg (pos up +ℤ v)) ⌝ }
+    ensures { λ r. ⌜ (pos r ≡ pos up +ℤ v) × (r < 4096) ⌝ }
+{
+    (up as i16 + v) as u16
+}
+
+// The byte of a value.
+pub fn byte_of(v: i16, up: u16) -> u32
+    requires { ⌜ (mag v < 2048) × (up < 2048) × T (nonNeg (pos up +ℤ v)) ⌝ }
+    ensures { λ r. ⌜ r ≡ natAbs (pos up +ℤ v) / 8 ⌝ }
+{
+    raised(v, up) as u32 / 8
+}
+
+// A value as sixteen bits, a negative one in two's complement.
+pub fn sixteen(v: i16, up: u16) -> u16
+    requires { ⌜ (mag v < 2048) × (up < 2048) × T (nonNeg (pos up +ℤ v)) ⌝ }
+    ensures { λ r. ⌜ r ≡ sixteenOf v ⌝ }
+{
+    std::num::wrapping_sub_u16(raised(v, up), up)
 }

@@ -96,12 +96,11 @@ fn at_most(most: usize, n: usize) -> usize
 fn is_reader(number: u32) -> bool
     ensures { λ r. ⌜ r ≡ isReader number ⌝ }
 {
-    let picture = (number < 9) | (number == 13);
-    let block = (15 < number) & (number < 31);
-    let census_or_desktop = (31 < number) & (number < 37);
-    let pitched = (39 < number) & (number < 49) | (number == 53);
-    let desktop_pitched = (73 < number) & (number < 77);
-    picture | block | census_or_desktop | pitched | desktop_pitched
+    let picture = number < 14;
+    let block_or_desktop = (15 < number) & (number < 38);
+    let pitched = (39 < number) & (number < 54);
+    let desktop_pitched = (73 < number) & (number < 78);
+    picture | block_or_desktop | pitched | desktop_pitched
 }
 
 // Whether the reader is one, and there is room for the lengths.

@@ -8,6 +8,7 @@ use textures::Texture;
 ghost use mathlib.Core.Path.{_≡_};
 ghost use Prim.Native.Nat.{_<_};
 ghost use Rattle.textures.specs.Textures.{numberOf};
+ghost use Rattle.words.specs.Progress.{markOf};
 
 // The refusals of the tool that no header tells: a number stands here and beside its sentence, in `own_refusal`, and nowhere else but
 // in crates/lines, which stands on no words.
@@ -41,6 +42,12 @@ pub fn number_of(header: Header) -> u64
         Header::LongLevel(_) => 24,
         Header::NotFlat => 25,
         Header::NoPixels => 26,
+        Header::WrongBase => 28,
+        Header::BrokenKeys => 29,
+        Header::LevelsMissing => 37,
+        Header::NoLevel => 38,
+        Header::NoNumber => 39,
+        Header::BytesLeft => 40,
     }
 }
 
@@ -73,6 +80,20 @@ fn header_refusal(number: u64) {
     }
 }
 
+// The sentence of a refusal of a file's keys and levels, or of bare blocks.
+fn level_refusal(number: u64) {
+    match number {
+        28 => complain(b"The type size or the base format contradicts the format."),
+        29 => complain(b"The key and value data is no run of whole entries."),
+        37 => complain(b"The file has fewer levels than it tells."),
+        38 => complain(b"The file has no such level."),
+        39 => complain(b"The width, the height or the level is no number below 100,000."),
+        _ => complain(
+            b"The file has more bytes than its blocks need; --more takes it all the same.",
+        ),
+    }
+}
+
 // The sentence of any other refusal.
 fn own_refusal(number: u64) {
     match number {
@@ -90,11 +111,13 @@ fn own_refusal(number: u64) {
     }
 }
 
-// The sentence of a refusal. The sentences are two functions, and so is what `help` says: what a check of a function costs grows faster
-// than its arms and calls.
+// The sentence of a refusal. The sentences are three functions, and what `help` says is two: what a check of a function costs grows
+// faster than its arms and calls.
 pub fn refusal(number: u64) {
     if (19 < number) & (number < 27) {
         header_refusal(number)
+    } else if (27 < number) & (number < 30) | (36 < number) {
+        level_refusal(number)
     } else {
         own_refusal(number)
     }
@@ -121,6 +144,7 @@ fn name(f: Format) {
         Format::Bc1 => tell(b"BC1"),
         Format::Bc1Alpha => tell(b"BC1 with alpha"),
         Format::Bc3 => tell(b"BC3"),
+        Format::Bc7 => tell(b"BC7"),
     }
 }
 
@@ -149,27 +173,70 @@ pub fn texture(t: Texture) {
     blocks(t);
 }
 
-// How far the work is, where somebody looks on: every 64th row of blocks of a large picture.
-pub fn progress(row: usize, rows: usize) {
+// What is shown of how far the work is: nothing, a row of blocks over the last one that was shown, the last row with a line end, or
+// a line end alone.
+enum Mark {
+    Nothing,
+    Row,
+    Last,
+    End,
+}
+
+// What is shown after so many rows of blocks of a picture, of which the last went well or did not: of a large one every 64th row and
+// the last; where it did not go well, that the line ends that was shown before.
+fn mark_of(done: usize, rows: usize, well: bool) -> Mark
+    ensures { λ r. ⌜ r ≡ markOf done rows well ⌝ }
+{
     if rows < 256 {
-        return;
+        return Mark::Nothing;
     }
-    if row % 64 != 0 {
-        return;
+    if !well {
+        if done < 65 {
+            return Mark::Nothing;
+        }
+        return Mark::End;
     }
+    if done == rows {
+        return Mark::Last;
+    }
+    if done % 64 == 0 {
+        return Mark::Row;
+    }
+    Mark::Nothing
+}
+
+// Shows a row, over what was shown before it in this line.
+fn show_row(done: usize, rows: usize) {
+    io::write_all(STDERR_FILENO, b"\rrow of blocks ");
+    io::print_decimal(STDERR_FILENO, done as u64);
+    io::write_all(STDERR_FILENO, b" of ");
+    io::print_decimal(STDERR_FILENO, rows as u64);
+}
+
+// How far the work is, where somebody looks on.
+pub fn progress(done: usize, rows: usize, well: bool) {
     if libc::isatty(STDERR_FILENO) != 1 {
         return;
     }
-    io::write_all(STDERR_FILENO, b"\rrow of blocks ");
-    io::print_decimal(STDERR_FILENO, row as u64);
-    io::write_all(STDERR_FILENO, b" of ");
-    io::print_decimal(STDERR_FILENO, rows as u64);
+    match mark_of(done, rows, well) {
+        Mark::Nothing => {}
+        Mark::Row => show_row(done, rows),
+        Mark::Last => {
+            show_row(done, rows);
+            complain(b"");
+        }
+        Mark::End => complain(b""),
+    }
 }
 
 // What may be asked.
 fn usage() {
     tell(b"unpack FILE OUT.png                        a PKM or KTX 1 file to a PNG\n");
+    tell(b"unpack --level N FILE OUT.png              level N of it\n");
     tell(b"unpack --raw FORMAT WIDTH HEIGHT FILE OUT.png   the same of bare blocks\n");
+    tell(
+        b"unpack --more FORMAT WIDTH HEIGHT FILE OUT.png  the same where more bytes follow them\n",
+    );
     tell(
         b"unpack --check FILE     whether an older viewer may show the picture. Of ETC1 and RGB: whether\n",
     );
@@ -198,7 +265,10 @@ pub fn help() {
     tell(
         b"bytes for a strict ETC1 reader, 11 a block for an opaque-only viewer, 20 to 27 the file's\n",
     );
-    tell(b"header, 30 the file, 31 the PNG, 32 the call.\n");
+    tell(
+        b"header, 28 and 29 the base format and the keys, 30 the file, 31 the PNG, 32 the call,\n",
+    );
+    tell(b"37 and 38 the levels, 39 no number, 40 bytes left over.\n");
     tell(b"A refusal leaves no PNG behind.\n");
 }
 

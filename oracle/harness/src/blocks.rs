@@ -97,6 +97,8 @@ fn of_kind(half: Half, number: usize, random: &mut Random) -> [u8; 8] {
         Half::Alpha | Half::Eac => channel(number % 8, random),
         Half::Desktop => desktop(number % 6, random),
         Half::DesktopAlpha => desktop_alpha(number % 6, random),
+        Half::Bc7 => bc7(number, random),
+        Half::Bc7Rest => random.next().to_le_bytes(),
     }
 }
 
@@ -135,9 +137,18 @@ pub fn desktop_alpha(kind: usize, random: &mut Random) -> [u8; 8] {
     block
 }
 
+// The first half of a BC7 block: each mode in its turn, and with each the six bits behind it in theirs, which hold the
+// partition, or the rotation, the index selection and the first bits of an endpoint.
+pub fn bc7(number: usize, random: &mut Random) -> [u8; 8] {
+    let mode = number % 8;
+    let bits = (number / 8 % 64) as u64;
+    let rest = random.next() >> (mode + 7) << (mode + 7);
+    (rest | bits << (mode + 1) | 1 << mode).to_le_bytes()
+}
+
 // A colour half's mode; RGBA1 has its opaque bit set in every second round. Other halves have none.
 fn of_mode(half: Half, number: usize, random: &mut Random) -> [u8; 8] {
-    if matches!(half, Half::Alpha | Half::Eac | Half::Desktop | Half::DesktopAlpha) {
+    if matches!(half, Half::Alpha | Half::Eac | Half::Desktop | Half::DesktopAlpha | Half::Bc7 | Half::Bc7Rest) {
         return of_kind(half, number, random);
     }
     let mut block = mode(number % MODES, random);

@@ -1,4 +1,4 @@
-//! Pictures that a desktop's encoder wrote: DDS files of BC1 and BC3, by libsquish and by Mesa.
+//! Pictures that a desktop's encoder wrote: DDS files of BC1, BC3 and BC7, by libsquish or Pillow and by Mesa.
 
 use crate::protocol::{ask, Case};
 use crate::readers::*;
@@ -13,16 +13,18 @@ struct Dds {
     blocks: Vec<u8>,
 }
 
-// The head is 128 bytes: height and width at 12 and 16, and the format in four letters at 84. What is written without
-// alpha reads alike with it where no index says transparent, and is held to both rules.
+// The head is 128 bytes: height and width at 12 and 16, and the format in four letters at 84; behind the letters DX10 come
+// 20 bytes more, and first a number. What is written without alpha reads alike with it where no index says transparent, and
+// is held to both rules.
 fn parse(bytes: &[u8]) -> Option<Dds> {
     let word = |at: usize| Some(u32::from_le_bytes(bytes.get(at..at + 4)?.try_into().ok()?));
-    let readers: &[u32] = match bytes.get(84..88)? {
-        b"DXT1" => &[BC1, BC1A],
-        b"DXT5" => &[BC3],
+    let (readers, from): (&[u32], usize) = match bytes.get(84..88)? {
+        b"DXT1" => (&[BC1, BC1A], 128),
+        b"DXT5" => (&[BC3], 128),
+        b"DX10" if word(128)? == 98 => (&[BC7], 148),
         _ => return None,
     };
-    Some(Dds { readers, width: word(16)?, height: word(12)?, blocks: bytes.get(128..)?.to_vec() })
+    Some(Dds { readers, width: word(16)?, height: word(12)?, blocks: bytes.get(from..)?.to_vec() })
 }
 
 fn list(folder: &str) -> Result<Vec<String>> {
@@ -39,9 +41,11 @@ pub fn compare(options: &crate::Options) -> Result<bool> {
     let mut same = true;
     for path in list(&options.desktop)? {
         let dds = parse(&std::fs::read(&path)?)
-            .ok_or_else(|| Error::other(format!("{path} is no DDS file of BC1 or BC3")))?;
-        for &reader in dds.readers {
-            for (program, label) in [(&options.mesa, "Mesa"), (&options.squish, "squish")] {
+            .ok_or_else(|| Error::other(format!("{path} is no DDS file of BC1, BC3 or BC7")))?;
+        let asked = |reader: &&u32| options.only.is_empty() || options.only == name(**reader);
+        for &reader in dds.readers.iter().filter(asked) {
+            let other = if reader == BC7 { (&options.pillow, "Pillow") } else { (&options.squish, "squish") };
+            for (program, label) in [(&options.mesa, "Mesa"), other] {
                 if label == "squish" && reader == BC1 {
                     continue;
                 }

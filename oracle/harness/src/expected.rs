@@ -225,7 +225,8 @@ fn crate_picture(case: &Case, image: &mut [u32]) -> Result<(), &'static str> {
         EACRG_SIGNED => given::decode_eacrg_signed,
         BC1 => given::decode_bc1,
         BC1A => given::decode_bc1a,
-        _ => given::decode_bc3,
+        BC3 => given::decode_bc3,
+        _ => given::decode_bc7,
     };
     decode(&case.data, case.width as usize, case.height as usize, image)
 }
@@ -247,6 +248,7 @@ fn crate_block(case: &Case, image: &mut [u32]) {
         BLOCK_BC1 => given::decode_bc1_block(data, image),
         BLOCK_BC1A => given::decode_bc1a_block(data, image),
         BLOCK_BC3 => given::decode_bc3_block(data, image),
-        _ => given::decode_bc3_alpha(data, image, case.channel as usize),
+        BLOCK_BC3_ALPHA => given::decode_bc3_alpha(data, image, case.channel as usize),
+        _ => given::decode_bc7_block(data, image),
     }
 }

@@ -29,15 +29,17 @@ pub struct Options {
     seed: u64,
     blocks: usize,
     listed: Vec<String>,
-    eleven: bool,
     /// Programs that speak the protocol, and the folder of published pictures.
     mesa: String,
     android: String,
     squish: String,
+    pillow: String,
     pictures: String,
     /// The folder of pictures that nvcompress wrote.
     desktop: String,
     program: String,
+    /// The one reader that is asked, where there is one.
+    only: String,
     /// What the stored list says of itself, and the folder that it goes to.
     about: String,
     folder: String,
@@ -51,10 +53,11 @@ fn options(words: &[String]) -> Options {
         seed: number("--seed", 1),
         blocks: number("--blocks", 300_000) as usize,
         listed: text("--listed").split(',').map(str::to_string).collect(),
-        eleven: words.iter().any(|word| word == "--eleven"),
         mesa: text("--mesa"),
         android: text("--android"),
         squish: text("--squish"),
+        pillow: text("--pillow"),
+        only: text("--only"),
         pictures: text("--pictures"),
         desktop: text("--desktop"),
         program: text("--program"),
@@ -93,11 +96,12 @@ fn compare(options: &Options) -> Result<bool> {
     same &= examples::of_crate(&options.program)?;
     same &= examples::crate_has_no_such_refusal();
     same &= census::by_hand(&options.program)?;
-    for reader in readers::PICTURES.into_iter().chain(readers::BLOCKS).chain(readers::CENSUSES) {
+    let asked = |reader: &u32| options.only.is_empty() || options.only == readers::name(*reader);
+    for reader in readers::PICTURES.into_iter().chain(readers::BLOCKS).chain(readers::CENSUSES).filter(asked) {
         let shapes = cases::plan(reader, options.seed, options.blocks);
         same &= compare_reader(readers::name(reader).to_string(), shapes, options)?;
     }
-    for reader in readers::PICTURES {
+    for reader in readers::PICTURES.into_iter().filter(asked) {
         let shapes = cases::pitched_plan(reader, options.seed, options.blocks);
         same &= compare_reader(format!("{}, with a pitch", readers::name(reader)), shapes, options)?;
     }
@@ -119,6 +123,9 @@ fn compare_specimens(options: &Options) -> Result<bool> {
 }
 
 fn second(options: &Options) -> Result<bool> {
+    if !options.only.is_empty() {
+        return second::only(options);
+    }
     let mut same = true;
     for path in pictures::list(&options.pictures)? {
         same &= pictures::compare(&path, &options.program)?;
@@ -129,6 +136,7 @@ fn second(options: &Options) -> Result<bool> {
     same &= second::mesa(options)?;
     same &= second::every_base(options)?;
     same &= second::squish(options)?;
+    same &= second::pillow(options)?;
     same &= desktop::compare(options)?;
     same &= second::with_a_pitch(options)?;
     Ok(same)

@@ -18,6 +18,7 @@ pub const OPAQUE: u32 = 13;
 pub const BC1: u32 = 34;
 pub const BC1A: u32 = 35;
 pub const BC3: u32 = 36;
+pub const BC7: u32 = 37;
 
 pub const BLOCK_ETC1: u32 = 16;
 pub const BLOCK_RGB: u32 = 17;
@@ -34,6 +35,7 @@ pub const BLOCK_BC1: u32 = 27;
 pub const BLOCK_BC1A: u32 = 28;
 pub const BLOCK_BC3: u32 = 29;
 pub const BLOCK_BC3_ALPHA: u32 = 30;
+pub const BLOCK_BC7: u32 = 31;
 
 /// Censuses of blocks; what they lend is room for the counts.
 pub const CENSUS_RGB: u32 = 32;
@@ -42,11 +44,11 @@ pub const CENSUS_RGBA1: u32 = 33;
 /// A picture reader that takes a pitch has its twin's number and so many more.
 pub const PITCHED: u32 = 40;
 
-/// The formats: those of document 01 in its order, and M-106's.
-pub const FORMATS: [u32; 11] = [ETC1, RGB, RGBA1, RGBA8, EACR, EACR_SIGNED, EACRG, EACRG_SIGNED, BC1, BC1A, BC3];
-pub const PICTURES: [u32; 13] =
-    [ETC1, RGB, RGBA1, RGBA8, EACR, EACR_SIGNED, EACRG, EACRG_SIGNED, STRICT, OPAQUE, BC1, BC1A, BC3];
-pub const BLOCKS: std::ops::RangeInclusive<u32> = BLOCK_ETC1..=BLOCK_BC3_ALPHA;
+/// The formats: those of document 01 in its order, M-106's and M-108's.
+pub const FORMATS: [u32; 12] = [ETC1, RGB, RGBA1, RGBA8, EACR, EACR_SIGNED, EACRG, EACRG_SIGNED, BC1, BC1A, BC3, BC7];
+pub const PICTURES: [u32; 14] =
+    [ETC1, RGB, RGBA1, RGBA8, EACR, EACR_SIGNED, EACRG, EACRG_SIGNED, STRICT, OPAQUE, BC1, BC1A, BC3, BC7];
+pub const BLOCKS: std::ops::RangeInclusive<u32> = BLOCK_ETC1..=BLOCK_BC7;
 pub const CENSUSES: std::ops::RangeInclusive<u32> = CENSUS_RGB..=CENSUS_RGBA1;
 
 pub fn name(reader: u32) -> &'static str {
@@ -80,6 +82,8 @@ pub fn name(reader: u32) -> &'static str {
         BLOCK_BC1A => "bc1a_block",
         BLOCK_BC3 => "bc3_block",
         BLOCK_BC3_ALPHA => "bc3_alpha",
+        BC7 => "bc7",
+        BLOCK_BC7 => "bc7_block",
         CENSUS_RGB => "census_etc2_rgb",
         CENSUS_RGBA1 => "census_etc2_rgba1",
         _ => "unknown",
@@ -126,6 +130,7 @@ pub fn picture_of(reader: u32) -> u32 {
         BLOCK_BC1,
         BLOCK_BC1A,
         BLOCK_BC3,
+        BLOCK_BC7,
     ];
     places.iter().position(|&other| other == reader).map_or(reader, |at| FORMATS[at])
 }
@@ -133,7 +138,7 @@ pub fn picture_of(reader: u32) -> u32 {
 pub fn block_size(reader: u32) -> usize {
     match plain(reader) {
         RGBA8 | EACRG | EACRG_SIGNED | WIDE_EACRG | WIDE_EACRG_SIGNED | BLOCK_RGBA8 | BLOCK_EACRG
-        | BLOCK_EACRG_SIGNED | BC3 | BLOCK_BC3 => 16,
+        | BLOCK_EACRG_SIGNED | BC3 | BLOCK_BC3 | BC7 | BLOCK_BC7 => 16,
         _ => 8,
     }
 }
@@ -168,6 +173,9 @@ pub enum Half {
     Desktop,
     /// Two alphas, and three bits a pixel.
     DesktopAlpha,
+    /// The first half of a BC7 block, with its mode and partition; and the second.
+    Bc7,
+    Bc7Rest,
 }
 
 pub fn half(reader: u32, second: bool) -> Half {
@@ -180,6 +188,8 @@ pub fn half(reader: u32, second: bool) -> Half {
         BC1 | BC1A | BLOCK_BC1 | BLOCK_BC1A => Half::Desktop,
         BC3 | BLOCK_BC3 if second => Half::Desktop,
         BC3 | BLOCK_BC3 | BLOCK_BC3_ALPHA => Half::DesktopAlpha,
+        BC7 | BLOCK_BC7 if second => Half::Bc7Rest,
+        BC7 | BLOCK_BC7 => Half::Bc7,
         _ => Half::Eac,
     }
 }

@@ -2,7 +2,7 @@
 //! and every field of every kind, with the answers of the crate, which Mesa and Android must share where they can be
 //! asked. The program under test is not asked.
 
-use crate::blocks::{channel, colour, desktop, desktop_alpha, h_orders};
+use crate::blocks::{bc7, channel, colour, desktop, desktop_alpha, h_orders};
 use crate::expected::expected;
 use crate::protocol::{ask, Answer, Case, Pair};
 use crate::random::Random;
@@ -46,10 +46,10 @@ fn of_kinds(kinds: &[usize], random: &mut Random) -> Vec<Block> {
     kinds.iter().map(|&kind| colour(kind, random)).collect()
 }
 
-// Each group has numbers of its own, so that a change in one leaves the others as they are. The last two, made at the same time by two
-// requests, begin at the same.
+// Each group has numbers of its own, so that a change in one leaves the others as they are. Two, made at the same time by two requests,
+// begin at the same.
 fn rows(seed: u64) -> Vec<Row> {
-    let groups: [(u64, fn(&mut Random) -> Vec<Row>); 10] = [
+    let groups: [(u64, fn(&mut Random) -> Vec<Row>); 12] = [
         (0, glance),
         (1, single),
         (2, etc1),
@@ -60,6 +60,8 @@ fn rows(seed: u64) -> Vec<Row> {
         (7, strict),
         (8, opaque),
         (8, desktops),
+        (9, bptc),
+        (10, inside),
     ];
     groups.into_iter().flat_map(|(number, group)| group(&mut Random::new(seed << 8 | number))).collect()
 }
@@ -310,6 +312,35 @@ fn desktops(random: &mut Random) -> Vec<Row> {
     list
 }
 
+// BC7: two blocks of each mode, with partitions and rotations that differ; each rotation with each index selection; one without a mode.
+fn bptc(random: &mut Random) -> Vec<Row> {
+    let mut of = |mode: usize, bits: usize| -> [Block; 2] { [bc7(8 * bits + mode, random), random.next().to_le_bytes()] };
+    let modes: Vec<Block> = [(0, 5), (1, 38), (2, 59), (3, 17), (6, 44), (7, 23)].map(|(mode, bits)| of(mode, bits)).concat();
+    let turned: Vec<Block> = (0..8).flat_map(|bits| of(4, bits)).collect();
+    let others: Vec<Block> = (0..4).flat_map(|bits| of(5, bits)).collect();
+    let lone_block = of(1, 9);
+    let none = [[0, 255, 255, 255, 255, 255, 255, 255], [255; 8]];
+    vec![
+        picture("BC7: modes 0, 1, 2, 3, 6 and 7", BC7, (24, 4), &modes),
+        picture("BC7: mode 4, each rotation with each index selection", BC7, (32, 1), &turned),
+        picture("BC7: mode 5, each rotation", BC7, (16, 1), &others),
+        picture("BC7: no mode", BC7, (4, 1), &none),
+        lone(BLOCK_BC7, &lone_block),
+    ]
+}
+
+// BC7: partitions with anchors in the middle of the indices; and no index selection, with the bit behind it set.
+fn inside(random: &mut Random) -> Vec<Row> {
+    let mut of = |mode: usize, bits: usize| -> [Block; 2] { [bc7(8 * bits + mode, random), random.next().to_le_bytes()] };
+    let anchored: Vec<Block> = [(0, 4), (1, 18), (2, 23), (3, 34), (7, 19)].map(|(mode, bits)| of(mode, bits)).concat();
+    let mut unselected: Vec<Block> = [of(4, 0), of(5, 0)].concat();
+    unselected.iter_mut().step_by(2).for_each(|half| half[1] |= 1);
+    vec![
+        picture("BC7: anchors in the middle", BC7, (20, 4), &anchored),
+        picture("BC7: no index selection", BC7, (8, 4), &unselected),
+    ]
+}
+
 pub fn write(options: &crate::Options) -> Result<bool> {
     let rows = rows(options.seed);
     let pairs: Vec<Pair> =
@@ -428,6 +459,7 @@ fn antt_format(reader: u32) -> &'static str {
         "Bc1",
         "Bc1Alpha",
         "Bc3",
+        "Bc7",
     ];
     names[FORMATS.iter().position(|&format| format == reader).unwrap_or(0)]
 }

@@ -10,13 +10,29 @@ use crate::rules::{blocks_across, is_new};
 use crate::specimens;
 use std::io::Result;
 
-/// Mesa in all formats; with `eleven`, EAC also by the readers of whole values.
+/// Mesa in all formats, EAC also by the readers of whole values.
 pub fn mesa(options: &crate::Options) -> Result<bool> {
     let mut same = true;
     for reader in FORMATS {
         same &= against(reader, options, &options.mesa, "Mesa", reader)?;
-        if options.eleven && is_eac(reader) {
-            same &= against(reader, options, &options.mesa, "Mesa, eleven bits,", reader + WIDE_EACR - EACR)?;
+        if is_eac(reader) {
+            same &= against(reader, options, &options.mesa, "Mesa, eleven bits,", wide(reader))?;
+        }
+    }
+    Ok(same)
+}
+
+/// One format alone, by Mesa, EAC also by the readers of whole values and at every base, and BC7 by Pillow too.
+pub fn only(options: &crate::Options) -> Result<bool> {
+    let mut same = true;
+    for reader in FORMATS.into_iter().filter(|&reader| name(reader) == options.only) {
+        same &= against(reader, options, &options.mesa, "Mesa", reader)?;
+        if is_eac(reader) {
+            same &= against(reader, options, &options.mesa, "Mesa, eleven bits,", wide(reader))?;
+            same &= at_every_base(reader, options)?;
+        }
+        if reader == BC7 {
+            same &= pillow(options)? & crate::desktop::compare(options)?;
         }
     }
     Ok(same)
@@ -34,6 +50,11 @@ pub fn squish(options: &crate::Options) -> Result<bool> {
         same &= against(reader, options, &options.squish, "squish", reader)?;
     }
     Ok(same)
+}
+
+/// Pillow, for BC7. Of a block without a mode it makes opaque black, so those are left to Mesa.
+pub fn pillow(options: &crate::Options) -> Result<bool> {
+    against(BC7, options, &options.pillow, "Pillow", BC7)
 }
 
 /// Pictures with a pitch, in all formats by Mesa, and in ETC1 by Android too. The other decoder is given
@@ -83,13 +104,21 @@ pub fn specimens(android: &str, mesa: &str) -> Result<bool> {
 // The same shapes go to both, each as its own reader wants them.
 fn against(reader: u32, options: &crate::Options, other: &str, label: &str, asked: u32) -> Result<bool> {
     let shapes = accepted_plan(reader, options.seed, options.blocks);
-    let aside = if reader == ETC1 { "pixels left to Android" } else { "" };
+    let aside = match reader {
+        ETC1 => "pixels left to Android",
+        BC7 if label == "Pillow" => "pixels left to Mesa",
+        _ => "",
+    };
     let mut report = Report::new(format!("{label} {}", name(reader)), aside, shapes.len());
     let cases = |shapes: Vec<Shape>| shapes.into_iter().map(|shape| shape.case());
     let mut theirs = Peer::start(other, cases(shapes.clone()))?;
     let mut ours = Peer::start(&options.program, cases(shapes).map(move |case| for_ours(case, asked)))?;
     while let (Some((case, seen)), Some((as_asked, got))) = (theirs.next()?, ours.next()?) {
-        let left = if label == "Android" { Vec::new() } else { wrapped_halves(&case) };
+        let left = match label {
+            "Android" => Vec::new(),
+            "Pillow" => without_a_mode(&case),
+            _ => wrapped_halves(&case),
+        };
         let mut due = if label == "Android" { seen } else { from_mesa(&case, seen, asked) };
         left.iter().for_each(|&k| due.image[k] = got.image[k]);
         report.count(&as_asked, &due, &got, left.len());
@@ -99,19 +128,33 @@ fn against(reader: u32, options: &crate::Options, other: &str, label: &str, aske
     Ok(report.close())
 }
 
-/// Signed EAC at every base, with every multiplier, row and index, by Mesa.
+/// EAC at every base, by Mesa.
 pub fn every_base(options: &crate::Options) -> Result<bool> {
     let mut same = true;
-    for reader in [EACR_SIGNED, EACRG_SIGNED] {
+    for reader in FORMATS.into_iter().filter(|&reader| is_eac(reader)) {
+        same &= at_every_base(reader, options)?;
+    }
+    Ok(same)
+}
+
+// With every multiplier, row and index: as bytes and as whole values.
+fn at_every_base(reader: u32, options: &crate::Options) -> Result<bool> {
+    let mut same = true;
+    for (asked, label) in [(reader, "Mesa"), (wide(reader), "Mesa, eleven bits,")] {
         let cases: Vec<Case> = (0..=255).map(|base| every_channel(reader, base)).collect();
-        let mut report = Report::new(format!("Mesa {}, every base", name(reader)), "", cases.len());
-        let ours = ask(&options.program, cases.clone())?;
-        for ((case, seen), (_, got)) in ask(&options.mesa, cases)?.into_iter().zip(ours) {
-            report.count(&case, &from_mesa(&case, seen, reader), &got, 0);
+        let mut report = Report::new(format!("{label} {}, every base", name(reader)), "", cases.len());
+        let ours = ask(&options.program, cases.iter().cloned().map(|case| for_ours(case, asked)).collect())?;
+        for ((case, seen), (as_asked, got)) in ask(&options.mesa, cases)?.into_iter().zip(ours) {
+            report.count(&as_asked, &from_mesa(&case, seen, asked), &got, 0);
         }
         same &= report.close();
     }
     Ok(same)
+}
+
+// The reader of whole values of a format of EAC.
+fn wide(reader: u32) -> u32 {
+    reader + WIDE_EACR - EACR
 }
 
 // A block for each multiplier and row; of two halves the second has what the first has not had.
@@ -136,7 +179,7 @@ fn for_ours(mut case: Case, asked: u32) -> Case {
 /// Mesa's answer in the form of the reader asked.
 pub fn from_mesa(case: &Case, seen: Answer, asked: u32) -> Answer {
     let image = match case.reader {
-        ETC1 | RGB | RGBA1 | RGBA8 | BC1 | BC1A | BC3 => seen.image,
+        ETC1 | RGB | RGBA1 | RGBA8 | BC1 | BC1A | BC3 | BC7 => seen.image,
         reader if asked == reader => seen.image.iter().map(|&both| pixel(reader, both)).collect(),
         reader => seen.image.iter().flat_map(|&both| values(reader, both)).collect(),
     };
@@ -158,6 +201,13 @@ pub fn wrapped_halves(case: &Case) -> Vec<usize> {
         is_new(block) && across % 4 >= 2
     };
     (0..case.image.len()).filter(is_left).collect()
+}
+
+// The pixels of BC7 blocks whose first byte is 0.
+fn without_a_mode(case: &Case) -> Vec<usize> {
+    let width = case.width as usize;
+    let is_none = |&k: &usize| case.data[16 * (k / width / 4 * blocks_across(case.width) + k % width / 4)] == 0;
+    (0..case.image.len()).filter(is_none).collect()
 }
 
 // Mesa's sixteen bits of red and green, back to the eleven that they repeat.

@@ -1,6 +1,9 @@
--- The two colours of the word, and the palette made of them.
+-- The two colours of the word, and the lanes made of them.
 -- Assumes nothing.
 use mathlib.Core.Path.{_∙_}
+use lib.Dec.{ltb}
+use Rattle.rules.specs.Notation.{bits}
+use Rattle.bc1.proofs.Colours.{at-most, listed}
 use borrow.Author.Needs.{needs}
 use Rattle.bc1.proofs.palette_in.Statement.{statement}
 use Rattle.bc1.proofs.palette_in.Tie as tie
@@ -11,36 +14,29 @@ first-requires c κs = search needs
 second-requires : tie.Need-second-requires
 second-requires c κs = search needs
 
-rgb565-le-requires : tie.Need-rgb565-le-requires
-rgb565-le-requires c κs = search needs
+above-requires : tie.Need-above-requires
+above-requires c κs = search needs
 
-rgb565-le-requires-2 : tie.Need-rgb565-le-requires-2
-rgb565-le-requires-2 c κs = search needs
+clear-requires : tie.Need-clear-requires
+clear-requires c κs = at-most (ltb (c .before .second .result) (c .before .before .first .result)) _ (c .above .ensures)
 
-has-four-requires : tie.Need-has-four-requires
-has-four-requires c κs = search needs
+lanes-requires : tie.Need-lanes-requires
+lanes-requires c κs = search needs
 
-palette-requires : tie.Need-palette-requires
-palette-requires c κs = search needs
+words-requires : tie.Need-words-requires
+words-requires c κs = search needs
 
 returns : tie.Need-returns
 returns c =
-    let f = c .before in
-    let b = f .before in
-    let a = b .before in
-    let q = a .before in
+    let l = c .before in
+    let k = l .before in
+    let f = k .before in
+    let q = f .before in
     let p = q .before in
-    c .palette .ensures
-    ∙ rw (f .has-four .ensures, a .rgb565-le .ensures, b .rgb565-le2 .ensures, p .first .ensures .0, q .second .ensures .0)
+    let s = p .before .args in
+    c .words .ensures
+    ∙ rw (l .lanes .ensures, k .clear .ensures, f .above .ensures, q .second .ensures, p .first .ensures)
+    (listed (ltb (bits 31 16 (s .w)) (bits 15 0 (s .w))) (s .alpha) (bits 15 0 (s .w)) (bits 31 16 (s .w)))
 
 pub palette-in-spec : {M : Type 1} → statement M
-palette-in-spec =
-    tie.close
-    (tie.spec
-    first-requires
-    second-requires
-    rgb565-le-requires
-    rgb565-le-requires-2
-    has-four-requires
-    palette-requires
-    returns)
+palette-in-spec = tie.close (tie.spec first-requires second-requires above-requires clear-requires lanes-requires words-requires returns)

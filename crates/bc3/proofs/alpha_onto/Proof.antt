@@ -67,7 +67,9 @@ loop-again c =
     let d = now (s .args .d) in (
       ap (λ (n : ℕ). n / 8) (l .inv .0) ∙ shifted (e .half-word .result / 65536) 3 (l .i),
       stored-next _ 0 16 (l .out) (l .i) (l .inv .1) _ (omega arith)
-          (c .replace .ensures ∙ ap (replaced (s .args .channel) (getD (s .args .t3) (l .i) 0)) (alpha-at d (a .alphas-in .result) (e .half-word .result) (l .l) (l .i) (a .alphas-in .ensures .0) (e .half-word .ensures) (l .inv .0))),
+          (c .replace .ensures
+          ∙ ap (replaced (s .args .channel) (getD (s .args .t3) (l .i) 0))
+          (alpha-at d (a .alphas-in .result) (e .half-word .result) (l .l) (l .i) (a .alphas-in .ensures .0) (e .half-word .ensures) (l .inv .0))),
     )
 
 returns : tie.Need-returns Inv-loop μ-loop

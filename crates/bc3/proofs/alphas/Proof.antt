@@ -80,10 +80,14 @@ add-share-7 : tie.Need-add-share-7
 add-share-7 c = search needs
 
 add-share-8 : tie.Need-add-share-8
-add-share-8 c = omega (arith, more (c .before .before .before), c .before .before .before .before .before .before .byte .ensures .1, c .before .before .before .before .before .byte2 .ensures .1)
+add-share-8 c =
+    let e = c .before .before .before in
+    omega (arith, more e, e .before .before .before .byte .ensures .1, e .before .before .byte2 .ensures .1)
 
 share-requires-4 : tie.Need-share-requires-4
-share-requires-4 c κs = omega (arith, more (c .before .before .before), c .before .before .before .before .before .before .byte .ensures .1, c .before .before .before .before .before .byte2 .ensures .1)
+share-requires-4 c κs =
+    let e = c .before .before .before in
+    omega (arith, more e, e .before .before .before .byte .ensures .1, e .before .before .byte2 .ensures .1)
 
 mul-share-or : tie.Need-mul-share-or
 mul-share-or c = search needs

@@ -1,13 +1,15 @@
 -- The words of the two halves, what they make, and the two picks of each pixel.
 -- Assumes nothing.
-use mathlib.Core.Path.{_∙_, ap}
+use mathlib.Core.Path.{_≡_, _∙_, ap}
 use mathlib.Core.List.{List}
 use Prim.Native.Nat.{ℕ, _*_, _%_, _<_, _≤_}
 use native.Mathlib.Omega.{arith}
 use lib.ListN.{getD}
 use denote.Ref.{now}
 use Rattle.rules.specs.Notation.{build}
-use Rattle.rules.specs.Desktop.{halfWord}
+use Rattle.rules.specs.Desktop.{halfWord, alphasIn}
+use Rattle.laws.proofs.Between.{alphas-small}
+use Rattle.laws.proofs.Filled.{build-same}
 use Rattle.laws.proofs.Parts.{rest}
 use Rattle.bc3.proofs.Turns.{at-most, shown}
 use borrow.Author.Needs.{needs}
@@ -29,8 +31,14 @@ part-half-word-end c = search needs
 half-word-requires-2 : tie.Need-half-word-requires-2
 half-word-requires-2 c κs = search needs
 
-alphas-in-requires : tie.Need-alphas-in-requires
-alphas-in-requires c κs = search needs
+first-requires : tie.Need-first-requires
+first-requires c κs = search needs
+
+second-requires : tie.Need-second-requires
+second-requires c κs = search needs
+
+all-alphas-requires : tie.Need-all-alphas-requires
+all-alphas-requires c κs = search needs
 
 tops-requires : tie.Need-tops-requires
 tops-requires c κs = search needs
@@ -47,10 +55,14 @@ below a h = omega arith
 both-requires : tie.Need-both-requires
 both-requires c κs =
     let t = c .before .before in
-    let a = t .before .alphas-in in (
-      at-most (λ k. getD (a .result) k 0 * 0x1000000) 0xFF000000 8 (t .tops .result) (t .tops .ensures) (λ k. omega (arith, a .ensures .1 k)),
+    let l = t .before .all-alphas .result in (
+      at-most (λ k. getD l k 0 % 256 * 0x1000000) 0xFF000000 8 (t .tops .result) (t .tops .ensures) (λ k. omega arith),
       λ k. below _ (at-most (λ k. getD (c .before .palette-in .result) k 0 % 0x1000000) 0xFFFFFF 4 (c .hues .result) (c .hues .ensures) (λ k. omega arith) k),
     )
+
+-- a byte as it stands
+byte : (x y : ℕ) → x ≡ y → y < 256 → x % 256 * 0x1000000 ≡ y * 0x1000000
+byte x y e h = omega (arith, e)
 
 returns : tie.Need-returns
 returns c =
@@ -58,13 +70,20 @@ returns c =
     let p = h .before in
     let t = p .before in
     let a = t .before in
-    let w = a .before in
+    let n = a .before in
+    let m = n .before in
+    let w = m .before in
     let v = w .before .before in
     let d = now (v .before .before .args .d) in
+    let x = v .half-word .result in
     c .both .ensures
-    ∙ shown d (v .half-word .result) (w .half-word2 .result) (t .tops .result) (h .hues .result) (v .half-word .ensures)
+    ∙ shown d x (w .half-word2 .result) (t .tops .result) (h .hues .result) (v .half-word .ensures)
     (w .half-word2 .ensures ∙ ap halfWord (rest 8 d))
-    (t .tops .ensures ∙ ap (λ (l : List ℕ). build 8 (λ k. getD l k 0 * 0x1000000)) (a .alphas-in .ensures .0))
+    (t .tops .ensures
+    ∙ build-same 0 _ _ 8
+    (λ k i. byte (getD (a .all-alphas .result) k 0) (getD (alphasIn x) k 0)
+    (a .all-alphas .ensures k i ∙ rw (m .first .ensures, n .second .ensures))
+    (alphas-small x k)))
     (h .hues .ensures ∙ ap (λ (l : List ℕ). build 4 (λ k. getD l k 0 % 0x1000000)) (p .palette-in .ensures))
 
 pub bc3-block-spec : {M : Type 1} → statement M
@@ -76,7 +95,9 @@ bc3-block-spec =
     part-half-word-start
     part-half-word-end
     half-word-requires-2
-    alphas-in-requires
+    first-requires
+    second-requires
+    all-alphas-requires
     tops-requires
     palette-in-requires
     hues-requires

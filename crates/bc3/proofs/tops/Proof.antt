@@ -1,7 +1,7 @@
 -- One product a turn.
 -- Assumes nothing.
 use mathlib.Core.Path.{refl}
-use Prim.Native.Nat.{_-_, _*_}
+use Prim.Native.Nat.{_-_, _*_, _%_}
 use native.Mathlib.Omega.{arith}
 use lib.ListN.{getD}
 use Rattle.laws.proofs.Filling.{Filling, inOrder, begun, stored-next, filled-all}
@@ -10,7 +10,7 @@ use Rattle.bc3.proofs.tops.Tie as tie
 
 abbrev Inv-loop : tie.InvT-loop
 Inv-loop a out₀ i₀ out i =
-    Filling inOrder (λ k. getD a k 0 * 0x1000000) 0 8 i out
+    Filling inOrder (λ k. getD a k 0 % 256 * 0x1000000) 0 8 i out
 
 abbrev μ-loop : tie.MeasureT-loop
 μ-loop a out₀ i₀ out i = 8 - i
@@ -24,8 +24,11 @@ mul-out c = omega arith
 array-read-out : tie.Need-array-read-out Inv-loop μ-loop
 array-read-out c = omega arith
 
+cast-out : tie.Need-cast-out Inv-loop μ-loop
+cast-out c = omega arith
+
 mul-out-2 : tie.Need-mul-out-2 Inv-loop μ-loop
-mul-out-2 c = omega (arith, c .before .before .pre (c .before .loop .i))
+mul-out-2 c = omega arith
 
 mul-out-3 : tie.Need-mul-out-3 Inv-loop μ-loop
 mul-out-3 c = omega arith
@@ -55,6 +58,7 @@ tops-spec =
     loop-holds
     mul-out
     array-read-out
+    cast-out
     mul-out-2
     mul-out-3
     array-write-out

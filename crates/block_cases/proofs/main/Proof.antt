@@ -6,10 +6,10 @@ use Rattle.block_cases.proofs.main.Statement.{statement}
 use Rattle.block_cases.proofs.main.Tie as tie
 
 abbrev Inv-loop : tie.InvT-loop
-Inv-loop reader₀ reader = reader ≤ 15
+Inv-loop reader₀ reader = reader ≤ 16
 
 abbrev μ-loop : tie.MeasureT-loop
-μ-loop reader₀ reader = 15 - reader
+μ-loop reader₀ reader = 16 - reader
 
 colour-specimens-requires : tie.Need-colour-specimens-requires Inv-loop μ-loop
 colour-specimens-requires c κs = search needs
@@ -31,6 +31,9 @@ desktop-specimens-requires c κs = search needs
 
 channels-requires-3 : tie.Need-channels-requires-3 Inv-loop μ-loop
 channels-requires-3 c κs = search needs
+
+bc7-specimens-requires : tie.Need-bc7-specimens-requires Inv-loop μ-loop
+bc7-specimens-requires c κs = search needs
 
 loop-holds : tie.Need-loop-holds Inv-loop μ-loop
 loop-holds c = search needs
@@ -63,6 +66,7 @@ main-spec =
     channels-requires-2
     desktop-specimens-requires
     channels-requires-3
+    bc7-specimens-requires
     loop-holds
     edges-requires
     add-reader

@@ -84,6 +84,13 @@ run-bc3-requires : tie.Need-run-bc3-requires
 unfolding sizeOf
 run-bc3-requires c κs = let s = c .before .before .before .before .before in (enough (s .args .n) (c .before .enum-told11 .given .1) (s .pre .0), s .pre .1)
 
+enum-told-12 : tie.Need-enum-told-12
+enum-told-12 c = search needs
+
+run-bc7-requires : tie.Need-run-bc7-requires
+unfolding sizeOf
+run-bc7-requires c κs = let s = c .before .before .before .before .before in (enough (s .args .n) (c .before .enum-told12 .given .1) (s .pre .0), s .pre .1)
+
 same-length : tie.Need-same-length
 same-length c = search needs
 
@@ -194,6 +201,16 @@ returns-11 c =
     let a = t .before .before .before .before .args in
     shown (now (a .«data»)) (a .pic) (a .bx) (a .by) (a .n) (now (a .image)) _ (t .enum-told11 .given .1) (c .before .before .run-bc3 .ensures)
 
+same-length-12 : tie.Need-same-length-12
+same-length-12 c = search needs
+
+returns-12 : tie.Need-returns-12
+unfolding showsOf sizeOf
+returns-12 c =
+    let t = c .before .before .before .before in
+    let a = t .before .before .before .before .args in
+    shown (now (a .«data»)) (a .pic) (a .bx) (a .by) (a .n) (now (a .image)) _ (t .enum-told12 .given .1) (c .before .before .run-bc7 .ensures)
+
 pub run-spec : {M : Type 1} → statement M
 run-spec =
     tie.close
@@ -220,6 +237,8 @@ run-spec =
     run-bc1-requires-2
     enum-told-11
     run-bc3-requires
+    enum-told-12
+    run-bc7-requires
     same-length
     returns
     same-length-2
@@ -241,4 +260,6 @@ run-spec =
     same-length-10
     returns-10
     same-length-11
-    returns-11)
+    returns-11
+    same-length-12
+    returns-12)

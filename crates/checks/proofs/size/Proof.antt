@@ -46,6 +46,9 @@ enum-told-10 c = search needs
 enum-told-11 : tie.Need-enum-told-11
 enum-told-11 c = search needs
 
+enum-told-12 : tie.Need-enum-told-12
+enum-told-12 c = search needs
+
 returns : tie.Need-returns
 unfolding sizeOf
 returns c = sized (c .enum-told .given .1) (lit≤ tt) (lit< tt)
@@ -90,6 +93,10 @@ returns-11 : tie.Need-returns-11
 unfolding sizeOf
 returns-11 c = sized (c .enum-told11 .given .1) (lit≤ tt) (lit< tt)
 
+returns-12 : tie.Need-returns-12
+unfolding sizeOf
+returns-12 c = sized (c .enum-told12 .given .1) (lit≤ tt) (lit< tt)
+
 pub size-spec : {M : Type 1} → statement M
 size-spec =
     tie.close
@@ -105,6 +112,7 @@ size-spec =
     enum-told-9
     enum-told-10
     enum-told-11
+    enum-told-12
     returns
     returns-2
     returns-3
@@ -115,4 +123,5 @@ size-spec =
     returns-8
     returns-9
     returns-10
-    returns-11)
+    returns-11
+    returns-12)

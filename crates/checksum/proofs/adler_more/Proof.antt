@@ -3,11 +3,10 @@
 use mathlib.Core.Path.{_≡_, _∙_, refl, sym}
 use Prim.Native.Nat.{_≤_, _-_}
 use native.Mathlib.Omega.{arith}
-use lib.ListN.{length, drop}
+use lib.ListN.{length, drop, length-take, length-drop}
 use denote.Ref.{now}
 use Rattle.checksum.specs.Sums.{adlerByte, folded}
-use Rattle.checksum.proofs.Fold.{further, over}
-use borrow.Author.Needs.{needs}
+use Rattle.checksum.proofs.Fold.{past, over}
 use Rattle.checksum.proofs.adler_more.Statement.{statement}
 use Rattle.checksum.proofs.adler_more.Tie as tie
 
@@ -17,34 +16,34 @@ Inv-loop sum bytes now-at₀ i₀ now-at i = (i ≤ length bytes) × (folded adl
 abbrev μ-loop : tie.MeasureT-loop
 μ-loop sum bytes now-at₀ i₀ now-at i = length bytes - i
 
--- src/lib.rt:94:5
 loop-holds : tie.Need-loop-holds Inv-loop μ-loop
 loop-holds c = (omega arith, refl)
 
--- src/lib.rt:95:37
-shared-slice-read-adler-byte : tie.Need-shared-slice-read-adler-byte Inv-loop μ-loop
-shared-slice-read-adler-byte c = omega arith
+run-end-requires : tie.Need-run-end-requires Inv-loop μ-loop
+run-end-requires c κs = omega arith
 
--- src/lib.rt:95:9
-adler-byte-requires : tie.Need-adler-byte-requires Inv-loop μ-loop
-adler-byte-requires c κs = search needs
+sub-adler-run : tie.Need-sub-adler-run Inv-loop μ-loop
+sub-adler-run c = omega arith
 
--- src/lib.rt:96:9
-add-i : tie.Need-add-i Inv-loop μ-loop
-add-i c = omega arith
+part-adler-run-start : tie.Need-part-adler-run-start Inv-loop μ-loop
+part-adler-run-start c = omega arith
 
--- src/lib.rt:94:5
+part-adler-run-end : tie.Need-part-adler-run-end Inv-loop μ-loop
+part-adler-run-end c = omega arith
+
+adler-run-requires : tie.Need-adler-run-requires Inv-loop μ-loop
+adler-run-requires c κs = simp (length-take, length-drop) (omega arith)
+
 loop-less : tie.Need-loop-less Inv-loop μ-loop
 loop-less c = omega arith
 
--- src/lib.rt:94:5
 loop-again : tie.Need-loop-again Inv-loop μ-loop
 loop-again c =
-    let l = c .before .before .before .loop in
-    let a = c .before .before .before .before .before .args in
-    (omega arith, further adlerByte (now (a .bytes)) (l .i) (l .now-at) (c .adler-byte .result) (omega arith) (c .adler-byte .ensures) ∙ l .inv .1)
+    let r = c .before .before .run-end in
+    let l = c .before .before .before .before .loop in
+    let a = c .before .before .before .before .before .before .args in
+    (omega arith, past adlerByte (now (a .bytes)) (l .i) (r .result) (l .now-at) (c .adler-run .result) (omega arith) (c .adler-run .ensures) ∙ l .inv .1)
 
--- src/lib.rt:89:1
 returns : tie.Need-returns Inv-loop μ-loop
 returns c =
     let l = c .before .loop in
@@ -57,9 +56,11 @@ adler-more-spec =
     Inv-loop
     μ-loop
     loop-holds
-    shared-slice-read-adler-byte
-    adler-byte-requires
-    add-i
+    run-end-requires
+    sub-adler-run
+    part-adler-run-start
+    part-adler-run-end
+    adler-run-requires
     loop-less
     loop-again
     returns)

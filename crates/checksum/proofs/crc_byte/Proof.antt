@@ -5,8 +5,7 @@ use Prim.Native.Nat.{ℕ, _/_, _%_}
 use native.Mathlib.Omega.{arith}
 use native.Mathlib.Nat.{mod-lt}
 use lib.Bits.{bitXor}
-use Rattle.checksum.specs.Sums.{crcByte}
-use Rattle.checksum.proofs.Table.{remainder}
+use Rattle.checksum.specs.Sums.{Remainders, crcByte}
 use Rattle.checksum.proofs.Bytes.{eight}
 use borrow.Author.Needs.{needs}
 use Rattle.checksum.proofs.crc_byte.Statement.{statement}
@@ -21,15 +20,15 @@ mul-result : tie.Need-mul-result
 mul-result c = search needs
 
 -- src/lib.rt:56:5
-array-read-result : tie.Need-array-read-result
-array-read-result c = search needs
+element-copy-out-result : tie.Need-element-copy-out-result
+element-copy-out-result c = search needs
 
 -- src/lib.rt:51:1
 returns : tie.Need-returns
-unfolding crcByte
+unfolding crcByte Remainders
 returns c =
-    let m = bitXor (c .args .sum) (c .args .b) in
-    ap (λ (z : ℕ). bitXor z (m / 256)) (remainder (m % 256) (mod-lt m (omega arith))) ∙ sym (eight m)
+    let m = bitXor (c .before .args .sum) (c .before .args .b) in
+    ap (λ (z : ℕ). bitXor z (m / 256)) (c .before .pre (m % 256) (mod-lt m (omega arith))) ∙ sym (eight m)
 
 pub crc-byte-spec : {M : Type 1} → statement M
-crc-byte-spec = tie.close (tie.spec cast-low mul-result array-read-result returns)
+crc-byte-spec = tie.close (tie.spec cast-low mul-result element-copy-out-result returns)

@@ -5,6 +5,7 @@ use Prim.Native.Nat.{ℕ, _+_}
 use denote.Ref.{now}
 use borrow.Author.Tests.{not-true, not-false}
 use Rattle.header.proofs.Picks.{laid}
+use Rattle.textures.specs.Textures.{heldThen}
 use Rattle.header.specs.Files.{ktxAs, sizeTold}
 use borrow.Author.Needs.{needs}
 use Rattle.header.proofs.ktx_as.Statement.{statement}
@@ -53,7 +54,7 @@ returns-3 c =
     let a = e .before .before .before .before .before .before .before .args in
     simp (e .before .before .before .known .given .1, sym (e .before .is-flat .ensures), not-false (e .before .is-flat .result) (e .if1 .left))
     (c .size-told .ensures
-    ∙ ap (sizeTold (a .order) (now (a .level)))
+    ∙ ap (heldThen (sizeTold (a .order) (now (a .level))))
     (c .before .laid-out .ensures
     ∙ laid _ _ (w .before .before .word .ensures .0) (w .before .word2 .ensures .0) (ap (λ (z : ℕ). 68 + z) (w .word3 .ensures .0))))
 

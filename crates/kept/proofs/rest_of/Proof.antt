@@ -39,8 +39,10 @@ loop-less c = search needs
 loop-again : tie.Need-loop-again Inv-loop μ-loop
 loop-again c =
     let l = c .before .before in
-    let a = l .before .before .args in
-    (omega (arith, c .before .loop-test .taken), padded-more (take (a .held) (a .kept) ++ now (a .bytes)) (a .at) (l .loop .i) (l .loop .out) (c .byte-at .result) (omega arith) (l .loop .inv .1) (c .byte-at .ensures))
+    let a = l .before .before .args in (
+      omega (arith, c .before .loop-test .taken),
+      padded-more (take (a .held) (a .kept) ++ now (a .bytes)) (a .at) (l .loop .i) (l .loop .out) (c .byte-at .result) (omega arith) (l .loop .inv .1) (c .byte-at .ensures),
+    )
 
 returns : tie.Need-returns Inv-loop μ-loop
 returns c =

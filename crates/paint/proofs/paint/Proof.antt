@@ -72,12 +72,14 @@ low c =
     omega (arith, high (across (s .args .pic .width)) (across (s .args .pic .height)) (l .b) (l .spot .bx) (l .spot .by) (at c) (omega (arith, c .loop-test .taken, s .pre .0 .3)), s .pre .0 .1)
 
 -- the bytes before the block, and those of the blocks from it on
-before : (c : tie.In-loop Inv-loop μ-loop) → (c .before .loop .b - start-of c .args .first) * c .before .before .size .result ≡ (c .before .loop .b - start-of c .args .first) * sizeOf (start-of c .args .f)
+before : (c : tie.In-loop Inv-loop μ-loop)
+    → (c .before .loop .b - start-of c .args .first) * c .before .before .size .result ≡ (c .before .loop .b - start-of c .args .first) * sizeOf (start-of c .args .f)
 before c = ap (λ (z : ℕ). (c .before .loop .b - start-of c .args .first) * z) (c .before .before .size .ensures .0)
 
 left : (c : tie.In-loop Inv-loop μ-loop)
     → ((c .before .loop .b - start-of c .args .first) * sizeOf (start-of c .args .f) ≤ length (now (start-of c .args .«data»)))
-    × ((start-of c .args .last - c .before .loop .b) * sizeOf (start-of c .args .f) ≤ length (now (start-of c .args .«data»)) - (c .before .loop .b - start-of c .args .first) * sizeOf (start-of c .args .f))
+    × ((start-of c .args .last - c .before .loop .b) * sizeOf (start-of c .args .f)
+    ≤ length (now (start-of c .args .«data»)) - (c .before .loop .b - start-of c .args .first) * sizeOf (start-of c .args .f))
 left c =
     let s = start-of c in
     let a = s .args in

@@ -6,10 +6,10 @@ use Rattle.picture_cases.proofs.empty.Statement.{statement}
 use Rattle.picture_cases.proofs.empty.Tie as tie
 
 abbrev Inv-loop : tie.InvT-loop
-Inv-loop width height reader₀ t6 reader = reader ≤ 12
+Inv-loop width height reader₀ t6 reader = reader ≤ 13
 
 abbrev μ-loop : tie.MeasureT-loop
-μ-loop width height reader₀ t6 reader = 12 - reader
+μ-loop width height reader₀ t6 reader = 13 - reader
 
 say-number-requires : tie.Need-say-number-requires Inv-loop μ-loop
 say-number-requires c κs = search needs

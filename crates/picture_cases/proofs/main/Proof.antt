@@ -6,10 +6,10 @@ use Rattle.picture_cases.proofs.main.Statement.{statement}
 use Rattle.picture_cases.proofs.main.Tie as tie
 
 abbrev Inv-loop : tie.InvT-loop
-Inv-loop reader₀ reader = reader ≤ 12
+Inv-loop reader₀ reader = reader ≤ 13
 
 abbrev μ-loop : tie.MeasureT-loop
-μ-loop reader₀ reader = 12 - reader
+μ-loop reader₀ reader = 13 - reader
 
 s16-requires : tie.Need-s16-requires Inv-loop μ-loop
 s16-requires c κs = search needs

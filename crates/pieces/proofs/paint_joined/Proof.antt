@@ -34,7 +34,8 @@ some : (z : tie.After-size) → start-of z .args .first < start-of z .args .last
 some z = omega (arith, z .before .before .if1 .left, start-of z .pre .0 .2)
 
 -- the bytes of all blocks to paint are those of the first and of the others
-parted : (z : tie.After-size) → (start-of z .args .last - (start-of z .args .first + 1)) * sizeOf (start-of z .args .f) + sizeOf (start-of z .args .f) ≤ start-of z .args .held + length (now (start-of z .args .bytes))
+parted : (z : tie.After-size)
+    → (start-of z .args .last - (start-of z .args .first + 1)) * sizeOf (start-of z .args .f) + sizeOf (start-of z .args .f) ≤ start-of z .args .held + length (now (start-of z .args .bytes))
 parted z = let s = start-of z in omega (arith, peel (s .args .first) (s .args .last) (sizeOf (s .args .f)) (some z), s .pre .1 .1)
 
 returns : tie.Need-returns
@@ -90,7 +91,10 @@ paint-requires-3 c κs =
     let z = p .before .before .before .before in
     let s = start-of z in (
       (s .pre .0 .0, s .pre .0 .1, omega (arith, some z), s .pre .0 .3),
-      (kept (s .args .pic) _ _ (s .pre .0 .4) (p .paint2 .ensures .same), omega (arith, parted z, z .size .ensures .0, ap length (rest (z .size .result - s .args .held) (now (s .args .bytes))), length-drop (z .size .result - s .args .held) (now (s .args .bytes)))),
+      (
+        kept (s .args .pic) _ _ (s .pre .0 .4) (p .paint2 .ensures .same),
+        omega (arith, parted z, z .size .ensures .0, ap length (rest (z .size .result - s .args .held) (now (s .args .bytes))), length-drop (z .size .result - s .args .held) (now (s .args .bytes))),
+      ),
     )
 
 same-length-2 : tie.Need-same-length-2
@@ -107,7 +111,8 @@ returns-3 c =
     let w = sizeOf (a .f) in
     let e = z .size .ensures in
     let long : a .held ≤ length (a .kept) = omega (arith, fifteen s, e .0) in
-    let size : length (hand s) ≡ a .held + length (now (a .bytes)) = length-append (take (a .held) (a .kept)) (now (a .bytes)) ∙ ap (λ (x : ℕ). x + length (now (a .bytes))) (length-take-le (a .held) (a .kept) long) in
+    let size : length (hand s) ≡ a .held + length (now (a .bytes)) =
+    length-append (take (a .held) (a .kept)) (now (a .bytes)) ∙ ap (λ (x : ℕ). x + length (now (a .bytes))) (length-take-le (a .held) (a .kept) long) in
     two-runs (a .pic) (a .first) (a .first + 1) (a .last) _ (now (a .image)) _ _ (omega arith) (omega (arith, some z))
     (other-bytes (a .pic) (showsOf (a .f)) (a .first) (a .first + 1) _ (bytesFrom w (a .first) (hand s)) (now (a .image)) _
     (λ n i j. ap (λ (l : List ℕ). bytesOf w l (n - a .first)) (b .first-block .ensures) ∙ joint-block w (n - a .first) (hand s) (omega (arith, e .0)) (omega (arith, size, parted z)) (omega arith))
@@ -115,7 +120,8 @@ returns-3 c =
     (other-bytes (a .pic) (showsOf (a .f)) (a .first + 1) (a .last) _ (bytesFrom w (a .first) (hand s)) _ _
     (λ n i j.
     ap (λ (l : List ℕ). bytesOf w l (n - (a .first + 1))) (rest (z .size .result - a .held) (now (a .bytes)) ∙ ap (λ (x : ℕ). drop (x - a .held) (now (a .bytes))) (e .0))
-    ∙ later-block w (n - (a .first + 1)) (n - a .first) (a .held) (a .kept) (now (a .bytes)) (omega (arith, s .pre .1 .0)) long (omega arith) (room w (a .last - a .first) (n - a .first) _ (omega (arith, some z)) (s .pre .1 .1)))
+    ∙ later-block w (n - (a .first + 1)) (n - a .first) (a .held) (a .kept) (now (a .bytes)) (omega (arith, s .pre .1 .0)) long (omega arith)
+    (room w (a .last - a .first) (n - a .first) _ (omega (arith, some z)) (s .pre .1 .1)))
     (q .paint3 .ensures))
 
 pub paint-joined-spec : {M : Type 1} → statement M

@@ -138,7 +138,8 @@ returns c =
     let j = c .before .before .before in
     let z = j .before .before in
     let a = start-of z .args in
-    took (a .p) (now (a .bytes)) (now (a .image)) (s-of z) (G-of z) (L-of z) (c .rest-of .result) _ _ (z .before .before .before .size .ensures .0) (got-is z) (later-is z) (c .rest-of .ensures) (omega arith) (j .paint-joined .ensures)
+    took (a .p) (now (a .bytes)) (now (a .image)) (s-of z) (G-of z) (L-of z) (c .rest-of .result) _ _
+    (z .before .before .before .size .ensures .0) (got-is z) (later-is z) (c .rest-of .ensures) (omega arith) (j .paint-joined .ensures)
 
 pub take-piece-spec : {M : Type 1} → statement M
 take-piece-spec =

@@ -10,9 +10,9 @@ use Rattle.pieces_lent.specs.Lent.{formats, formatAt}
 use Rattle.pieces_lent.proofs.format_at.Statement.{statement}
 use Rattle.pieces_lent.proofs.format_at.Tie as tie
 
--- the one that is left of the eleven
-high : (n : ℕ) → n < 11 → (n ≡ 8 → ⊥) → (n ≡ 9 → ⊥) → (n ≡ 10 → ⊥) → n < 8
-high n h a b c = omega arith
+-- the one that is left of the twelve
+high : (n : ℕ) → n < 12 → (n ≡ 8 → ⊥) → (n ≡ 9 → ⊥) → (n ≡ 10 → ⊥) → (n ≡ 11 → ⊥) → n < 8
+high n h a b c d = omega arith
 
 low : (n : ℕ) → n < 8 → (n ≡ 4 → ⊥) → (n ≡ 5 → ⊥) → (n ≡ 6 → ⊥) → (n ≡ 7 → ⊥) → n < 4
 low n h a b c d = omega arith
@@ -30,12 +30,12 @@ unfolding Lower
 zero-of n h r =
     first n (low n h (r .0 .0 .0 .1) (r .0 .0 .1) (r .0 .1) (r .1)) (r .0 .0 .0 .0 .0 .0 .1) (r .0 .0 .0 .0 .0 .1) (r .0 .0 .0 .0 .1)
 
-others : (n : ℕ) → ((Lower n × (n ≡ 8 → ⊥)) × (n ≡ 9 → ⊥)) × (n ≡ 10 → ⊥) → Etc1 ≡ formatAt n
+others : (n : ℕ) → (((Lower n × (n ≡ 8 → ⊥)) × (n ≡ 9 → ⊥)) × (n ≡ 10 → ⊥)) × (n ≡ 11 → ⊥) → Etc1 ≡ formatAt n
 unfolding formatAt
 others n r =
-    elim (decLt n 11) [
-      | yes h ↦ sym (ap formatAt (zero-of n (high n h (r .0 .0 .1) (r .0 .1) (r .1)) (r .0 .0 .0)))
-      | no h ↦ let k : 11 ≤ n = omega (arith, h) in sym (List·getD-eq-default formats Etc1 k)
+    elim (decLt n 12) [
+      | yes h ↦ sym (ap formatAt (zero-of n (high n h (r .0 .0 .0 .1) (r .0 .0 .1) (r .0 .1) (r .1)) (r .0 .0 .0 .0)))
+      | no h ↦ let k : 12 ≤ n = omega (arith, h) in sym (List·getD-eq-default formats Etc1 k)
     ]
 
 returns : tie.Need-returns
@@ -79,10 +79,14 @@ unfolding formatAt
 returns-10 c = sym (ap formatAt (c .match .keys10))
 
 returns-11 : tie.Need-returns-11
+unfolding formatAt
+returns-11 c = sym (ap formatAt (c .match .keys11))
+
+returns-12 : tie.Need-returns-12
 unfolding Lower
-returns-11 c = others _ (c .match .rest)
+returns-12 c = others _ (c .match .rest)
 
 pub format-at-spec : {M : Type 1} → statement M
 format-at-spec =
     tie.close
-    (tie.spec returns returns-2 returns-3 returns-4 returns-5 returns-6 returns-7 returns-8 returns-9 returns-10 returns-11)
+    (tie.spec returns returns-2 returns-3 returns-4 returns-5 returns-6 returns-7 returns-8 returns-9 returns-10 returns-11 returns-12)

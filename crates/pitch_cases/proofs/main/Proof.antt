@@ -6,10 +6,10 @@ use Rattle.pitch_cases.proofs.main.Statement.{statement}
 use Rattle.pitch_cases.proofs.main.Tie as tie
 
 abbrev Inv-loop : tie.InvT-loop
-Inv-loop reader₀ reader = reader ≤ 12
+Inv-loop reader₀ reader = reader ≤ 13
 
 abbrev μ-loop : tie.MeasureT-loop
-μ-loop reader₀ reader = 12 - reader
+μ-loop reader₀ reader = 13 - reader
 
 largest-requires : tie.Need-largest-requires Inv-loop μ-loop
 largest-requires c κs = search needs

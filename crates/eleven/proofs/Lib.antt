@@ -1,0 +1,3 @@
+pub mod Lanes
+pub mod Rows
+pub mod Checked

@@ -1,0 +1,31 @@
+-- `eleven::paint_red` meets its contract: its tile is the block.
+-- Assumes nothing.
+use native.Mathlib.Omega.{arith}
+use denote.Ref.{now}
+use Rattle.place.proofs.Grid.{roomy}
+use Rattle.eleven.proofs.Lanes.{one-tile}
+use borrow.Author.Needs.{needs}
+use Rattle.eleven.proofs.paint_red.Statement.{statement}
+use Rattle.eleven.proofs.paint_red.Tie as tie
+
+eac-sixteens-requires : tie.Need-eac-sixteens-requires
+eac-sixteens-requires c κs = search needs
+
+place-requires : tie.Need-place-requires
+place-requires c κs =
+    let s = c .before .before .before .before in
+    let r = s .pre .3 in
+    (omega (arith, s .pre .1), omega (arith, s .pre .2), roomy (s .args .pic) _ (r .fits) (omega (arith, r .roomy)))
+
+same-length : tie.Need-same-length
+same-length c = search needs
+
+returns : tie.Need-returns
+returns c =
+    let t = c .before .before .before .before in
+    let a = t .before .before .before .args in
+    one-tile (a .pic) (a .signed) (now (a .d)) (a .bx) (a .by) (t .eac-sixteens .result) (now (a .image)) _ (t .eac-sixteens .ensures)
+    (c .before .before .place .ensures)
+
+pub paint-red-spec : {M : Type 1} → statement M
+paint-red-spec = tie.close (tie.spec eac-sixteens-requires place-requires same-length returns)
