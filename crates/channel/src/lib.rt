@@ -6,10 +6,10 @@ ghost use lib.IntN.{pos, _+ℤ_};
 ghost use lib.ListN.{length, getD};
 ghost use lib.Signed.{mag};
 ghost use Rattle.rules.specs.Notation.{build, clamp as clampTo};
-ghost use Rattle.rules.specs.Channels.{alphaSteps, alphaStep, alphaByte, withAlpha};
+ghost use Rattle.rules.specs.Channels.{alphaSteps, alphaByte, withAlpha};
 
 // A row of the table of steps, in the type that sums are made in.
-fn steps_in(row: usize) -> [i16; 8]
+pub fn steps_in(row: usize) -> [i16; 8]
     requires { ⌜ row < 16 ⌝ }
     ensures { λ r. ⌜ r ≡ getD alphaSteps row [] ⌝ }
 {
@@ -21,14 +21,6 @@ fn steps_in(row: usize) -> [i16; 8]
         i += 1;
     }
     out
-}
-
-// The step of each pixel, row by row.
-pub fn steps_of(d: &[u8]) -> [i16; 16]
-    requires { ⌜ 8 ≤ length (now d) ⌝ }
-    ensures { λ r. ⌜ r ≡ build 16 (λ k. alphaStep (now (d .entry)) (k % 4) (k / 4)) ⌝ }
-{
-    picks::picked(d, steps_in(picks::row_of(d[1])))
 }
 
 // The base moved by a product of multiplier and step, clamped to a byte.

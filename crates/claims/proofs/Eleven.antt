@@ -15,9 +15,9 @@ use lib.IntN.{ℤ, pos, negsuc, natAbs, _+ℤ_, _-ℤ_, _*ℤ_}
 use lib.ListN.{length, getD}
 use Rattle.rules.specs.Notation.{byte, bits, twos, minus}
 use Rattle.rules.specs.Places.{element, needed, inside, column, row, blockOf, blockAt, bytesOf, Beside}
-use Rattle.rules.specs.Answers.{said, accepts, verdict, pictureChecks}
+use Rattle.rules.specs.Answers.{verdict, pictureChecks}
 use Rattle.rules.specs.Channels.{multiplier, alphaStep, eacByte}
-use Rattle.rules.specs.Whole.{between, middle, byteFrom, sixteen, eacWhole, wholePixel, wholeAt, wholePicture, wholeChecks, wholeVerdict, ReadsWhole}
+use Rattle.rules.specs.Whole.{between, middle, byteFrom, sixteen, eacWhole, wholePixel, wholeAt, wholePicture, wholeChecks, ReadsWhole}
 use Rattle.rules.specs.declared.Answer.{Answer}
 use Rattle.rules.specs.declared.Answer.the-variants.{Done}
 use Rattle.rules.specs.declared.Picture.{Picture}

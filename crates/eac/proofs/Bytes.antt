@@ -1,21 +1,23 @@
--- The value of a pixel as the machine makes it, and what `eac_bytes` hands on: sixteen numbers, each the byte of its pixel and below 256.
+-- The eight values of a block as the machine makes them, the one that each pixel picks, and what `eac_bytes` hands on: sixteen numbers,
+-- each the byte of its pixel and below 256.
 -- Assumes nothing.
 use mathlib.Core.Bool.{Bool, true, false}
-use mathlib.Core.List.{List}
-use mathlib.Core.Path.{_≡_, _∙_, sym, ap, subst}
-use Prim.Native.Nat.{ℕ, _/_, _%_, _<_, _^_}
+use mathlib.Core.List.{List, []}
+use mathlib.Core.Path.{_≡_, _∙_, refl, sym, ap, subst}
+use Prim.Native.Nat.{ℕ, _+_, _*_, _/_, _%_, _<_, _^_}
 use native.Mathlib.Omega.{arith}
 use lib.Dec.{T}
 use lib.IntN.{ℤ, pos, natAbs, _+ℤ_, _*ℤ_, +ℤ-comm}
 use lib.ListN.{getD}
-use lib.Signed.{mag, nonNeg}
+use lib.Signed.{mag, ltZ, nonNeg}
 use mir.Syntax.{w16}
 use Rattle.rules.specs.Notation.{byte, bits, build}
-use Rattle.rules.specs.Channels.{alphaStep, centre, multiplier, eacValue, eacByte}
-use Rattle.rules.specs.Whole.{least, most, between, middle, added, byteFrom, eacWhole}
+use Rattle.rules.specs.Channels.{alphaSteps, alphaIndex, alphaStep, centre, multiplier, eacValue, eacByte}
+use Rattle.rules.specs.Whole.{least, most, between, middle, added, eacWhole}
 use Rattle.laws.proofs.Filled.{getD-build}
 use Rattle.laws.proofs.Signed.{held, held-is, held-small, clamp-le}
-use Rattle.channel.proofs.Steps.{stepAt, step-held}
+use Rattle.picks.specs.Picks.{pickAt}
+use Rattle.channel.proofs.Steps.{small-row}
 use Rattle.values.proofs.Whole.{Raised, raised, not-negative, bytes-stay}
 
 -- a base moved by a multiple of a step, and clamped, is the same where its parts are
@@ -30,47 +32,102 @@ small-most : (signed : Bool) → mag (most signed) < 2 ^ 15
 small-most true = omega arith
 small-most false = omega arith
 
--- the value of place k, row by row: small, so that every type holds it
-abbrev pub wholeIn : Bool → List ℕ → ℕ → ℤ
-wholeIn signed d k = eacWhole signed d (k % 4) (k / 4)
+-- the range is not empty, as the machine holds its ends
+pub in-order : (signed : Bool) (low high : ℤ) → low ≡ least signed → high ≡ most signed → ltZ (held w16 high) (held w16 low) ≡ false
+in-order signed low high el eh =
+    ap (λ (z : ℤ). ltZ z (held w16 low)) (held-is w16 high (most signed) eh (small-most signed))
+    ∙ ap (λ (z : ℤ). ltZ (most signed) z) (held-is w16 low (least signed) el (small-least signed))
+    ∙ tested signed
+  where
+    tested : (t : Bool) → ltZ (most t) (least t) ≡ false
+    tested true = refl
+    tested false = refl
 
-pub small-whole : (signed : Bool) (d : List ℕ) (k : ℕ) → Raised (added signed) (wholeIn signed d k)
-unfolding eacWhole
-small-whole signed d k =
-    raised signed (middle signed (byte d 0) +ℤ pos (multiplier (bits 7 4 (byte d 1))) *ℤ alphaStep d (k % 4) (k / 4))
+-- the steps of a block, and the value that each of the eight gives: small, so that every type holds it
+abbrev pub stepsIn : List ℕ → List ℤ
+stepsIn d = getD alphaSteps (bits 3 0 (byte d 1)) []
 
--- what the machine makes of a block's middle, multiplier and steps, clamped, is the value of its place
-module _ (signed : Bool) (d : List ℕ) (base low high w : ℤ) (m k : ℕ) (steps : List ℤ) (h : k < 16)
+abbrev pub wholeOf : Bool → List ℕ → ℕ → ℤ
+wholeOf signed d j =
+    between (least signed) (most signed) (middle signed (byte d 0) +ℤ pos (multiplier (bits 7 4 (byte d 1))) *ℤ getD (stepsIn d) j (pos 0))
+
+pub small-whole : (signed : Bool) (d : List ℕ) (j : ℕ) → Raised (added signed) (wholeOf signed d j)
+small-whole signed d j =
+    raised signed (middle signed (byte d 0) +ℤ pos (multiplier (bits 7 4 (byte d 1))) *ℤ getD (stepsIn d) j (pos 0))
+
+-- and its eighth, as large as a byte
+abbrev pub eighthOf : Bool → List ℕ → ℕ → ℕ
+eighthOf signed d j = natAbs (wholeOf signed d j +ℤ pos (added signed)) / 8
+
+pub small-eighth : (signed : Bool) (d : List ℕ) (j : ℕ) → eighthOf signed d j < 256
+small-eighth signed d j =
+    let r = small-whole signed d j in
+    let e : natAbs (wholeOf signed d j +ℤ pos (added signed)) ≡ r .value = ap natAbs (+ℤ-comm (wholeOf signed d j) (pos (added signed)) ∙ r .is) in
+    omega (arith, e, r .few)
+
+-- a step as it is held
+module _ (d : List ℕ) (steps : List ℤ) (row j : ℕ) (es : steps ≡ getD alphaSteps row []) (er : row ≡ bits 3 0 (byte d 1)) where
+  step-is : getD steps j (pos 0) ≡ getD (stepsIn d) j (pos 0)
+  step-is = ap (λ (l : List ℤ). getD l j (pos 0)) (es ∙ ap (λ (n : ℕ). getD alphaSteps n []) er)
+
+  pub step-held : held w16 (getD steps j (pos 0)) ≡ getD (stepsIn d) j (pos 0)
+  step-held = held-is w16 _ _ step-is (omega (arith, small-row (bits 3 0 (byte d 1)) j (omega arith)))
+
+  pub step-small : mag (held w16 (getD steps j (pos 0))) < 16
+  step-small = rw step-held (small-row (bits 3 0 (byte d 1)) j (omega arith))
+
+-- what the machine makes of a block's middle, multiplier and steps, clamped, is the value of its number
+module _ (signed : Bool) (d : List ℕ) (base low high w s : ℤ) (m j : ℕ)
     (eb : base ≡ middle signed (byte d 0)) (bb : mag base < 4096) (em : m ≡ multiplier (bits 7 4 (byte d 1)))
-    (el : low ≡ least signed) (eh : high ≡ most signed) (es : steps ≡ build 16 (stepAt d))
-    (e : w ≡ between (held w16 low) (held w16 high) (held w16 base +ℤ pos m *ℤ held w16 (getD steps k (pos 0)))) where
-  pub whole-at : held w16 w ≡ wholeIn signed d k
-  unfolding eacWhole
+    (el : low ≡ least signed) (eh : high ≡ most signed) (es : s ≡ getD (stepsIn d) j (pos 0))
+    (e : w ≡ between (held w16 low) (held w16 high) (held w16 base +ℤ pos m *ℤ s)) where
+  pub whole-at : held w16 w ≡ wholeOf signed d j
   whole-at =
       held-is w16 w _
       (e
       ∙ moved-same (held-is w16 low (least signed) el (small-least signed)) (held-is w16 high (most signed) eh (small-most signed))
-      (held-small w16 base (omega arith) ∙ eb) em (step-held d steps k es h))
-      (omega (arith, small-whole signed d k .small))
+      (held-small w16 base (omega arith) ∙ eb) em es)
+      (omega (arith, small-whole signed d j .small))
 
 -- a value that is one of a block's
-module _ (signed : Bool) (d : List ℕ) (v : ℤ) (k up : ℕ) (e : v ≡ wholeIn signed d k) (u : up ≡ added signed) where
+module _ (signed : Bool) (d : List ℕ) (v : ℤ) (j up : ℕ) (e : v ≡ wholeOf signed d j) (u : up ≡ added signed) where
   pub whole-small : mag v < 2048
-  whole-small = subst (λ (z : ℤ). mag z < 2048) (sym e) (small-whole signed d k .small)
+  whole-small = subst (λ (z : ℤ). mag z < 2048) (sym e) (small-whole signed d j .small)
 
   pub whole-raised : T (nonNeg (pos up +ℤ v))
   whole-raised =
       subst (λ (z : ℤ). T (nonNeg (pos up +ℤ z))) (sym e)
-      (subst (λ (n : ℕ). T (nonNeg (pos n +ℤ wholeIn signed d k))) (sym u)
-      (not-negative (added signed) (small-whole signed d k .value) (wholeIn signed d k) (small-whole signed d k .is)))
+      (subst (λ (n : ℕ). T (nonNeg (pos n +ℤ wholeOf signed d j))) (sym u)
+      (not-negative (added signed) (small-whole signed d j .value) (wholeOf signed d j) (small-whole signed d j .is)))
 
-  -- its eighth is the byte
-  pub eighth : natAbs (pos up +ℤ v) / 8 ≡ eacByte signed d (k % 4) (k / 4)
+  -- its eighth
+  pub eighth : natAbs (pos up +ℤ v) / 8 ≡ eighthOf signed d j
   eighth =
       ap (λ (z : ℤ). natAbs (pos up +ℤ z) / 8) e
-      ∙ ap (λ (n : ℕ). natAbs (pos n +ℤ wholeIn signed d k) / 8) u
-      ∙ ap (λ (z : ℤ). natAbs z / 8) (+ℤ-comm (pos (added signed)) (wholeIn signed d k))
-      ∙ sym (bytes-stay signed d (k % 4) (k / 4))
+      ∙ ap (λ (n : ℕ). natAbs (pos n +ℤ wholeOf signed d j) / 8) u
+      ∙ ap (λ (z : ℤ). natAbs z / 8) (+ℤ-comm (pos (added signed)) (wholeOf signed d j))
+
+-- the number that pixel k has among the eight, and what it picks of eight numbers that have a rule
+abbrev pub numberAt : List ℕ → ℕ → ℕ
+numberAt d k = alphaIndex d (4 * (k % 4) + k / 4)
+
+pub picks : (f : ℕ → ℤ) (d : List ℕ) (eight sixteen : List ℤ) (k : ℕ) → eight ≡ build 8 f → sixteen ≡ build 16 (pickAt d eight) → k < 16
+    → getD sixteen k (pos 0) ≡ f (numberAt d k)
+unfolding pickAt
+picks f d eight sixteen k e g h =
+    ap (λ (l : List ℤ). getD l k (pos 0)) g
+    ∙ getD-build (pickAt d eight) (pos 0) 16 k h
+    ∙ ap (λ (l : List ℤ). getD l (numberAt d k) (pos 0)) e
+    ∙ getD-build f (pos 0) 8 (numberAt d k) (omega arith)
+
+-- its value and its byte are those of the pixel
+pub whole-picked : (signed : Bool) (d : List ℕ) (k : ℕ) → wholeOf signed d (numberAt d k) ≡ eacWhole signed d (k % 4) (k / 4)
+unfolding eacWhole alphaStep
+whole-picked signed d k = refl
+
+pub byte-picked : (signed : Bool) (d : List ℕ) (k : ℕ) → eighthOf signed d (numberAt d k) ≡ eacByte signed d (k % 4) (k / 4)
+byte-picked signed d k =
+    ap (λ (z : ℤ). natAbs (z +ℤ pos (added signed)) / 8) (whole-picked signed d k) ∙ sym (bytes-stay signed d (k % 4) (k / 4))
 
 -- the byte of place k, row by row
 abbrev pub byteAt : Bool → List ℕ → ℕ → ℕ

@@ -1,30 +1,61 @@
 // The EAC channels of src/etc/eac.rs. The unsigned and the signed reader differ only in the numbers that crates/values gives, so one
-// function serves both. The whole value of eleven bits comes first; the byte is a last step of its own, and so are the sixteen bits. Each
-// has its own loop over the sixteen, since an array of whole values between two loops costs a quarter more (docs/DECISIONS.md).
+// function serves both. A block has eight whole values of eleven bits, of which each pixel picks one; the byte is a last step of its own, and
+// so are the sixteen bits. Each has its own loop over the eight, since one more function between them costs more (docs/DECISIONS.md).
 ghost use mathlib.Core.Path.{_≡_};
 ghost use Prim.Native.Nat.{ℕ, _+_, _*_, _/_, _%_, _^_, _≤_, _<_};
+ghost use lib.Dec.{T};
+ghost use lib.IntN.{pos, natAbs, _+ℤ_};
 ghost use lib.ListN.{length, getD};
+ghost use lib.Signed.{mag, nonNeg};
 ghost use Rattle.rules.specs.Notation.{build};
 ghost use Rattle.rules.specs.Pixel.{word};
 ghost use Rattle.rules.specs.Places.{tile};
 ghost use Rattle.rules.specs.Channels.{eacByte, redPixel, redGreenPixel, orChannel};
 ghost use Rattle.rules.specs.Whole.{eacWhole, sixteen};
 
+// Sixteen bytes in the type that pixels are made in.
+fn widened(bytes: [i16; 16]) -> [u32; 16]
+    requires { ⌜ ((k : ℕ) → k < 16 → T (nonNeg (getD bytes k (pos 0))) × (mag (getD bytes k (pos 0)) < 256)) ⌝ }
+    ensures { λ r. ⌜ r ≡ build 16 (λ k. natAbs (getD bytes k (pos 0))) ⌝ }
+{
+    let mut out = [0u32; 16];
+    let mut i: usize = 0;
+    while i < 16 {
+        out[i] = bytes[i] as u32;
+        i += 1;
+    }
+    out
+}
+
 // The byte of each pixel, row by row: an eighth of its value, counted from the least.
 fn eac_bytes(d: &[u8], signed: bool) -> [u32; 16]
     requires { ⌜ 8 ≤ length (now d) ⌝ }
     ensures { λ r. ⌜ r ≡ build 16 (λ k. eacByte signed (now (d .entry)) (k % 4) (k / 4)) ⌝ }
 {
+    let steps = channel::steps_in(picks::row_of(d[1]));
     let base = values::middle_of(d[0], signed);
     let m = values::times_of(picks::multiplier_of(d[1]));
     let low = values::least_of(signed);
     let high = values::most_of(signed);
     let up = values::added_of(signed);
-    let steps = channel::steps_of(d);
-    let mut out = [0u32; 16];
+    let mut eight = [0i16; 8];
+    let mut i: usize = 0;
+    while i < 8 {
+        eight[i] = values::byte_of(values::eac_whole(base, m, steps[i], low, high), up);
+        i += 1;
+    }
+    widened(picks::picked(d, eight))
+}
+
+// Sixteen values, each as sixteen bits.
+fn narrowed(whole: [i16; 16], up: u16) -> [u16; 16]
+    requires { ⌜ (up < 2048) × ((k : ℕ) → k < 16 → T (nonNeg (pos up +ℤ getD whole k (pos 0))) × (mag (getD whole k (pos 0)) < 2048)) ⌝ }
+    ensures { λ r. ⌜ r ≡ build 16 (λ k. sixteen (getD whole k (pos 0))) ⌝ }
+{
+    let mut out = [0u16; 16];
     let mut i: usize = 0;
     while i < 16 {
-        out[i] = values::byte_of(values::eac_whole(base, m, steps[i], low, high), up);
+        out[i] = values::sixteen(whole[i], up);
         i += 1;
     }
     out
@@ -35,19 +66,18 @@ pub fn eac_sixteens(d: &[u8], signed: bool) -> [u16; 16]
     requires { ⌜ 8 ≤ length (now d) ⌝ }
     ensures { λ r. ⌜ r ≡ build 16 (λ k. sixteen (eacWhole signed (now (d .entry)) (k % 4) (k / 4))) ⌝ }
 {
+    let steps = channel::steps_in(picks::row_of(d[1]));
     let base = values::middle_of(d[0], signed);
     let m = values::times_of(picks::multiplier_of(d[1]));
     let low = values::least_of(signed);
     let high = values::most_of(signed);
-    let up = values::added_of(signed);
-    let steps = channel::steps_of(d);
-    let mut out = [0u16; 16];
+    let mut eight = [0i16; 8];
     let mut i: usize = 0;
-    while i < 16 {
-        out[i] = values::sixteen(values::eac_whole(base, m, steps[i], low, high), up);
+    while i < 8 {
+        eight[i] = values::eac_whole(base, m, steps[i], low, high);
         i += 1;
     }
-    out
+    narrowed(picks::picked(d, eight), values::added_of(signed))
 }
 
 // Opaque pixels of sixteen bytes of red and sixteen of green, with no blue.

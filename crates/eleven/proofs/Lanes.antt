@@ -9,9 +9,9 @@ use native.Mathlib.Nat.{div-add-mod', mod-lt, mul-left-comm}
 use native.Mathlib.Decide.{decLt}
 use native.Mathlib.Omega.{arith}
 use lib.Dec.{T}
-use lib.ListN.{length, getD, drop}
+use lib.ListN.{getD, drop}
 use Rattle.rules.specs.Notation.{build}
-use Rattle.rules.specs.Places.{element, column, row, inside, needed}
+use Rattle.rules.specs.Places.{column, row, inside, needed}
 use Rattle.rules.specs.declared.Picture.{Picture}
 use Rattle.rules.specs.Whole.{eacWhole, sixteen, wholePixel}
 use Rattle.laws.specs.Painted.{Painted}

@@ -6,17 +6,15 @@ use mathlib.Core.List.{List}
 use Prim.Native.Nat.{ℕ, _+_, _-_, _*_, _/_, _%_, _<_, _≤_}
 use native.Mathlib.Nat.{mul-comm, add-mul, one-mul}
 use native.Mathlib.Omega.{arith}
-use lib.ListN.{length, take, drop}
-use Rattle.rules.specs.Places.{column, row, across, blocks, blockAt, bytesOf}
+use lib.ListN.{take, drop}
+use Rattle.rules.specs.Places.{column, row, across, blocks, bytesOf}
 use Rattle.rules.specs.Answers.{limit}
 use Rattle.rules.specs.declared.Picture.{Picture}
 use Rattle.rules.specs.Whole.{wholePixel, wholeAt, wholePicture}
-use Rattle.laws.specs.Painted.{Painted}
 use Rattle.laws.proofs.Paint.{none}
 use Rattle.laws.proofs.Parts.{part}
 use Rattle.laws.proofs.Signed.{times-le}
 use Rattle.place.proofs.Grid.{before}
-use Rattle.blocks.specs.Run.{InRun, Stands}
 use Rattle.blocks.proofs.Blocks.{next-in, all-in, room}
 use Rattle.blocks.proofs.Runs.{two-runs-in}
 use Rattle.eleven.specs.Lanes.{PaintsBlock, PaintsBlocks}

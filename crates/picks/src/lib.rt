@@ -35,7 +35,7 @@ pub fn row_of(b: u8) -> usize
 // The number that each pixel's index picks of eight, row by row. The last pixel's index stands lowest in the word, so the loop
 // goes backwards.
 pub fn picked(d: &[u8], eight: [i16; 8]) -> [i16; 16]
-    requires { ⌜ (8 ≤ length (now d)) × ((j : ℕ) → mag (getD eight j (pos 0)) < 256) ⌝ }
+    requires { ⌜ (8 ≤ length (now d)) × ((j : ℕ) → j < 8 → mag (getD eight j (pos 0)) < 2048) ⌝ }
     ensures { λ r. ⌜ r ≡ build 16 (pickAt (now (d .entry)) eight) ⌝ }
 {
     let order = consts::write_order();

@@ -45,9 +45,9 @@ pub fn read_whole(
         r ⌝ }
 {
     let pic = Picture {
-        width: width,
-        height: height,
-        pitch: pitch,
+        width,
+        height,
+        pitch,
     };
     spoken::number(eleven::read(green, signed, data, pic, image))
 }

@@ -1,17 +1,17 @@
 -- Laws of whole values: how far they reach, the byte of each, and its sixteen bits.
 -- Assumes nothing.
 use mathlib.Core.Path.{_≡_, _∙_, refl, sym, ap}
-use mathlib.Core.Bool.{Bool, true, false, cond}
+use mathlib.Core.Bool.{Bool, true, false}
 use mathlib.Core.List.{List}
-use Prim.Native.Nat.{ℕ, suc, _+_, _-_, _/_, _%_, _<_, _≤_, _^_}
+use Prim.Native.Nat.{ℕ, suc, _+_, _-_, _/_, _%_, _<_, _^_}
 use native.Mathlib.Decide.{decLt}
 use native.Mathlib.Omega.{arith}
 use borrow.Author.Tests.{lt-ltb, le-ltb}
 use lib.Dec.{T}
-use lib.IntN.{ℤ, pos, negsuc, natAbs, subℕ, _+ℤ_, _*ℤ_, +ℤ-assoc, +ℤ-comm, pos-ne-negsuc}
-use lib.Signed.{mag, ltZ, nonNeg}
+use lib.IntN.{ℤ, pos, negsuc, natAbs, _+ℤ_, _*ℤ_, +ℤ-assoc, +ℤ-comm, pos-ne-negsuc}
+use lib.Signed.{mag, nonNeg}
 use Rattle.rules.specs.Notation.{byte, bits, minus, clamp}
-use Rattle.rules.specs.Channels.{signedBase, centre, multiplier, alphaStep, eacValue, eacByte}
+use Rattle.rules.specs.Channels.{signedBase, multiplier, alphaStep, eacValue, eacByte}
 use Rattle.rules.specs.Whole.{least, most, between, middle, added, byteFrom, sixteen, eacWhole}
 use Rattle.laws.proofs.Signed.{neg, nat}
 

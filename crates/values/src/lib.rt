@@ -1,10 +1,11 @@
 // The whole value of a pixel of an EAC channel, eleven bits, of what its block says: the middle, the multiplier and a step; and what is
 // made of it, a byte or sixteen bits.
+ghost use mathlib.Core.Bool.{false, cond};
 ghost use mathlib.Core.Path.{_≡_};
 ghost use Prim.Native.Nat.{_<_, _/_};
 ghost use lib.Dec.{T};
 ghost use lib.IntN.{pos, natAbs, _+ℤ_, _*ℤ_};
-ghost use lib.Signed.{mag, nonNeg};
+ghost use lib.Signed.{mag, ltZ, nonNeg};
 ghost use Rattle.rules.specs.Channels.{signedBase, multiplier};
 ghost use Rattle.rules.specs.Whole.{least, most, between, middle, added, sixteen as sixteenOf};
 
@@ -54,19 +55,26 @@ pub fn most_of(signed: bool) -> i16
     if signed { 1023 } else { 2047 }
 }
 
-// The whole value of a pixel, clamped.
+// A value, or the least where it is below that.
+fn at_least(low: i16, v: i16) -> i16
+    ensures { λ r. ⌜ r ≡ cond (ltZ v low) low v ⌝ }
+{
+    if v < low { low } else { v }
+}
+
+// A value, or the most where it is above that.
+fn at_most(high: i16, v: i16) -> i16
+    ensures { λ r. ⌜ r ≡ cond (ltZ high v) high v ⌝ }
+{
+    if high < v { high } else { v }
+}
+
+// The whole value that a step gives, clamped: by two steps, each of which is one instruction for eight values.
 pub fn eac_whole(base: i16, m: u8, s: i16, low: i16, high: i16) -> i16
-    requires { ⌜ (mag base < 4096) × (m < 121) × (mag s < 16) ⌝ }
+    requires { ⌜ (mag base < 4096) × (m < 121) × (mag s < 16) × (ltZ high low ≡ false) ⌝ }
     ensures { λ r. ⌜ r ≡ between low high (base +ℤ pos m *ℤ s) ⌝ }
 {
-    let v = base + m as i16 * s;
-    if v < low {
-        low
-    } else if high < v {
-        high
-    } else {
-        v
-    }
+    at_most(high, at_least(low, base + m as i16 * s))
 }
 
 // What makes a value no less than 0.
@@ -84,12 +92,12 @@ fn raised(v: i16, up: u16) -> u16
     (up as i16 + v) as u16
 }
 
-// The byte of a value.
-pub fn byte_of(v: i16, up: u16) -> u32
+// The byte of a value, in the type of values.
+pub fn byte_of(v: i16, up: u16) -> i16
     requires { ⌜ (mag v < 2048) × (up < 2048) × T (nonNeg (pos up +ℤ v)) ⌝ }
-    ensures { λ r. ⌜ r ≡ natAbs (pos up +ℤ v) / 8 ⌝ }
+    ensures { λ r. ⌜ r ≡ pos (natAbs (pos up +ℤ v) / 8) ⌝ }
 {
-    raised(v, up) as u32 / 8
+    (raised(v, up) / 8) as i16
 }
 
 // A value as sixteen bits, a negative one in two's complement.

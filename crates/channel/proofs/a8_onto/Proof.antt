@@ -34,7 +34,7 @@ products-of-requires : tie.Need-products-of-requires Inv-loop μ-loop
 products-of-requires c κs = search needs
 
 picked-requires : tie.Need-picked-requires Inv-loop μ-loop
-picked-requires c κs = (search needs, λ j. rw (c .products-of .ensures) (small-in (c .before .before .before .before .args .d .now) j))
+picked-requires c κs = (search needs, λ j h. rw (c .products-of .ensures) (omega (arith, small-in (c .before .before .before .before .args .d .now) j)))
 
 loop-holds : tie.Need-loop-holds Inv-loop μ-loop
 loop-holds c = begun inOrder _ 0 16 _ (search needs)

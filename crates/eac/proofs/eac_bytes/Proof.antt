@@ -1,25 +1,35 @@
--- Turn i stores the byte of pixel i: an eighth of its value.
+-- Turn i stores the eighth of value i; of these each pixel picks its byte.
 -- Assumes nothing.
-use mathlib.Core.Path.{_≡_, refl, _∙_, ap}
-use Prim.Native.Nat.{_-_, _/_, _%_}
+use mathlib.Core.Path.{_≡_, _∙_, refl, ap}
+use Prim.Native.Nat.{ℕ, _-_, _<_}
 use native.Mathlib.Omega.{arith}
 use borrow.Author.Needs.{needs}
-use lib.IntN.{pos}
+use lib.IntN.{pos, natAbs}
+use lib.ListN.{getD}
 use mir.Syntax.{w16}
-use Rattle.rules.specs.Channels.{multiplier, eacByte}
-use Rattle.rules.specs.Whole.{eacWhole}
+use Rattle.rules.specs.Notation.{build}
+use Rattle.rules.specs.Channels.{multiplier}
+use Rattle.laws.proofs.Filled.{getD-build, build-same}
 use Rattle.laws.proofs.Filling.{Filling, inOrder, begun, stored-next, filled-all}
 use Rattle.laws.proofs.Signed.{held, held-small}
-use Rattle.channel.proofs.Steps.{step-small}
-use Rattle.eac.proofs.Bytes.{wholeIn, whole-at, whole-small, whole-raised, eighth}
+use Rattle.eac.proofs.Bytes.{wholeOf, step-held, step-small, in-order, whole-at, whole-small, whole-raised, eighthOf, small-eighth, eighth, numberAt, picks, byte-picked}
 use Rattle.eac.proofs.eac_bytes.Statement.{statement}
 use Rattle.eac.proofs.eac_bytes.Tie as tie
 
 abbrev Inv-loop : tie.InvT-loop
-Inv-loop d signed base m low high up steps out₀ i₀ out i = Filling inOrder (λ k. eacByte signed d (k % 4) (k / 4)) 0 16 i out
+Inv-loop d signed steps base m low high up eight₀ i₀ eight i = Filling inOrder (λ j. pos (eighthOf signed d j)) (pos 0) 8 i eight
 
 abbrev μ-loop : tie.MeasureT-loop
-μ-loop d signed base m low high up steps out₀ i₀ out i = 16 - i
+μ-loop d signed steps base m low high up eight₀ i₀ eight i = 8 - i
+
+shared-slice-read-row-of : tie.Need-shared-slice-read-row-of Inv-loop μ-loop
+shared-slice-read-row-of c = omega arith
+
+row-of-requires : tie.Need-row-of-requires Inv-loop μ-loop
+row-of-requires c κs = search needs
+
+steps-in-requires : tie.Need-steps-in-requires Inv-loop μ-loop
+steps-in-requires c κs = search needs
 
 shared-slice-read-middle-of : tie.Need-shared-slice-read-middle-of Inv-loop μ-loop
 shared-slice-read-middle-of c = omega arith
@@ -45,11 +55,8 @@ most-of-requires c κs = search needs
 added-of-requires : tie.Need-added-of-requires Inv-loop μ-loop
 added-of-requires c κs = search needs
 
-steps-of-requires : tie.Need-steps-of-requires Inv-loop μ-loop
-steps-of-requires c κs = search needs
-
 loop-holds : tie.Need-loop-holds Inv-loop μ-loop
-loop-holds c = begun inOrder _ 0 16 _ refl
+loop-holds c = begun inOrder _ (pos 0) 8 _ refl
 
 mul-eac-whole : tie.Need-mul-eac-whole Inv-loop μ-loop
 mul-eac-whole c = omega arith
@@ -59,39 +66,49 @@ array-copy-out-eac-whole c = omega arith
 
 eac-whole-requires : tie.Need-eac-whole-requires Inv-loop μ-loop
 eac-whole-requires c κs =
-    let b = c .before .before .before in
-    let z = b .before .before .before .before .before .before .before .middle-of in
-    (rw (held-small w16 (z .result) (omega arith)) (z .ensures .1), omega arith, step-small _ (b .steps-of .result) (c .before .before .loop .i) (b .steps-of .ensures) (omega arith))
+    let o = c .before .before .before .before in
+    let t = o .before .before in
+    let z = t .before .before .before .middle-of in
+    let r = t .before .before .before .before .before in
+    let s = r .before .before .before .before in (
+      rw (held-small w16 (z .result) (omega arith)) (z .ensures .1),
+      omega arith,
+      step-small (s .args .d .now) (r .steps-in .result) (r .before .row-of .result) (c .before .before .loop .i) (r .steps-in .ensures) (r .before .row-of .ensures .0),
+      in-order (s .args .signed) (o .before .least-of .result) (o .most-of .result) (o .before .least-of .ensures) (o .most-of .ensures),
+    )
 
 -- what the function was given
 abbrev given : tie.After-eac-whole Inv-loop μ-loop → tie.Start Inv-loop μ-loop
-given c = c .before .before .before .before .before .before .before .before .before .before .before .before .before .before
+given c = c .before .before .before .before .before .before .before .before .before .before .before .before .before .before .before .before
 
 -- the value of the turn
-value : (c : tie.After-eac-whole Inv-loop μ-loop) → held w16 (c .eac-whole .result) ≡ wholeIn (given c .args .signed) (given c .args .d .now) (c .before .before .before .loop .i)
+value : (c : tie.After-eac-whole Inv-loop μ-loop) → held w16 (c .eac-whole .result) ≡ wholeOf (given c .args .signed) (given c .args .d .now) (c .before .before .before .loop .i)
 value c =
-    let s = c .before .before .before .before in
-    let l = s .before .before .before in
-    let t = l .before in
+    let o = c .before .before .before .before .before in
+    let t = o .before .before in
     let z = t .before .before .before .middle-of in
-    whole-at (given c .args .signed) (given c .args .d .now) (z .result) (l .least-of .result) (s .before .before .most-of .result) (c .eac-whole .result)
-    (t .times-of .result) (c .before .before .before .loop .i) (s .steps-of .result) (omega arith)
-    (z .ensures .0) (z .ensures .1) (t .times-of .ensures .0 ∙ ap multiplier (t .before .multiplier-of .ensures .0))
-    (l .least-of .ensures) (s .before .before .most-of .ensures) (s .steps-of .ensures) (c .eac-whole .ensures)
+    let r = t .before .before .before .before .before in
+    let d = given c .args .d .now in
+    whole-at (given c .args .signed) d (z .result) (o .before .least-of .result) (o .most-of .result) (c .eac-whole .result) _
+    (t .times-of .result) (c .before .before .before .loop .i) (z .ensures .0) (z .ensures .1) (t .times-of .ensures .0 ∙ ap multiplier (t .before .multiplier-of .ensures .0))
+    (o .before .least-of .ensures) (o .most-of .ensures)
+    (step-held d (r .steps-in .result) (r .before .row-of .result) (c .before .before .before .loop .i) (r .steps-in .ensures) (r .before .row-of .ensures .0))
+    (c .eac-whole .ensures)
 
 byte-of-requires : tie.Need-byte-of-requires Inv-loop μ-loop
 byte-of-requires c κs =
-    let u = c .before .before .before .before .before .added-of in (
-      whole-small _ _ _ (c .before .before .before .loop .i) (u .result) (value c) (u .ensures .0),
+    let u = c .before .before .before .before .added-of in
+    let g = given c .args in (
+      whole-small (g .signed) (g .d .now) _ (c .before .before .before .loop .i) (u .result) (value c) (u .ensures .0),
       u .ensures .1,
-      whole-raised _ _ _ (c .before .before .before .loop .i) (u .result) (value c) (u .ensures .0),
+      whole-raised (g .signed) (g .d .now) _ (c .before .before .before .loop .i) (u .result) (value c) (u .ensures .0),
     )
 
-mul-out : tie.Need-mul-out Inv-loop μ-loop
-mul-out c = omega arith
+mul-eight : tie.Need-mul-eight Inv-loop μ-loop
+mul-eight c = omega arith
 
-array-write-out : tie.Need-array-write-out Inv-loop μ-loop
-array-write-out c = omega arith
+array-set-from-eight : tie.Need-array-set-from-eight Inv-loop μ-loop
+array-set-from-eight c = omega arith
 
 add-i : tie.Need-add-i Inv-loop μ-loop
 add-i c = omega arith
@@ -103,14 +120,41 @@ loop-again : tie.Need-loop-again Inv-loop μ-loop
 loop-again c =
     let w = c .before in
     let l = w .before .before .before .loop in
-    let u = w .before .before .before .before .before .added-of in
-    stored-next _ 0 16 (l .out) (l .i) (l .inv) _ (omega arith)
-    (c .byte-of .ensures ∙ eighth _ _ _ (l .i) (u .result) (value w) (u .ensures .0))
+    let u = w .before .before .before .before .added-of in
+    let g = given w .args in
+    stored-next _ (pos 0) 8 (l .eight) (l .i) (l .inv) _ (omega arith)
+    (ap (held w16) (c .byte-of .ensures ∙ ap pos (eighth (g .signed) (g .d .now) _ (l .i) (u .result) (value w) (u .ensures .0)))
+    ∙ held-small w16 (pos (eighthOf (g .signed) (g .d .now) (l .i))) (omega (arith, small-eighth (g .signed) (g .d .now) (l .i))))
+
+-- the eight of them, and those that the pixels pick
+abbrev start : tie.After-loop Inv-loop μ-loop → tie.Start Inv-loop μ-loop
+start c = c .before .before .before .before .before .before .before .before .before .before .before .before .before .before
+
+eights : (c : tie.After-loop Inv-loop μ-loop) → c .before .loop .eight ≡ build 8 (λ j. pos (eighthOf (start c .args .signed) (start c .args .d .now) j))
+eights c = filled-all _ (pos 0) 8 (c .before .loop .eight) (c .before .loop .i) (c .before .loop .inv) (omega arith)
+
+picked-requires : tie.Need-picked-requires Inv-loop μ-loop
+picked-requires c κs =
+    let g = start c .args in (
+      search needs,
+      λ j h. rw (eights c, getD-build (λ j. pos (eighthOf (g .signed) (g .d .now) j)) (pos 0) 8 j h) (omega (arith, small-eighth (g .signed) (g .d .now) j)),
+    )
+
+pick : (c : tie.After-picked Inv-loop μ-loop) (k : ℕ) → k < 16
+    → getD (c .picked .result) k (pos 0) ≡ pos (eighthOf (start (c .before) .args .signed) (start (c .before) .args .d .now) (numberAt (start (c .before) .args .d .now) k))
+pick c k h =
+    let g = start (c .before) .args in
+    picks (λ j. pos (eighthOf (g .signed) (g .d .now) j)) (g .d .now) (c .before .before .loop .eight) (c .picked .result) k (eights (c .before)) (c .picked .ensures) h
+
+widened-requires : tie.Need-widened-requires Inv-loop μ-loop
+widened-requires c κs =
+    let g = start (c .before) .args in
+    λ k h. rw (pick c k h) (tt, omega (arith, small-eighth (g .signed) (g .d .now) (numberAt (g .d .now) k)))
 
 returns : tie.Need-returns Inv-loop μ-loop
 returns c =
-    let l = c .before .loop in
-    filled-all _ 0 16 (l .out) (l .i) (l .inv) (omega arith)
+    let g = start (c .before .before) .args in
+    c .widened .ensures ∙ build-same 0 _ _ 16 (λ k h. ap natAbs (pick (c .before) k h) ∙ byte-picked (g .signed) (g .d .now) k)
 
 pub eac-bytes-spec : {M : Type 1} → statement M
 eac-bytes-spec =
@@ -118,6 +162,9 @@ eac-bytes-spec =
     (tie.spec
     Inv-loop
     μ-loop
+    shared-slice-read-row-of
+    row-of-requires
+    steps-in-requires
     shared-slice-read-middle-of
     middle-of-requires
     shared-slice-read-multiplier-of
@@ -126,15 +173,16 @@ eac-bytes-spec =
     least-of-requires
     most-of-requires
     added-of-requires
-    steps-of-requires
     loop-holds
     mul-eac-whole
     array-copy-out-eac-whole
     eac-whole-requires
     byte-of-requires
-    mul-out
-    array-write-out
+    mul-eight
+    array-set-from-eight
     add-i
     loop-less
     loop-again
+    picked-requires
+    widened-requires
     returns)

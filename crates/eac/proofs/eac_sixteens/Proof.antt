@@ -1,25 +1,36 @@
--- Turn i stores the value of pixel i as sixteen bits.
+-- Turn i stores value i; of these each pixel picks its own.
 -- Assumes nothing.
-use mathlib.Core.Path.{_≡_, refl, _∙_, ap}
-use Prim.Native.Nat.{_-_, _/_, _%_}
+use mathlib.Core.Path.{_≡_, _∙_, refl, ap}
+use Prim.Native.Nat.{ℕ, _-_, _<_}
 use native.Mathlib.Omega.{arith}
 use borrow.Author.Needs.{needs}
 use lib.IntN.{pos}
+use lib.ListN.{getD}
 use mir.Syntax.{w16}
+use Rattle.rules.specs.Notation.{build}
 use Rattle.rules.specs.Channels.{multiplier}
-use Rattle.rules.specs.Whole.{sixteen, eacWhole}
+use Rattle.rules.specs.Whole.{sixteen}
+use Rattle.laws.proofs.Filled.{getD-build, build-same}
 use Rattle.laws.proofs.Filling.{Filling, inOrder, begun, stored-next, filled-all}
 use Rattle.laws.proofs.Signed.{held, held-small}
-use Rattle.channel.proofs.Steps.{step-small}
-use Rattle.eac.proofs.Bytes.{wholeIn, whole-at, whole-small, whole-raised}
+use Rattle.eac.proofs.Bytes.{wholeOf, small-whole, step-held, step-small, in-order, whole-at, whole-small, whole-raised, numberAt, picks, whole-picked}
 use Rattle.eac.proofs.eac_sixteens.Statement.{statement}
 use Rattle.eac.proofs.eac_sixteens.Tie as tie
 
 abbrev Inv-loop : tie.InvT-loop
-Inv-loop d signed base m low high up steps out₀ i₀ out i = Filling inOrder (λ k. sixteen (eacWhole signed d (k % 4) (k / 4))) 0 16 i out
+Inv-loop d signed steps base m low high eight₀ i₀ eight i = Filling inOrder (λ j. wholeOf signed d j) (pos 0) 8 i eight
 
 abbrev μ-loop : tie.MeasureT-loop
-μ-loop d signed base m low high up steps out₀ i₀ out i = 16 - i
+μ-loop d signed steps base m low high eight₀ i₀ eight i = 8 - i
+
+shared-slice-read-row-of : tie.Need-shared-slice-read-row-of Inv-loop μ-loop
+shared-slice-read-row-of c = omega arith
+
+row-of-requires : tie.Need-row-of-requires Inv-loop μ-loop
+row-of-requires c κs = search needs
+
+steps-in-requires : tie.Need-steps-in-requires Inv-loop μ-loop
+steps-in-requires c κs = search needs
 
 shared-slice-read-middle-of : tie.Need-shared-slice-read-middle-of Inv-loop μ-loop
 shared-slice-read-middle-of c = omega arith
@@ -42,14 +53,8 @@ least-of-requires c κs = search needs
 most-of-requires : tie.Need-most-of-requires Inv-loop μ-loop
 most-of-requires c κs = search needs
 
-added-of-requires : tie.Need-added-of-requires Inv-loop μ-loop
-added-of-requires c κs = search needs
-
-steps-of-requires : tie.Need-steps-of-requires Inv-loop μ-loop
-steps-of-requires c κs = search needs
-
 loop-holds : tie.Need-loop-holds Inv-loop μ-loop
-loop-holds c = begun inOrder _ 0 16 _ refl
+loop-holds c = begun inOrder _ (pos 0) 8 _ refl
 
 mul-eac-whole : tie.Need-mul-eac-whole Inv-loop μ-loop
 mul-eac-whole c = omega arith
@@ -59,39 +64,40 @@ array-copy-out-eac-whole c = omega arith
 
 eac-whole-requires : tie.Need-eac-whole-requires Inv-loop μ-loop
 eac-whole-requires c κs =
-    let b = c .before .before .before in
-    let z = b .before .before .before .before .before .before .before .middle-of in
-    (rw (held-small w16 (z .result) (omega arith)) (z .ensures .1), omega arith, step-small _ (b .steps-of .result) (c .before .before .loop .i) (b .steps-of .ensures) (omega arith))
+    let o = c .before .before .before in
+    let t = o .before .before in
+    let z = t .before .before .before .middle-of in
+    let r = t .before .before .before .before .before in
+    let s = r .before .before .before .before in (
+      rw (held-small w16 (z .result) (omega arith)) (z .ensures .1),
+      omega arith,
+      step-small (s .args .d .now) (r .steps-in .result) (r .before .row-of .result) (c .before .before .loop .i) (r .steps-in .ensures) (r .before .row-of .ensures .0),
+      in-order (s .args .signed) (o .before .least-of .result) (o .most-of .result) (o .before .least-of .ensures) (o .most-of .ensures),
+    )
 
 -- what the function was given
 abbrev given : tie.After-eac-whole Inv-loop μ-loop → tie.Start Inv-loop μ-loop
-given c = c .before .before .before .before .before .before .before .before .before .before .before .before .before .before
+given c = c .before .before .before .before .before .before .before .before .before .before .before .before .before .before .before
 
 -- the value of the turn
-value : (c : tie.After-eac-whole Inv-loop μ-loop) → held w16 (c .eac-whole .result) ≡ wholeIn (given c .args .signed) (given c .args .d .now) (c .before .before .before .loop .i)
+value : (c : tie.After-eac-whole Inv-loop μ-loop) → held w16 (c .eac-whole .result) ≡ wholeOf (given c .args .signed) (given c .args .d .now) (c .before .before .before .loop .i)
 value c =
-    let s = c .before .before .before .before in
-    let l = s .before .before .before in
-    let t = l .before in
+    let o = c .before .before .before .before in
+    let t = o .before .before in
     let z = t .before .before .before .middle-of in
-    whole-at (given c .args .signed) (given c .args .d .now) (z .result) (l .least-of .result) (s .before .before .most-of .result) (c .eac-whole .result)
-    (t .times-of .result) (c .before .before .before .loop .i) (s .steps-of .result) (omega arith)
-    (z .ensures .0) (z .ensures .1) (t .times-of .ensures .0 ∙ ap multiplier (t .before .multiplier-of .ensures .0))
-    (l .least-of .ensures) (s .before .before .most-of .ensures) (s .steps-of .ensures) (c .eac-whole .ensures)
+    let r = t .before .before .before .before .before in
+    let d = given c .args .d .now in
+    whole-at (given c .args .signed) d (z .result) (o .before .least-of .result) (o .most-of .result) (c .eac-whole .result) _
+    (t .times-of .result) (c .before .before .before .loop .i) (z .ensures .0) (z .ensures .1) (t .times-of .ensures .0 ∙ ap multiplier (t .before .multiplier-of .ensures .0))
+    (o .before .least-of .ensures) (o .most-of .ensures)
+    (step-held d (r .steps-in .result) (r .before .row-of .result) (c .before .before .before .loop .i) (r .steps-in .ensures) (r .before .row-of .ensures .0))
+    (c .eac-whole .ensures)
 
-sixteen-requires : tie.Need-sixteen-requires Inv-loop μ-loop
-sixteen-requires c κs =
-    let u = c .before .before .before .before .before .added-of in (
-      whole-small _ _ _ (c .before .before .before .loop .i) (u .result) (value c) (u .ensures .0),
-      u .ensures .1,
-      whole-raised _ _ _ (c .before .before .before .loop .i) (u .result) (value c) (u .ensures .0),
-    )
+mul-eight : tie.Need-mul-eight Inv-loop μ-loop
+mul-eight c = omega arith
 
-mul-out : tie.Need-mul-out Inv-loop μ-loop
-mul-out c = omega arith
-
-array-write-out : tie.Need-array-write-out Inv-loop μ-loop
-array-write-out c = omega arith
+array-set-from-eight : tie.Need-array-set-from-eight Inv-loop μ-loop
+array-set-from-eight c = omega arith
 
 add-i : tie.Need-add-i Inv-loop μ-loop
 add-i c = omega arith
@@ -101,16 +107,48 @@ loop-less c = omega arith
 
 loop-again : tie.Need-loop-again Inv-loop μ-loop
 loop-again c =
-    let w = c .before in
-    let l = w .before .before .before .loop in
-    let u = w .before .before .before .before .before .added-of in
-    stored-next _ 0 16 (l .out) (l .i) (l .inv) _ (omega arith)
-    (c .sixteen .ensures ∙ ap sixteen (value w))
+    let l = c .before .before .before .loop in
+    stored-next _ (pos 0) 8 (l .eight) (l .i) (l .inv) _ (omega arith) (value c)
+
+-- the eight of them, and those that the pixels pick
+abbrev start : tie.After-loop Inv-loop μ-loop → tie.Start Inv-loop μ-loop
+start c = c .before .before .before .before .before .before .before .before .before .before .before .before .before
+
+eights : (c : tie.After-loop Inv-loop μ-loop) → c .before .loop .eight ≡ build 8 (wholeOf (start c .args .signed) (start c .args .d .now))
+eights c = filled-all _ (pos 0) 8 (c .before .loop .eight) (c .before .loop .i) (c .before .loop .inv) (omega arith)
+
+picked-requires : tie.Need-picked-requires Inv-loop μ-loop
+picked-requires c κs =
+    let g = start c .args in (
+      search needs,
+      λ j h. rw (eights c, getD-build (wholeOf (g .signed) (g .d .now)) (pos 0) 8 j h) (small-whole (g .signed) (g .d .now) j .small),
+    )
+
+pick : (c : tie.After-picked Inv-loop μ-loop) (k : ℕ) → k < 16
+    → getD (c .picked .result) k (pos 0) ≡ wholeOf (start (c .before) .args .signed) (start (c .before) .args .d .now) (numberAt (start (c .before) .args .d .now) k)
+pick c k h =
+    let g = start (c .before) .args in
+    picks (wholeOf (g .signed) (g .d .now)) (g .d .now) (c .before .before .loop .eight) (c .picked .result) k (eights (c .before)) (c .picked .ensures) h
+
+added-of-requires : tie.Need-added-of-requires Inv-loop μ-loop
+added-of-requires c κs = search needs
+
+narrowed-requires : tie.Need-narrowed-requires Inv-loop μ-loop
+narrowed-requires c κs =
+    let g = start (c .before .before) .args in
+    let u = c .added-of in (
+      u .ensures .1,
+      λ k h. (
+        whole-raised (g .signed) (g .d .now) _ (numberAt (g .d .now) k) (u .result) (pick (c .before) k h) (u .ensures .0),
+        whole-small (g .signed) (g .d .now) _ (numberAt (g .d .now) k) (u .result) (pick (c .before) k h) (u .ensures .0),
+      ),
+    )
 
 returns : tie.Need-returns Inv-loop μ-loop
 returns c =
-    let l = c .before .loop in
-    filled-all _ 0 16 (l .out) (l .i) (l .inv) (omega arith)
+    let p = c .before .before in
+    let g = start (p .before) .args in
+    c .narrowed .ensures ∙ build-same 0 _ _ 16 (λ k h. ap sixteen (pick p k h ∙ whole-picked (g .signed) (g .d .now) k))
 
 pub eac-sixteens-spec : {M : Type 1} → statement M
 eac-sixteens-spec =
@@ -118,6 +156,9 @@ eac-sixteens-spec =
     (tie.spec
     Inv-loop
     μ-loop
+    shared-slice-read-row-of
+    row-of-requires
+    steps-in-requires
     shared-slice-read-middle-of
     middle-of-requires
     shared-slice-read-multiplier-of
@@ -125,16 +166,16 @@ eac-sixteens-spec =
     times-of-requires
     least-of-requires
     most-of-requires
-    added-of-requires
-    steps-of-requires
     loop-holds
     mul-eac-whole
     array-copy-out-eac-whole
     eac-whole-requires
-    sixteen-requires
-    mul-out
-    array-write-out
+    mul-eight
+    array-set-from-eight
     add-i
     loop-less
     loop-again
+    picked-requires
+    added-of-requires
+    narrowed-requires
     returns)

@@ -2,11 +2,10 @@
 -- Assumes nothing.
 use mathlib.Core.Path.{refl}
 use mathlib.Core.List.{[]}
-use Prim.Native.Nat.{ℕ, _+_, _-_, _*_, _/_, _%_}
+use Prim.Native.Nat.{_+_, _-_, _*_, _/_, _%_}
 use native.Mathlib.Omega.{arith}
 use lib.ListN.{getD}
 use Rattle.laws.proofs.Filling.{Filling, inOrder, begun, stored-next, filled-all}
-use borrow.Author.Needs.{needs}
 use Rattle.eleven.specs.Lanes.{paired}
 use Rattle.eleven.proofs.pairs.Statement.{statement}
 use Rattle.eleven.proofs.pairs.Tie as tie

@@ -79,7 +79,7 @@ loop-again c =
     let o = at (c .before) in (
       ap (λ (n : ℕ). n / 8) (l .inv .0) ∙ shifted (w .result) 3 (l .i),
       stored backwards _ (pos 0) 16 (l .out) (l .i) _ _ (l .inv .1) (omega arith) (omega arith) (λ k h e. place-only (15 - l .i) k h (omega arith) ∙ sym o)
-          (held-small w16 _ (omega (arith, s .pre .1 (l .l % 8)))
+          (held-small w16 _ (omega (arith, s .pre .1 (l .l % 8) (omega arith)))
           ∙ reads (s .args .d .now) (s .args .t2) (l .i) (l .l) (omega arith) (l .inv .0 ∙ ap (λ (n : ℕ). n / 2 ^ (3 * l .i)) (w .ensures))
           ∙ ap (pickAt _ _) (sym o)),
     )

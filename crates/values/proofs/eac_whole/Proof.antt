@@ -1,6 +1,6 @@
--- The product and the sum fit, and the three ways of the clamp are each the rule's.
+-- The product and the sum fit, and the two steps of the clamp are the rule's one.
 -- Assumes nothing.
-use mathlib.Core.Path.{_≡_, _∙_, refl, sym, ap}
+use mathlib.Core.Path.{_≡_, _∙_, refl, ap}
 use mathlib.Core.Bool.{Bool, true, false, cond}
 use Prim.Native.Nat.{suc, _+_, _*_, _<_, _^_}
 use native.Mathlib.Omega.{arith}
@@ -9,42 +9,34 @@ use lib.IntN.{ℤ, pos, _+ℤ_, _*ℤ_}
 use lib.Signed.{mag, ltZ}
 use mir.Syntax.{w16}
 use mir.ValLaws.{toZ-ofZ}
-use Rattle.rules.specs.Whole.{between}
-use Rattle.laws.proofs.Signed.{held, times-le, by-fits, on-fits, on-held}
+use Rattle.laws.proofs.Signed.{held, held-small, mag-mul, mag-sum, times-le, by-fits, on-fits, on-held}
 use Rattle.values.proofs.eac_whole.Statement.{statement}
 use Rattle.values.proofs.eac_whole.Tie as tie
 
 fit : (c : tie.Start) → mag (c .args .base) + c .args .m * suc (mag (c .args .s)) + 1 < 2 ^ 15
 fit c = omega (arith, times-le (c .args .m) 120 (suc (mag (c .args .s))) 16 (omega arith) (omega arith))
 
-cast-v : tie.Need-cast-v
-cast-v c = search needs
+cast-at-least : tie.Need-cast-at-least
+cast-at-least c = search needs
 
-mul-v : tie.Need-mul-v
-mul-v c = by-fits w16 (c .args .base) (pos (c .args .m)) (c .args .s) (c .args .m) refl (c .fits .base) (record { sfits = omega arith }) (c .fits .s) (fit c)
+mul-at-least : tie.Need-mul-at-least
+mul-at-least c = by-fits w16 (c .args .base) (pos (c .args .m)) (c .args .s) (c .args .m) refl (c .fits .base) (record { sfits = omega arith }) (c .fits .s) (fit c)
 
-add-v : tie.Need-add-v
-add-v c = on-fits w16 (c .args .base) (pos (c .args .m)) (c .args .s) (c .args .m) refl (c .fits .base) (record { sfits = omega arith }) (c .fits .s) (fit c)
+add-at-least : tie.Need-add-at-least
+add-at-least c = on-fits w16 (c .args .base) (pos (c .args .m)) (c .args .s) (c .args .m) refl (c .fits .base) (record { sfits = omega arith }) (c .fits .s) (fit c)
 
--- v, as the machine holds it, and the sum that it is
-abbrev v : tie.Start → ℤ
-v c = held w16 (held w16 (c .args .base) +ℤ held w16 (held w16 (pos (c .args .m)) *ℤ held w16 (c .args .s)))
+at-least-requires : tie.Need-at-least-requires
+at-least-requires c κs = search needs
 
+at-most-requires : tie.Need-at-most-requires
+at-most-requires c κs = search needs
+
+-- the sum, and what the machine holds is it
 abbrev sum : tie.Start → ℤ
 sum c = c .args .base +ℤ pos (c .args .m) *ℤ c .args .s
 
-told : (c : tie.Start) → v c ≡ sum c
+told : (c : tie.Start) → held w16 (held w16 (c .args .base) +ℤ held w16 (held w16 (pos (c .args .m)) *ℤ held w16 (c .args .s))) ≡ sum c
 told c = on-held w16 (c .args .base) (pos (c .args .m)) (c .args .s) (c .args .m) refl (c .fits .base) (record { sfits = omega arith }) (c .fits .s) (fit c)
-
--- the three ways
-below : (l h z : ℤ) → ltZ z l ≡ true → l ≡ between l h z
-below l h z e = sym (ap (λ (t : Bool). cond t l (cond (ltZ h z) h z)) e)
-
-above : (l h z : ℤ) → ltZ z l ≡ false → ltZ h z ≡ true → h ≡ between l h z
-above l h z e f = sym (ap (λ (t : Bool). cond t l (cond (ltZ h z) h z)) e ∙ ap (λ (t : Bool). cond t h z) f)
-
-within : (l h z : ℤ) → ltZ z l ≡ false → ltZ h z ≡ false → z ≡ between l h z
-within l h z e f = sym (ap (λ (t : Bool). cond t l (cond (ltZ h z) h z)) e ∙ ap (λ (t : Bool). cond t h z) f)
 
 -- the ends of the range, as they are held
 low : (c : tie.Start) → held w16 (c .args .low) ≡ c .args .low
@@ -53,20 +45,36 @@ low c = toZ-ofZ w16 (c .args .low) (c .fits .low)
 high : (c : tie.Start) → held w16 (c .args .high) ≡ c .args .high
 high c = toZ-ofZ w16 (c .args .high) (c .fits .high)
 
+-- first to the least and then to the most
+two : (l h z : ℤ) → ltZ h l ≡ false → (t : Bool) → cond (ltZ h (cond t l z)) h (cond t l z) ≡ cond t l (cond (ltZ h z) h z)
+two l h z e true = ap (λ (b : Bool). cond b h l) e
+two l h z e false = refl
+
+held-cond : (t : Bool) (y z : ℤ) → held w16 y ≡ y → held w16 z ≡ z → held w16 (cond t y z) ≡ cond t y z
+held-cond true y z e f = e
+held-cond false y z e f = f
+
+sum-held : (c : tie.Start) → held w16 (sum c) ≡ sum c
+sum-held c =
+    held-small w16 (sum c) (omega (arith, fit c, mag-sum (c .args .base) (pos (c .args .m) *ℤ c .args .s), mag-mul (c .args .m) (c .args .s)))
+
+-- what stands after the first step
+first : (c : tie.After-at-least) → held w16 (c .at-least .result) ≡ cond (ltZ (sum (c .before)) (c .before .args .low)) (c .before .args .low) (sum (c .before))
+first c =
+    let s = c .before in
+    ap (held w16) (rw (low s, told s) at (c .at-least .ensures))
+    ∙ held-cond (ltZ (sum s) (s .args .low)) (s .args .low) (sum s) (low s) (sum-held s)
+
 returns : tie.Need-returns
 returns c =
-    let s = c .before in
-    low s ∙ below (s .args .low) (s .args .high) (sum s) (rw (low s, told s) at (c .if1 .taken))
-
-returns-2 : tie.Need-returns-2
-returns-2 c =
     let s = c .before .before in
-    high s ∙ above (s .args .low) (s .args .high) (sum s) (rw (low s, told s) at (c .before .if1 .left)) (rw (high s, told s) at (c .if2 .taken))
-
-returns-3 : tie.Need-returns-3
-returns-3 c =
-    let s = c .before .before in
-    told s ∙ within (s .args .low) (s .args .high) (sum s) (rw (low s, told s) at (c .before .if1 .left)) (rw (high s, told s) at (c .if2 .left))
+    let l = s .args .low in
+    let h = s .args .high in
+    ap (held w16)
+    (rw (high s, first (c .before)) at (c .at-most .ensures)
+    ∙ two l h (sum s) (s .pre .3) (ltZ (sum s) l))
+    ∙ held-cond (ltZ (sum s) l) l (cond (ltZ h (sum s)) h (sum s)) (low s)
+    (held-cond (ltZ h (sum s)) h (sum s) (high s) (sum-held s))
 
 pub eac-whole-spec : {M : Type 1} → statement M
-eac-whole-spec = tie.close (tie.spec cast-v mul-v add-v returns returns-2 returns-3)
+eac-whole-spec = tie.close (tie.spec cast-at-least mul-at-least add-at-least at-least-requires at-most-requires returns)

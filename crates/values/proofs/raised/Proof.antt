@@ -1,11 +1,10 @@
 -- The sum fits, and is not negative.
 -- Assumes nothing.
-use mathlib.Core.Path.{_≡_, _∙_, sym, ap, subst}
-use Prim.Native.Nat.{_+_, _<_, _^_}
+use mathlib.Core.Path.{_≡_}
+use Prim.Native.Nat.{_+_, _<_}
 use native.Mathlib.Omega.{arith}
 use borrow.Author.Needs.{needs}
-use lib.IntN.{ℤ, pos, natAbs, _+ℤ_}
-use lib.Signed.{mag}
+use lib.IntN.{pos, natAbs, _+ℤ_}
 use mir.Syntax.{w16}
 use mir.Val.{toZ}
 use Rattle.laws.proofs.Signed.{held, mag-add, sum-fits, sum-held}
