@@ -110,12 +110,13 @@ fn run_red(
     requires { ⌜ (n * 8 ≤ length (now «data»)) × Whole pic bx by n (length (now image)) ⌝ }
     ensures { λ _. ⌜ PaintsRow (redPixel signed) 8 (now («data» .entry)) pic bx by n (now (image .entry)) (now (image .exit)) ⌝ }
 {
+    let table = consts::alpha_steps();
     let mut i: usize = 0;
     while i < n {
         let from = i * 8;
         let end = from + 8;
         place::place_whole(
-            eac::eacr_block(&data[from..end], signed),
+            eac::eacr_block(&data[from..end], signed, &table),
             bx + i,
             by,
             pic,
@@ -138,12 +139,13 @@ fn run_red_green(
     requires { ⌜ (n * 16 ≤ length (now «data»)) × Whole pic bx by n (length (now image)) ⌝ }
     ensures { λ _. ⌜ PaintsRow (redGreenPixel signed) 16 (now («data» .entry)) pic bx by n (now (image .entry)) (now (image .exit)) ⌝ }
 {
+    let table = consts::alpha_steps();
     let mut i: usize = 0;
     while i < n {
         let from = i * 16;
         let end = from + 16;
         place::place_whole(
-            eac::eacrg_block(&data[from..end], signed),
+            eac::eacrg_block(&data[from..end], signed, &table),
             bx + i,
             by,
             pic,

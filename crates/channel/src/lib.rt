@@ -8,12 +8,11 @@ ghost use lib.Signed.{mag};
 ghost use Rattle.rules.specs.Notation.{build, clamp as clampTo};
 ghost use Rattle.rules.specs.Channels.{alphaSteps, alphaByte, withAlpha};
 
-// A row of the table of steps, in the type that sums are made in.
-pub fn steps_in(row: usize) -> [i16; 8]
-    requires { ⌜ row < 16 ⌝ }
+// A row of the table of steps, in the type that sums are made in. The table is lent: a function that names it stores all of it.
+pub fn steps_in(table: &[[i8; 8]; 16], row: usize) -> [i16; 8]
+    requires { ⌜ (row < 16) × (now table ≡ alphaSteps) ⌝ }
     ensures { λ r. ⌜ r ≡ getD alphaSteps row [] ⌝ }
 {
-    let table = consts::alpha_steps();
     let mut out = [0i16; 8];
     let mut i: usize = 0;
     while i < 8 {

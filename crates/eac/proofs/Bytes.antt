@@ -14,9 +14,10 @@ use mir.Syntax.{w16}
 use Rattle.rules.specs.Notation.{byte, bits, build}
 use Rattle.rules.specs.Channels.{alphaSteps, alphaIndex, alphaStep, centre, multiplier, eacValue, eacByte}
 use Rattle.rules.specs.Whole.{least, most, between, middle, added, eacWhole}
-use Rattle.laws.proofs.Filled.{getD-build}
+use Rattle.laws.proofs.Filled.{getD-build, build-same}
 use Rattle.laws.proofs.Signed.{held, held-is, held-small, clamp-le}
 use Rattle.picks.specs.Picks.{pickAt}
+use Rattle.eac.specs.Eights.{stepsIn, wholeOf, eighthOf, numberAt}
 use Rattle.channel.proofs.Steps.{small-row}
 use Rattle.values.proofs.Whole.{Raised, raised, not-negative, bytes-stay}
 
@@ -43,22 +44,12 @@ in-order signed low high el eh =
     tested true = refl
     tested false = refl
 
--- the steps of a block, and the value that each of the eight gives: small, so that every type holds it
-abbrev pub stepsIn : List ℕ → List ℤ
-stepsIn d = getD alphaSteps (bits 3 0 (byte d 1)) []
-
-abbrev pub wholeOf : Bool → List ℕ → ℕ → ℤ
-wholeOf signed d j =
-    between (least signed) (most signed) (middle signed (byte d 0) +ℤ pos (multiplier (bits 7 4 (byte d 1))) *ℤ getD (stepsIn d) j (pos 0))
-
+-- each of the eight values is small, so that every type holds it
 pub small-whole : (signed : Bool) (d : List ℕ) (j : ℕ) → Raised (added signed) (wholeOf signed d j)
 small-whole signed d j =
     raised signed (middle signed (byte d 0) +ℤ pos (multiplier (bits 7 4 (byte d 1))) *ℤ getD (stepsIn d) j (pos 0))
 
--- and its eighth, as large as a byte
-abbrev pub eighthOf : Bool → List ℕ → ℕ → ℕ
-eighthOf signed d j = natAbs (wholeOf signed d j +ℤ pos (added signed)) / 8
-
+-- and its eighth is as large as a byte
 pub small-eighth : (signed : Bool) (d : List ℕ) (j : ℕ) → eighthOf signed d j < 256
 small-eighth signed d j =
     let r = small-whole signed d j in
@@ -107,16 +98,15 @@ module _ (signed : Bool) (d : List ℕ) (v : ℤ) (j up : ℕ) (e : v ≡ wholeO
       ∙ ap (λ (n : ℕ). natAbs (pos n +ℤ wholeOf signed d j) / 8) u
       ∙ ap (λ (z : ℤ). natAbs z / 8) (+ℤ-comm (pos (added signed)) (wholeOf signed d j))
 
--- the number that pixel k has among the eight, and what it picks of eight numbers that have a rule
-abbrev pub numberAt : List ℕ → ℕ → ℕ
-numberAt d k = alphaIndex d (4 * (k % 4) + k / 4)
+-- what pixel k picks of eight numbers, and of eight that have a rule
+pub picked-at : (d : List ℕ) (eight sixteen : List ℤ) (k : ℕ) → sixteen ≡ build 16 (pickAt d eight) → k < 16 → getD sixteen k (pos 0) ≡ getD eight (numberAt d k) (pos 0)
+unfolding pickAt
+picked-at d eight sixteen k g h = ap (λ (l : List ℤ). getD l k (pos 0)) g ∙ getD-build (pickAt d eight) (pos 0) 16 k h
 
 pub picks : (f : ℕ → ℤ) (d : List ℕ) (eight sixteen : List ℤ) (k : ℕ) → eight ≡ build 8 f → sixteen ≡ build 16 (pickAt d eight) → k < 16
     → getD sixteen k (pos 0) ≡ f (numberAt d k)
-unfolding pickAt
 picks f d eight sixteen k e g h =
-    ap (λ (l : List ℤ). getD l k (pos 0)) g
-    ∙ getD-build (pickAt d eight) (pos 0) 16 k h
+    picked-at d eight sixteen k g h
     ∙ ap (λ (l : List ℤ). getD l (numberAt d k) (pos 0)) e
     ∙ getD-build f (pos 0) 8 (numberAt d k) (omega arith)
 
@@ -128,6 +118,19 @@ whole-picked signed d k = refl
 pub byte-picked : (signed : Bool) (d : List ℕ) (k : ℕ) → eighthOf signed d (numberAt d k) ≡ eacByte signed d (k % 4) (k / 4)
 byte-picked signed d k =
     ap (λ (z : ℤ). natAbs (z +ℤ pos (added signed)) / 8) (whole-picked signed d k) ∙ sym (bytes-stay signed d (k % 4) (k / 4))
+
+-- eight eighths, and the bytes that are picked of them
+module _ (signed : Bool) (d : List ℕ) (eight : List ℤ) (e : eight ≡ build 8 (λ j. pos (eighthOf signed d j))) where
+  eight-at : (j : ℕ) → j < 8 → getD eight j (pos 0) ≡ pos (eighthOf signed d j)
+  eight-at j h = ap (λ (l : List ℤ). getD l j (pos 0)) e ∙ getD-build (λ j. pos (eighthOf signed d j)) (pos 0) 8 j h
+
+  pub eights-are-bytes : (j : ℕ) → j < 8 → T (nonNeg (getD eight j (pos 0))) × (mag (getD eight j (pos 0)) < 256)
+  eights-are-bytes j h = rw (eight-at j h) (tt, small-eighth signed d j)
+
+  pub bytes-of : (r : List ℕ) → r ≡ build 16 (λ k. natAbs (getD eight (numberAt d k) (pos 0))) → r ≡ build 16 (λ k. eacByte signed d (k % 4) (k / 4))
+  bytes-of r q =
+      q ∙ build-same 0 (λ k. natAbs (getD eight (numberAt d k) (pos 0))) (λ k. eacByte signed d (k % 4) (k / 4)) 16
+      (λ k h. ap natAbs (eight-at (numberAt d k) (omega arith)) ∙ byte-picked signed d k)
 
 -- the byte of place k, row by row
 abbrev pub byteAt : Bool → List ℕ → ℕ → ℕ

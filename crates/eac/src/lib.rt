@@ -10,8 +10,9 @@ ghost use lib.Signed.{mag, nonNeg};
 ghost use Rattle.rules.specs.Notation.{build};
 ghost use Rattle.rules.specs.Pixel.{word};
 ghost use Rattle.rules.specs.Places.{tile};
-ghost use Rattle.rules.specs.Channels.{eacByte, redPixel, redGreenPixel, orChannel};
+ghost use Rattle.rules.specs.Channels.{alphaSteps, eacByte, redPixel, redGreenPixel, orChannel};
 ghost use Rattle.rules.specs.Whole.{eacWhole, sixteen};
+ghost use Rattle.eac.specs.Eights.{eighthOf, numberAt};
 
 // Sixteen bytes in the type that pixels are made in.
 fn widened(bytes: [i16; 16]) -> [u32; 16]
@@ -27,12 +28,12 @@ fn widened(bytes: [i16; 16]) -> [u32; 16]
     out
 }
 
-// The byte of each pixel, row by row: an eighth of its value, counted from the least.
-fn eac_bytes(d: &[u8], signed: bool) -> [u32; 16]
-    requires { ⌜ 8 ≤ length (now d) ⌝ }
-    ensures { λ r. ⌜ r ≡ build 16 (λ k. eacByte signed (now (d .entry)) (k % 4) (k / 4)) ⌝ }
+// The byte of each of the eight values of a block: an eighth of the value, counted from the least. The table of steps is lent.
+fn eight_bytes(d: &[u8], signed: bool, table: &[[i8; 8]; 16]) -> [i16; 8]
+    requires { ⌜ (8 ≤ length (now d)) × (now table ≡ alphaSteps) ⌝ }
+    ensures { λ r. ⌜ r ≡ build 8 (λ j. pos (eighthOf signed (now (d .entry)) j)) ⌝ }
 {
-    let steps = channel::steps_in(picks::row_of(d[1]));
+    let steps = channel::steps_in(table, picks::row_of(d[1]));
     let base = values::middle_of(d[0], signed);
     let m = values::times_of(picks::multiplier_of(d[1]));
     let low = values::least_of(signed);
@@ -44,6 +45,14 @@ fn eac_bytes(d: &[u8], signed: bool) -> [u32; 16]
         eight[i] = values::byte_of(values::eac_whole(base, m, steps[i], low, high), up);
         i += 1;
     }
+    eight
+}
+
+// The byte of each pixel, row by row, of eight. It is small enough to stand in each loop over blocks, which the eight are not.
+fn eac_bytes(d: &[u8], eight: [i16; 8]) -> [u32; 16]
+    requires { ⌜ (8 ≤ length (now d)) × ((j : ℕ) → j < 8 → T (nonNeg (getD eight j (pos 0))) × (mag (getD eight j (pos 0)) < 256)) ⌝ }
+    ensures { λ r. ⌜ r ≡ build 16 (λ k. natAbs (getD eight (numberAt (now (d .entry)) k) (pos 0))) ⌝ }
+{
     widened(picks::picked(d, eight))
 }
 
@@ -66,7 +75,8 @@ pub fn eac_sixteens(d: &[u8], signed: bool) -> [u16; 16]
     requires { ⌜ 8 ≤ length (now d) ⌝ }
     ensures { λ r. ⌜ r ≡ build 16 (λ k. sixteen (eacWhole signed (now (d .entry)) (k % 4) (k / 4))) ⌝ }
 {
-    let steps = channel::steps_in(picks::row_of(d[1]));
+    let table = consts::alpha_steps();
+    let steps = channel::steps_in(&table, picks::row_of(d[1]));
     let base = values::middle_of(d[0], signed);
     let m = values::times_of(picks::multiplier_of(d[1]));
     let low = values::least_of(signed);
@@ -95,19 +105,23 @@ fn red_green(red: [u32; 16], green: [u32; 16]) -> [u32; 16]
 }
 
 // An EAC R block: red, with green and blue 0, opaque.
-pub fn eacr_block(d: &[u8], signed: bool) -> [u32; 16]
-    requires { ⌜ 8 ≤ length (now d) ⌝ }
+pub fn eacr_block(d: &[u8], signed: bool, table: &[[i8; 8]; 16]) -> [u32; 16]
+    requires { ⌜ (8 ≤ length (now d)) × (now table ≡ alphaSteps) ⌝ }
     ensures { λ r. ⌜ r ≡ tile (redPixel signed) (now (d .entry)) ⌝ }
 {
-    red_green(eac_bytes(d, signed), [0u32; 16])
+    red_green(eac_bytes(d, eight_bytes(d, signed, table)), [0u32; 16])
 }
 
 // An EAC RG block: red from the first eight bytes and green from the next eight, with blue 0, opaque.
-pub fn eacrg_block(d: &[u8], signed: bool) -> [u32; 16]
-    requires { ⌜ 16 ≤ length (now d) ⌝ }
+pub fn eacrg_block(d: &[u8], signed: bool, table: &[[i8; 8]; 16]) -> [u32; 16]
+    requires { ⌜ (16 ≤ length (now d)) × (now table ≡ alphaSteps) ⌝ }
     ensures { λ r. ⌜ r ≡ tile (redGreenPixel signed) (now (d .entry)) ⌝ }
 {
-    red_green(eac_bytes(d, signed), eac_bytes(&d[8..], signed))
+    let half = &d[8..];
+    red_green(
+        eac_bytes(d, eight_bytes(d, signed, table)),
+        eac_bytes(half, eight_bytes(half, signed, table)),
+    )
 }
 
 // What 1 in a channel is in the pixel word: channel 0 is blue, 1 green, 2 red and 3 alpha.
@@ -128,7 +142,8 @@ pub fn eac_onto(d: &[u8], signed: bool, channel: usize, px: [u32; 16]) -> [u32; 
     requires { ⌜ (8 ≤ length (now d)) × (channel < 4) ⌝ }
     ensures { λ r. ⌜ r ≡ build 16 (λ k. orChannel channel (getD px k 0) (eacByte signed (now (d .entry)) (k % 4) (k / 4))) ⌝ }
 {
-    let bytes = eac_bytes(d, signed);
+    let table = consts::alpha_steps();
+    let bytes = eac_bytes(d, eight_bytes(d, signed, &table));
     let unit = unit_of(channel);
     let mut out = px;
     let mut i: usize = 0;

@@ -98,10 +98,7 @@ fn opaque_in(punch: bool, d: &[u8]) -> bool
     requires { ⌜ 8 ≤ length (now d) ⌝ }
     ensures { λ r. ⌜ r ≡ opaqueIn punch (now (d .entry)) ⌝ }
 {
-    if !punch {
-        return true;
-    }
-    d[3] / 2 % 2 == 1
+    (d[3] / 2 % 2 == 1) | !punch
 }
 
 // The sixteen pixels of a block of ETC1, of RGBA1 or of RGB, row by row.

@@ -18,13 +18,10 @@ use Rattle.channel.proofs.steps_in.Statement.{statement}
 use Rattle.channel.proofs.steps_in.Tie as tie
 
 abbrev Inv-loop : tie.InvT-loop
-Inv-loop row table out₀ i₀ out i = Filling inOrder (λ j. getD (getD alphaSteps row []) j (pos 0)) (pos 0) 8 i out
+Inv-loop table row out₀ i₀ out i = Filling inOrder (λ j. getD (getD alphaSteps row []) j (pos 0)) (pos 0) 8 i out
 
 abbrev μ-loop : tie.MeasureT-loop
-μ-loop row table out₀ i₀ out i = 8 - i
-
-alpha-steps-requires : tie.Need-alpha-steps-requires Inv-loop μ-loop
-alpha-steps-requires c κs = search needs
+μ-loop table row out₀ i₀ out i = 8 - i
 
 loop-holds : tie.Need-loop-holds Inv-loop μ-loop
 loop-holds c = begun inOrder _ (pos 0) 8 _ refl
@@ -40,14 +37,14 @@ index-2-out c = omega arith
 
 -- the number that the turn reads, and what it is
 abbrev read : tie.In-loop Inv-loop μ-loop → ℤ
-read c = getD (getD (c .before .before .alpha-steps .result) (c .before .before .before .args .row) []) (c .before .loop .i) (pos 0)
+read c = getD (getD (c .before .before .args .table .now) (c .before .before .args .row) []) (c .before .loop .i) (pos 0)
 
-is-step : (c : tie.In-loop Inv-loop μ-loop) → read c ≡ getD (getD alphaSteps (c .before .before .before .args .row) []) (c .before .loop .i) (pos 0)
+is-step : (c : tie.In-loop Inv-loop μ-loop) → read c ≡ getD (getD alphaSteps (c .before .before .args .row) []) (c .before .loop .i) (pos 0)
 is-step c =
-    ap (λ (a : List (List ℤ)). getD (getD a (c .before .before .before .args .row) []) (c .before .loop .i) (pos 0)) (c .before .before .alpha-steps .ensures)
+    ap (λ (a : List (List ℤ)). getD (getD a (c .before .before .args .row) []) (c .before .loop .i) (pos 0)) (c .before .before .pre .1)
 
 is-small : (c : tie.In-loop Inv-loop μ-loop) → mag (read c) < 16
-is-small c = rw (is-step c) (small-row _ _ (c .before .before .before .pre))
+is-small c = rw (is-step c) (small-row _ _ (c .before .before .pre .0))
 
 cast-out : tie.Need-cast-out Inv-loop μ-loop
 cast-out c = rw (held-small w8 (read (c .before)) (omega (arith, is-small (c .before)))) (record { sfits = omega (arith, is-small (c .before)) })
@@ -72,9 +69,9 @@ loop-again c =
 
 returns : tie.Need-returns Inv-loop μ-loop
 returns c =
-    let row = c .before .before .before .args .row in
+    let row = c .before .before .args .row in
     filled-all _ (pos 0) 8 (c .before .loop .out) (c .before .loop .i) (c .before .loop .inv) (omega arith)
-    ∙ sym (is-build _ (pos 0) 8 (getD alphaSteps row []) (eight-in-row row (c .before .before .before .pre)) (λ k h. refl))
+    ∙ sym (is-build _ (pos 0) 8 (getD alphaSteps row []) (eight-in-row row (c .before .before .pre .0)) (λ k h. refl))
 
 pub steps-in-spec : {M : Type 1} → statement M
 steps-in-spec =
@@ -82,7 +79,6 @@ steps-in-spec =
     (tie.spec
     Inv-loop
     μ-loop
-    alpha-steps-requires
     loop-holds
     mul-out
     index-1-out

@@ -6,10 +6,11 @@ use native.Mathlib.Omega.{arith}
 use borrow.Author.Needs.{needs}
 use lib.Bits.{bitOr}
 use lib.ListN.{getD}
+use Rattle.rules.specs.Notation.{build}
 use Rattle.rules.specs.Channels.{orChannel}
 use Rattle.laws.proofs.Filling.{Filling, inOrder, begun, stored-next, filled-all}
 use Rattle.laws.proofs.Signed.{times-le}
-use Rattle.eac.proofs.Bytes.{byteAt, byte-at, byte-small}
+use Rattle.eac.proofs.Bytes.{eights-are-bytes, bytes-of, byteAt, byte-at, byte-small}
 use Rattle.eac.proofs.eac_onto.Statement.{statement}
 use Rattle.eac.proofs.eac_onto.Tie as tie
 
@@ -23,8 +24,23 @@ Inv-loop d signed channel px bytes unit out₀ i₀ out i =
 abbrev μ-loop : tie.MeasureT-loop
 μ-loop d signed channel px bytes unit out₀ i₀ out i = 16 - i
 
+alpha-steps-requires : tie.Need-alpha-steps-requires Inv-loop μ-loop
+alpha-steps-requires c κs = search needs
+
+eight-bytes-requires : tie.Need-eight-bytes-requires Inv-loop μ-loop
+eight-bytes-requires c κs = search needs
+
 eac-bytes-requires : tie.Need-eac-bytes-requires Inv-loop μ-loop
-eac-bytes-requires c κs = search needs
+eac-bytes-requires c κs =
+    let s = c .before .before .before .before in
+    (s .pre .0, eights-are-bytes (s .args .signed) (s .args .d .now) (c .eight-bytes .result) (c .eight-bytes .ensures))
+
+-- the bytes are the block's
+bytes : (c : tie.After-eac-bytes Inv-loop μ-loop)
+    → c .eac-bytes .result ≡ build 16 (byteAt (c .before .before .before .before .before .args .signed) (c .before .before .before .before .before .args .d .now))
+bytes c =
+    let a = c .before .before .before .before .before .args in
+    bytes-of (a .signed) (a .d .now) (c .before .eight-bytes .result) (c .before .eight-bytes .ensures) (c .eac-bytes .result) (c .eac-bytes .ensures)
 
 unit-of-requires : tie.Need-unit-of-requires Inv-loop μ-loop
 unit-of-requires c κs = search needs
@@ -48,7 +64,7 @@ mul-out-3 : tie.Need-mul-out-3 Inv-loop μ-loop
 mul-out-3 c =
     let b = c .before .before .before in
     let u = c .before .before .unit-of in
-    let s = byte-small _ _ (b .eac-bytes .result) (c .before .loop .i) (b .eac-bytes .ensures) (omega arith) in
+    let s = byte-small _ _ (b .eac-bytes .result) (c .before .loop .i) (bytes b) (omega arith) in
     omega (arith, times-le (getD (b .eac-bytes .result) (c .before .loop .i) 0) 255 (u .result) 0x1000000 (omega arith) (omega arith))
 
 mul-out-4 : tie.Need-mul-out-4 Inv-loop μ-loop
@@ -68,7 +84,7 @@ loop-again c =
     let l = c .before .loop in
     let b = c .before .before .before in
     stored-next _ 0 16 (l .out) (l .i) (l .inv) _ (omega arith)
-    (alike (getD (b .before .before .args .t4) (l .i) 0) (byte-at _ _ (b .eac-bytes .result) (l .i) (b .eac-bytes .ensures) (omega arith)) (c .before .before .unit-of .ensures .0))
+    (alike (getD (b .before .before .before .before .before .args .t4) (l .i) 0) (byte-at _ _ (b .eac-bytes .result) (l .i) (bytes b) (omega arith)) (c .before .before .unit-of .ensures .0))
 
 returns : tie.Need-returns Inv-loop μ-loop
 returns c =
@@ -81,6 +97,8 @@ eac-onto-spec =
     (tie.spec
     Inv-loop
     μ-loop
+    alpha-steps-requires
+    eight-bytes-requires
     eac-bytes-requires
     unit-of-requires
     loop-holds

@@ -13,7 +13,8 @@ use Rattle.rules.specs.Whole.{sixteen}
 use Rattle.laws.proofs.Filled.{getD-build, build-same}
 use Rattle.laws.proofs.Filling.{Filling, inOrder, begun, stored-next, filled-all}
 use Rattle.laws.proofs.Signed.{held, held-small}
-use Rattle.eac.proofs.Bytes.{wholeOf, small-whole, step-held, step-small, in-order, whole-at, whole-small, whole-raised, numberAt, picks, whole-picked}
+use Rattle.eac.specs.Eights.{wholeOf, numberAt}
+use Rattle.eac.proofs.Bytes.{small-whole, step-held, step-small, in-order, whole-at, whole-small, whole-raised, picks, whole-picked}
 use Rattle.eac.proofs.eac_sixteens.Statement.{statement}
 use Rattle.eac.proofs.eac_sixteens.Tie as tie
 
@@ -28,6 +29,9 @@ shared-slice-read-row-of c = omega arith
 
 row-of-requires : tie.Need-row-of-requires Inv-loop μ-loop
 row-of-requires c κs = search needs
+
+alpha-steps-requires : tie.Need-alpha-steps-requires Inv-loop μ-loop
+alpha-steps-requires c κs = search needs
 
 steps-in-requires : tie.Need-steps-in-requires Inv-loop μ-loop
 steps-in-requires c κs = search needs
@@ -68,7 +72,7 @@ eac-whole-requires c κs =
     let t = o .before .before in
     let z = t .before .before .before .middle-of in
     let r = t .before .before .before .before .before in
-    let s = r .before .before .before .before in (
+    let s = r .before .before .before .before .before .before in (
       rw (held-small w16 (z .result) (omega arith)) (z .ensures .1),
       omega arith,
       step-small (s .args .d .now) (r .steps-in .result) (r .before .row-of .result) (c .before .before .loop .i) (r .steps-in .ensures) (r .before .row-of .ensures .0),
@@ -77,7 +81,7 @@ eac-whole-requires c κs =
 
 -- what the function was given
 abbrev given : tie.After-eac-whole Inv-loop μ-loop → tie.Start Inv-loop μ-loop
-given c = c .before .before .before .before .before .before .before .before .before .before .before .before .before .before .before
+given c = c .before .before .before .before .before .before .before .before .before .before .before .before .before .before .before .before .before
 
 -- the value of the turn
 value : (c : tie.After-eac-whole Inv-loop μ-loop) → held w16 (c .eac-whole .result) ≡ wholeOf (given c .args .signed) (given c .args .d .now) (c .before .before .before .loop .i)
@@ -112,7 +116,7 @@ loop-again c =
 
 -- the eight of them, and those that the pixels pick
 abbrev start : tie.After-loop Inv-loop μ-loop → tie.Start Inv-loop μ-loop
-start c = c .before .before .before .before .before .before .before .before .before .before .before .before .before
+start c = c .before .before .before .before .before .before .before .before .before .before .before .before .before .before .before
 
 eights : (c : tie.After-loop Inv-loop μ-loop) → c .before .loop .eight ≡ build 8 (wholeOf (start c .args .signed) (start c .args .d .now))
 eights c = filled-all _ (pos 0) 8 (c .before .loop .eight) (c .before .loop .i) (c .before .loop .inv) (omega arith)
@@ -156,6 +160,7 @@ eac-sixteens-spec =
     (tie.spec
     Inv-loop
     μ-loop
+    alpha-steps-requires
     shared-slice-read-row-of
     row-of-requires
     steps-in-requires
