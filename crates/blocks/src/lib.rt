@@ -32,7 +32,7 @@ fn colours_from(alpha: bool) -> usize
     if alpha { 8 } else { 0 }
 }
 
-// Paints a block of ETC1, RGB, RGBA1 or RGBA8. Both ways out have a call of their own, so that pixels without alpha are not copied.
+// Paints a block of ETC1, RGB, RGBA1 or RGBA8.
 fn paint_colour(
     plain: bool,
     punch: bool,
@@ -59,8 +59,8 @@ fn paint_colour(
     place::place_whole(channel::a8_onto(d, px), bx, by, pic, image);
 }
 
-// Paints n blocks of ETC1, RGB, RGBA1 or RGBA8 beside each other, from column bx on in row by. One loop serves all four, so that a block has
-// one caller.
+// Paints n blocks of ETC1, RGB, RGBA1 or RGBA8 beside each other, from column bx on in row by. One loop serves all four, so that a block
+// has one caller.
 fn run_colour(
     plain: bool,
     punch: bool,

@@ -12,7 +12,7 @@ use lib.ListN.{getD}
 use lib.Signed.{mag, ltZ, nonNeg}
 use mir.Syntax.{w16}
 use Rattle.rules.specs.Notation.{byte, bits, build}
-use Rattle.rules.specs.Channels.{alphaSteps, alphaIndex, alphaStep, centre, multiplier, eacValue, eacByte}
+use Rattle.rules.specs.Channels.{alphaSteps, alphaStep, centre, multiplier, eacValue, eacByte}
 use Rattle.rules.specs.Whole.{least, most, between, middle, added, eacWhole}
 use Rattle.laws.proofs.Filled.{getD-build, build-same}
 use Rattle.laws.proofs.Signed.{held, held-is, held-small, clamp-le}

@@ -1,6 +1,7 @@
 // The EAC channels of src/etc/eac.rs. The unsigned and the signed reader differ only in the numbers that crates/values gives, so one
-// function serves both. A block has eight whole values of eleven bits, of which each pixel picks one; the byte is a last step of its own, and
-// so are the sixteen bits. Each has its own loop over the eight, since one more function between them costs more (docs/DECISIONS.md).
+// function serves both. A block has eight whole values of eleven bits, of which each pixel picks one; the byte is a last step of its
+// own, and so are the sixteen bits. Each has its own loop over the eight, since one more function between them costs more
+// (docs/DECISIONS.md).
 ghost use mathlib.Core.Path.{_≡_};
 ghost use Prim.Native.Nat.{ℕ, _+_, _*_, _/_, _%_, _^_, _≤_, _<_};
 ghost use lib.Dec.{T};

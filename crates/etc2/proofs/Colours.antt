@@ -22,7 +22,7 @@ use Rattle.laws.proofs.Range.{fair, fair-by-sums}
 use Rattle.shade.specs.Pick.{eight, taken}
 use Rattle.shade.proofs.Pick.{picks}
 use Rattle.shade.specs.Tone.{punched}
-use Rattle.etc2.specs.Colours.{stepsWhere, halfBases, madeColours, madePixel, etc1Kind, kindIn, opaqueIn, colourPixel}
+use Rattle.etc2.specs.Colours.{stepsWhere, halfBases, halvesColours, madeColours, madePixel, etc1Kind, kindIn, opaqueIn, colourPixel}
 
 -- a kind that is not planar
 pub not-planar : (k : Kind) → OneOf (0 ∷ 1 ∷ 2 ∷ 3 ∷ []) (Declared.tagOf the-type k) → isPlanar k ≡ false
@@ -113,7 +113,7 @@ picked k opaque d p n e =
 -- the colours of two halves, where the kind is neither T nor H
 pub of-halves : (k : Kind) (opaque : Bool) (d : List ℕ) → OneOf (0 ∷ 1 ∷ 3 ∷ 4 ∷ []) (Declared.tagOf the-type k) → OneOf (0 ∷ 1 ∷ 2 ∷ 4 ∷ []) (Declared.tagOf the-type k)
     → isPlanar k ≡ false
-    → eight (λ h. punched opaque (halfColours (getD (halfBases k d) h []) (stepsWhere opaque (code d h)))) ≡ eight (λ h. punched opaque (madeColours (stepsWhere opaque) k d h))
+    → eight (halvesColours opaque k d) ≡ eight (λ h. punched opaque (madeColours (stepsWhere opaque) k d h))
 unfolding madeColours
 of-halves Individual opaque d s t n = refl
 of-halves Differential opaque d s t n = refl

@@ -24,6 +24,10 @@ halfBases T d = wrapping d
 halfBases H d = wrapping d
 halfBases Planar d = wrapping d
 
+-- the four colours of half h of such a block
+abbrev pub halvesColours : Bool → Kind → List ℕ → ℕ → List ℕ
+halvesColours opaque kind d h = punched opaque (halfColours (getD (halfBases kind d) h []) (stepsWhere opaque (code d h)))
+
 -- `coloursOf` of the rules, but for a differential block's second base, which wraps
 unfoldable pub madeColours : (ℕ → List ℕ) → Kind → List ℕ → ℕ → List ℕ
 madeColours steps Individual d h = halfColours (getD (individual d) h []) (steps (code d h))

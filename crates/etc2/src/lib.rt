@@ -1,18 +1,17 @@
-// The colour blocks of src/etc/etc1.rs and src/etc/etc2.rs. ETC1, RGB and RGBA1 are one function: they differ in how the kind is told and in
-// what the opaque bit does. It has one caller, a loop over blocks, so that all of it stands in that loop (docs/PERFORMANCE.md).
+// The colour blocks of src/etc/etc1.rs and src/etc/etc2.rs. ETC1, RGB and RGBA1 are one function: they differ in how the kind is told
+// and in what the opaque bit does. It has one caller, a loop over blocks, so that all of it stands in that loop (docs/PERFORMANCE.md).
 use rules::Kind;
 ghost use mathlib.Core.Path.{_≡_};
 ghost use mathlib.Core.Bool.{false, cond};
-ghost use mathlib.Core.List.{[]};
 ghost use Prim.Native.Nat.{_≤_};
-ghost use lib.ListN.{length, getD};
+ghost use lib.ListN.{length};
 ghost use Rattle.rules.specs.Places.{tile};
-ghost use Rattle.rules.specs.Colour.{code, halfColours};
 ghost use Rattle.rules.specs.Modes.{isPlanar};
 ghost use Rattle.consts.specs.Tables.{signedSteps};
 ghost use Rattle.shade.specs.Pick.{eight};
 ghost use Rattle.shade.specs.Tone.{punched};
-ghost use Rattle.etc2.specs.Colours.{stepsWhere, halfBases, madeColours, madePixel, etc1Kind, kindIn, opaqueIn, colourPixel};
+ghost use Rattle.etc2.specs.Colours.{stepsWhere, halfBases, halvesColours, madeColours, madePixel};
+ghost use Rattle.etc2.specs.Colours.{etc1Kind, kindIn, opaqueIn, colourPixel};
 
 // The base colours of a block of two halves.
 fn bases_of(d: &[u8], kind: Kind) -> [[u8; 3]; 3]
@@ -35,7 +34,7 @@ fn first_row(opaque: bool) -> usize
 // The colours of both halves. The table of steps is lent: a function that names it copies all of it.
 fn both_halves(d: &[u8], kind: Kind, opaque: bool, table: &[[i16; 4]; 16]) -> [u32; 8]
     requires { ⌜ (8 ≤ length (now d)) × (now table ≡ signedSteps) ⌝ }
-    ensures { λ r. ⌜ r ≡ eight (λ h. punched opaque (halfColours (getD (halfBases kind (now (d .entry))) h []) (stepsWhere opaque (code (now (d .entry)) h)))) ⌝ }
+    ensures { λ r. ⌜ r ≡ eight (halvesColours opaque kind (now (d .entry))) ⌝ }
 {
     let from = first_row(opaque);
     let first = table[from + (d[3] / 32 % 8) as usize];

@@ -33,7 +33,10 @@ returns c =
     let b = c .before .before .before .before .before in
     let s = b .before .before .before .before .before in
     let a = s .args in
-    let e = without (a .plain) (a .punch) (now (a .d)) _ _ (b .colour-block .ensures) (a .alpha) (not-true (a .alpha) (c .before .before .before .before .if1 .taken)) (b .before .before .colours-from .ensures .0) in
+    let e =
+    without (a .plain) (a .punch) (now (a .d)) _ _ (b .colour-block .ensures) (a .alpha) (not-true (a .alpha) (c .before .before .before .before .if1 .taken))
+    (b .before .before .colours-from .ensures .0)
+    in
     as-tile (a .pic) (a .bx) (a .by) _ _ (now (a .image)) _ e (c .before .before .place-whole .ensures)
 
 a8-onto-requires : tie.Need-a8-onto-requires
@@ -50,7 +53,10 @@ returns-2 c =
     let b = c .before .before .before .before .before .before in
     let s = b .before .before .before .before .before in
     let a = s .args in
-    let e = with-alpha (a .plain) (a .punch) (now (a .d)) _ _ (b .colour-block .ensures) (a .alpha) (not-false (a .alpha) (c .before .before .before .before .before .if1 .left)) (b .before .before .colours-from .ensures .0) _ (c .before .before .before .before .a8-onto .ensures) in
+    let e =
+    with-alpha (a .plain) (a .punch) (now (a .d)) _ _ (b .colour-block .ensures) (a .alpha) (not-false (a .alpha) (c .before .before .before .before .before .if1 .left))
+    (b .before .before .colours-from .ensures .0) _ (c .before .before .before .before .a8-onto .ensures)
+    in
     as-tile (a .pic) (a .bx) (a .by) _ _ (now (a .image)) _ e (c .before .before .place-whole2 .ensures)
 
 pub paint-colour-spec : {M : Type 1} → statement M

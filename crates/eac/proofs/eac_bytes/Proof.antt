@@ -8,7 +8,6 @@ use lib.ListN.{getD}
 use Rattle.laws.proofs.Filled.{build-same}
 use Rattle.eac.specs.Eights.{numberAt}
 use Rattle.eac.proofs.Bytes.{picked-at}
-use borrow.Author.Needs.{needs}
 use Rattle.eac.proofs.eac_bytes.Statement.{statement}
 use Rattle.eac.proofs.eac_bytes.Tie as tie
 

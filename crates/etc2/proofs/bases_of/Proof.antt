@@ -1,7 +1,6 @@
 -- An individual block has its own, and every other those of a difference.
 -- Assumes nothing.
 use mathlib.Core.Path.{_∙_, sym, ap}
-use mathlib.Core.List.{List}
 use Rattle.rules.specs.declared.Kind.{Kind}
 use Rattle.etc2.specs.Colours.{halfBases}
 use Rattle.etc2.proofs.Colours.{not-individual}

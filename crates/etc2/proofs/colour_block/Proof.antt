@@ -2,7 +2,7 @@
 -- Assumes nothing.
 use mathlib.Core.Path.{_∙_, ap}
 use mathlib.Core.Bool.{Bool}
-use Prim.Native.Nat.{ℕ, _/_, _%_}
+use Prim.Native.Nat.{_/_, _%_}
 use Rattle.rules.specs.Places.{tile}
 use Rattle.rules.specs.declared.Kind.{Kind}
 use Rattle.laws.proofs.Filled.{build-same}

@@ -1,8 +1,6 @@
 -- T and H by their own functions, and every other by its halves.
 -- Assumes nothing.
 use mathlib.Core.Path.{_∙_, sym, ap}
-use mathlib.Core.List.{List}
-use Prim.Native.Nat.{ℕ}
 use Rattle.rules.specs.declared.Kind.{Kind}
 use Rattle.shade.specs.Pick.{eight}
 use Rattle.shade.specs.Tone.{punched}

@@ -1,15 +1,15 @@
 -- The loop has made the colours passed, each from its base, its step and its alpha.
 -- Assumes nothing.
-use mathlib.Core.Path.{_≡_, _∙_, refl, sym, ap}
+use mathlib.Core.Path.{_≡_, _∙_, refl}
 use mathlib.Core.List.{[]}
 use Prim.Native.Nat.{ℕ, _-_}
 use native.Mathlib.Omega.{arith}
-use lib.IntN.{ℤ, pos}
+use lib.IntN.{pos}
 use lib.ListN.{getD}
 use mir.Syntax.{w16}
 use Rattle.laws.proofs.Signed.{held, held-small}
 use Rattle.laws.proofs.Filling.{Filling, inOrder, begun, stored-next, filled-all}
-use Rattle.shade.specs.Tone.{shadedWith, alphasWhere, toned}
+use Rattle.shade.specs.Tone.{toned}
 use Rattle.shade.proofs.Tone.{small-alpha, tone}
 use borrow.Author.Needs.{needs}
 use Rattle.shade.proofs.four_colours.Statement.{statement}
