@@ -8,10 +8,11 @@ enum { SIDE = 256, PITCH = 272, BLOCKS = SIDE * SIDE / 16 };
 
 static uint8_t data[BLOCKS * 16];
 static uint32_t image[PITCH * SIDE];
+static uint16_t sixteens[SIDE * SIDE * 2];
 
 /* the readers that the crate has too, of blocks of so many bytes */
 #define READERS(each) each(etc1, 8) each(etc2_rgb, 8) each(etc2_rgba1, 8) each(etc2_rgba8, 16) each(eacr, 8) each(eacr_signed, 8) \
-    each(eacrg, 16) each(eacrg_signed, 16) each(bc1, 8) each(bc1a, 8) each(bc3, 16)
+    each(eacrg, 16) each(eacrg_signed, 16) each(bc1, 8) each(bc1a, 8) each(bc3, 16) each(bc7, 16)
 
 #define DECLARED(name, size) uint32_t given_decode_##name(const uint8_t *, size_t, size_t, size_t, uint32_t *, size_t);
 READERS(DECLARED)
@@ -48,6 +49,13 @@ static uint32_t read_by(const char *function)
     if (!strcmp(function, "yalivucu_decode_" #name "_pitched")) \
         return yalivucu_decode_##name##_pitched(data, BLOCKS * size, SIDE, SIDE, PITCH, image, PITCH * SIDE);
     READERS(BY)
+#define BY_SIXTEENS(name, size, lanes) \
+    if (!strcmp(function, "yalivucu_decode_" #name)) \
+        return yalivucu_decode_##name(data, BLOCKS * size, SIDE, SIDE, (void *)sixteens, SIDE * SIDE * lanes);
+    BY_SIXTEENS(eacr11, 8, 1)
+    BY_SIXTEENS(eacr11_signed, 8, 1)
+    BY_SIXTEENS(eacrg11, 16, 2)
+    BY_SIXTEENS(eacrg11_signed, 16, 2)
     if (!strcmp(function, "yalivucu_decode_etc2_rgba8_pieces")) return yalivucu_decode_etc2_rgba8_pieces();
     if (!strcmp(function, "yalivucu_decode_etc1_strict")) {
         in_range();
@@ -76,6 +84,7 @@ int main(int argc, char **argv)
     }
     if (argc != 2 || read_by(argv[1])) return 2;
     for (size_t k = 0; k < PITCH * SIDE; k++) sum = sum * 31 + image[k];
+    for (size_t k = 0; k < SIDE * SIDE * 2; k++) sum = sum * 31 + sixteens[k];
     printf("%08x\n", sum);
     return 0;
 }

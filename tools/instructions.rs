@@ -34,4 +34,5 @@ names! {
     given_decode_bc1 = given::decode_bc1;
     given_decode_bc1a = given::decode_bc1a;
     given_decode_bc3 = given::decode_bc3;
+    given_decode_bc7 = given::decode_bc7;
 }

@@ -17,7 +17,7 @@ pub struct Format {
     pub limit: f64,
 }
 
-pub const FORMATS: [Format; 12] = [
+pub const FORMATS: [Format; 13] = [
     Format {
         name: "ETC1",
         halves: &[Half::Colour],
@@ -124,6 +124,7 @@ pub const FORMATS: [Format; 12] = [
         library: yalivucu::decode_bc7,
         pitched: Some(yalivucu::decode_bc7_pitched),
         given: given::decode_bc7,
+        limit: 0.55,
     },
 ];
 
