@@ -24,7 +24,7 @@ pub const FORMATS: [Format; 13] = [
         library: yalivucu::decode_etc1,
         pitched: Some(yalivucu::decode_etc1_pitched),
         given: given::decode_etc1,
-        limit: 0.40,
+        limit: 0.33,
     },
     Format {
         name: "ETC1, strict, beside the crate's ETC1",
@@ -34,7 +34,7 @@ pub const FORMATS: [Format; 13] = [
         },
         pitched: None,
         given: given::decode_etc1,
-        limit: 0.45,
+        limit: 0.33,
     },
     Format {
         name: "RGB",
@@ -42,7 +42,7 @@ pub const FORMATS: [Format; 13] = [
         library: yalivucu::decode_etc2_rgb,
         pitched: Some(yalivucu::decode_etc2_rgb_pitched),
         given: given::decode_etc2_rgb,
-        limit: 0.45,
+        limit: 0.33,
     },
     Format {
         name: "RGBA1",
@@ -50,7 +50,7 @@ pub const FORMATS: [Format; 13] = [
         library: yalivucu::decode_etc2_rgba1,
         pitched: Some(yalivucu::decode_etc2_rgba1_pitched),
         given: given::decode_etc2_rgba1,
-        limit: 0.60,
+        limit: 0.33,
     },
     Format {
         name: "RGBA1, opaque only, beside the crate's RGB",
@@ -60,7 +60,7 @@ pub const FORMATS: [Format; 13] = [
         },
         pitched: None,
         given: given::decode_etc2_rgb,
-        limit: 0.50,
+        limit: 0.33,
     },
     Format {
         name: "RGBA8",
@@ -68,7 +68,7 @@ pub const FORMATS: [Format; 13] = [
         library: yalivucu::decode_etc2_rgba8,
         pitched: Some(yalivucu::decode_etc2_rgba8_pitched),
         given: given::decode_etc2_rgba8,
-        limit: 0.50,
+        limit: 0.33,
     },
     Format {
         name: "alpha half",
@@ -100,7 +100,7 @@ pub const FORMATS: [Format; 13] = [
         library: yalivucu::decode_bc1,
         pitched: Some(yalivucu::decode_bc1_pitched),
         given: given::decode_bc1,
-        limit: 0.75,
+        limit: 0.70,
     },
     Format {
         name: "BC1a",
@@ -108,7 +108,7 @@ pub const FORMATS: [Format; 13] = [
         library: yalivucu::decode_bc1a,
         pitched: Some(yalivucu::decode_bc1a_pitched),
         given: given::decode_bc1a,
-        limit: 0.85,
+        limit: 0.70,
     },
     Format {
         name: "BC3",
@@ -116,7 +116,7 @@ pub const FORMATS: [Format; 13] = [
         library: yalivucu::decode_bc3,
         pitched: Some(yalivucu::decode_bc3_pitched),
         given: given::decode_bc3,
-        limit: 0.90,
+        limit: 0.75,
     },
     Format {
         name: "BC7",
@@ -124,7 +124,7 @@ pub const FORMATS: [Format; 13] = [
         library: yalivucu::decode_bc7,
         pitched: Some(yalivucu::decode_bc7_pitched),
         given: given::decode_bc7,
-        limit: 0.55,
+        limit: 0.50,
     },
 ];
 
