@@ -14,9 +14,23 @@ pub fn print(make: Maker) -> bool {
     let red = &[Half::Channel][..];
     let both = &[Half::Channel, Half::Channel][..];
     let mut alike = row("R", Format::EacR, red, 0, typed::decode_eacr11, make);
-    alike &= row("R signed", Format::EacRSigned, red, 1023, typed::decode_eacr11_signed, make);
+    alike &= row(
+        "R signed",
+        Format::EacRSigned,
+        red,
+        1023,
+        typed::decode_eacr11_signed,
+        make,
+    );
     alike &= row("RG", Format::EacRg, both, 0, typed::decode_eacrg11, make);
-    alike &= row("RG signed", Format::EacRgSigned, both, 1023, typed::decode_eacrg11_signed, make);
+    alike &= row(
+        "RG signed",
+        Format::EacRgSigned,
+        both,
+        1023,
+        typed::decode_eacrg11_signed,
+        make,
+    );
     println!();
     alike
 }
