@@ -31,5 +31,5 @@ pub fn print(side: usize, turns: usize, data: &[u8]) {
         crate::clock::seconds() - began
     });
     let taken = crate::median(taken.collect());
-    println!("| ETC1, Android's libETC1 | | {:.2} | | |", taken * 1e3);
+    println!("| ETC1, Android's libETC1 | | {:.2} | | | |", taken * 1e3);
 }

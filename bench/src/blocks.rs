@@ -25,6 +25,8 @@ impl Random {
 #[derive(Clone, Copy, PartialEq)]
 pub enum Half {
     Colour,
+    /// Colour without a sum out of range.
+    InRange,
     /// Colour whose difference bit is the opaque bit.
     Punched,
     /// The same with that bit set in every block.
@@ -57,9 +59,10 @@ pub fn random(count: usize, halves: &[Half], random: &mut Random) -> Vec<u8> {
         data.chunks_mut(8).for_each(|block| block[3] |= 2);
     }
     for (block, half) in data.chunks_exact_mut(8).zip(halves.iter().cycle()) {
-        if *half == Half::DesktopFour {
-            block[1] |= 0x80;
-            block[3] &= 0x7f;
+        match half {
+            Half::InRange if !block[..3].iter().all(|byte| in_range(*byte)) => block[3] &= !2,
+            Half::DesktopFour => (block[1], block[3]) = (block[1] | 0x80, block[3] & 0x7f),
+            _ => (),
         }
     }
     data
@@ -83,6 +86,7 @@ pub fn natural(count: usize, halves: &[Half], random: &mut Random) -> Vec<u8> {
         for half in halves {
             data.extend(match half {
                 Half::Colour => colour(kind, random),
+                Half::InRange => colour(old(kind), random),
                 Half::Punched => punched(kind, share >= 10, random),
                 Half::Opaque => punched(kind, true, random),
                 Half::Alpha => alpha(share < 25, random),
@@ -98,6 +102,14 @@ pub fn natural(count: usize, halves: &[Half], random: &mut Random) -> Vec<u8> {
     data
 }
 
+/// A kind that ETC1 has.
+fn old(kind: Kind) -> Kind {
+    match kind {
+        Kind::Individual => Kind::Individual,
+        _ => Kind::Differential,
+    }
+}
+
 fn drawn(random: &mut Random) -> Kind {
     match random.below(100) {
         0..=77 => Kind::Differential,
@@ -108,13 +120,18 @@ fn drawn(random: &mut Random) -> Kind {
     }
 }
 
-/// A random byte whose base plus step is, or is not, in 0..31.
+/// Whether a byte's base plus step is in 0..31.
+fn in_range(byte: u8) -> bool {
+    let step = (byte & 7) as i8;
+    let sum = (byte >> 3) as i8 + if step > 3 { step - 8 } else { step };
+    (0..32).contains(&sum)
+}
+
+/// A random byte of which that is so, or is not.
 fn summed(inside: bool, random: &mut Random) -> u8 {
     loop {
         let byte = random.next() as u8;
-        let step = (byte & 7) as i8;
-        let sum = (byte >> 3) as i8 + if step > 3 { step - 8 } else { step };
-        if (0..32).contains(&sum) == inside {
+        if in_range(byte) == inside {
             return byte;
         }
     }

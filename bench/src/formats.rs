@@ -1,6 +1,6 @@
 //! The formats that are measured, and how the crate's pixels are compared with the library's.
 use crate::blocks::Half;
-use yalivucu::typed::{read_opaque, Picture, Refusal};
+use yalivucu::typed::{read_opaque, read_strict, Picture, Refusal};
 
 pub type Reader = fn(&[u8], usize, usize, &mut [u32]) -> Result<(), &'static str>;
 
@@ -13,15 +13,28 @@ pub struct Format {
     /// Its twin with a pitch; a reader of single blocks has none, and that of an opaque-only viewer none here.
     pub pitched: Option<Pitched>,
     pub given: Reader,
+    /// The most of the crate's time that it may take.
+    pub limit: f64,
 }
 
-pub const FORMATS: [Format; 12] = [
+pub const FORMATS: [Format; 13] = [
     Format {
         name: "ETC1",
         halves: &[Half::Colour],
         library: yalivucu::decode_etc1,
         pitched: Some(yalivucu::decode_etc1_pitched),
         given: given::decode_etc1,
+        limit: 0.33,
+    },
+    Format {
+        name: "ETC1, strict, beside the crate's ETC1",
+        halves: &[Half::InRange],
+        library: |data, width, height, image| {
+            read_strict(data, Picture::new(width, height), image).map_err(Refusal::text)
+        },
+        pitched: None,
+        given: given::decode_etc1,
+        limit: 0.33,
     },
     Format {
         name: "RGB",
@@ -29,6 +42,7 @@ pub const FORMATS: [Format; 12] = [
         library: yalivucu::decode_etc2_rgb,
         pitched: Some(yalivucu::decode_etc2_rgb_pitched),
         given: given::decode_etc2_rgb,
+        limit: 0.33,
     },
     Format {
         name: "RGBA1",
@@ -36,13 +50,17 @@ pub const FORMATS: [Format; 12] = [
         library: yalivucu::decode_etc2_rgba1,
         pitched: Some(yalivucu::decode_etc2_rgba1_pitched),
         given: given::decode_etc2_rgba1,
+        limit: 0.33,
     },
     Format {
         name: "RGBA1, opaque only, beside the crate's RGB",
         halves: &[Half::Opaque],
-        library: |data, width, height, image| read_opaque(data, Picture::new(width, height), image).map_err(Refusal::text),
+        library: |data, width, height, image| {
+            read_opaque(data, Picture::new(width, height), image).map_err(Refusal::text)
+        },
         pitched: None,
         given: given::decode_etc2_rgb,
+        limit: 0.33,
     },
     Format {
         name: "RGBA8",
@@ -50,6 +68,7 @@ pub const FORMATS: [Format; 12] = [
         library: yalivucu::decode_etc2_rgba8,
         pitched: Some(yalivucu::decode_etc2_rgba8_pitched),
         given: given::decode_etc2_rgba8,
+        limit: 0.33,
     },
     Format {
         name: "alpha half",
@@ -57,6 +76,7 @@ pub const FORMATS: [Format; 12] = [
         library: |data, _, _, image| each_block(yalivucu::decode_etc2_a8_block, data, image),
         pitched: None,
         given: |data, _, _, image| each_block(given::decode_etc2_a8_block, data, image),
+        limit: 1.50,
     },
     Format {
         name: "EAC R",
@@ -64,6 +84,7 @@ pub const FORMATS: [Format; 12] = [
         library: yalivucu::decode_eacr,
         pitched: Some(yalivucu::decode_eacr_pitched),
         given: given::decode_eacr,
+        limit: 0.33,
     },
     Format {
         name: "EAC RG",
@@ -71,6 +92,7 @@ pub const FORMATS: [Format; 12] = [
         library: yalivucu::decode_eacrg,
         pitched: Some(yalivucu::decode_eacrg_pitched),
         given: given::decode_eacrg,
+        limit: 0.33,
     },
     Format {
         name: "BC1",
@@ -78,6 +100,7 @@ pub const FORMATS: [Format; 12] = [
         library: yalivucu::decode_bc1,
         pitched: Some(yalivucu::decode_bc1_pitched),
         given: given::decode_bc1,
+        limit: 0.70,
     },
     Format {
         name: "BC1a",
@@ -85,6 +108,7 @@ pub const FORMATS: [Format; 12] = [
         library: yalivucu::decode_bc1a,
         pitched: Some(yalivucu::decode_bc1a_pitched),
         given: given::decode_bc1a,
+        limit: 0.70,
     },
     Format {
         name: "BC3",
@@ -92,6 +116,7 @@ pub const FORMATS: [Format; 12] = [
         library: yalivucu::decode_bc3,
         pitched: Some(yalivucu::decode_bc3_pitched),
         given: given::decode_bc3,
+        limit: 0.75,
     },
     Format {
         name: "BC7",
@@ -99,6 +124,7 @@ pub const FORMATS: [Format; 12] = [
         library: yalivucu::decode_bc7,
         pitched: Some(yalivucu::decode_bc7_pitched),
         given: given::decode_bc7,
+        limit: 0.50,
     },
 ];
 

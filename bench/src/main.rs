@@ -2,6 +2,7 @@
 //! Times are the thread's own processor time, so that other work on the machine counts less.
 mod android;
 mod bake;
+mod bands;
 mod blocks;
 mod clock;
 mod formats;
@@ -28,8 +29,8 @@ fn main() {
         ("a natural mix", blocks::natural),
     ] {
         println!("{SIDE} x {SIDE}, {title}; milliseconds, medians of {TURNS} turns");
-        println!("| format | crate | library | ratio | same pixels |");
-        println!("|---|---|---|---|---|");
+        println!("| format | crate | library | ratio | limit | same pixels |");
+        println!("|---|---|---|---|---|---|");
         for format in &FORMATS {
             alike &= compared(format, make);
         }
@@ -51,12 +52,13 @@ fn main() {
         println!();
         alike &= whole::print(make);
         alike &= gap::print(title, make);
+        alike &= bands::print(title, make);
     }
     println!("filling the image alone: {:.2} ms\n", filled(SIDE));
     alike &= bake::print(&mut Random::new(SEED));
     growth();
     if !alike {
-        eprintln!("bench: the pixels or the bytes differ");
+        eprintln!("bench: a row is above its limit, or pixels or bytes differ");
         std::process::exit(1);
     }
 }
@@ -66,15 +68,23 @@ fn compared(format: &Format, make: Maker) -> bool {
     let data = make(SIDE * SIDE / 16, format.halves, &mut Random::new(SEED));
     let (theirs, ours) = alternated(format, &data, SIDE, 1, TURNS);
     let same = format.same(&data, SIDE, SIDE);
+    row(format.name, theirs, ours, format.limit, same)
+}
+
+/// Prints a row: two times in seconds, the ratio of the second to the first and the most that it may be, and whether they did
+/// the same. Whether all is well.
+pub fn row(name: &str, first: f64, second: f64, limit: f64, same: bool) -> bool {
+    let ratio = second / first;
+    let told = if same { "yes" } else { "NO" };
     println!(
-        "| {} | {:.2} | {:.2} | {:.2} | {} |",
-        format.name,
-        theirs * 1e3,
-        ours * 1e3,
-        ours / theirs,
-        if same { "yes" } else { "NO" }
+        "| {name} | {:.2} | {:.2} | {ratio:.2} | {limit:.2} | {told} |",
+        first * 1e3,
+        second * 1e3
     );
-    same
+    if ratio > limit {
+        eprintln!("bench: {name}: {ratio:.2} is above {limit:.2}");
+    }
+    same && ratio <= limit
 }
 
 /// A row for each census, which paints nothing and which the crate does not have.
@@ -94,7 +104,7 @@ fn counted(make: Maker) {
             count(black_box(&data));
             clock::seconds() - began
         });
-        println!("| census of {name} | | {:.2} | | |", median(turns.collect()) * 1e3);
+        println!("| census of {name} | | {:.2} | | | |", median(turns.collect()) * 1e3);
     }
 }
 

@@ -4,6 +4,9 @@ use yalivucu::typed::{read, Format, Picture, Pieces};
 
 const PIECE: usize = 65536;
 
+/// The most of the plain reader's time that pieces may take.
+const LIMIT: f64 = 1.25;
+
 /// One row, and whether the pixels are those of the plain reader. The pieces begin seven bytes into a block, so that each has a
 /// block that began in the one before. In the place of the crate's time stands the plain reader's.
 pub fn print(name: &str, format: Format, side: usize, turns: usize, blocks: &[u8]) -> bool {
@@ -27,13 +30,6 @@ pub fn print(name: &str, format: Format, side: usize, turns: usize, blocks: &[u8
         }));
     }
     let [whole, pieces] = taken.map(crate::median);
-    let same = image == plain;
-    let told = if same { "yes" } else { "NO" };
-    println!(
-        "| {name}, in pieces of 64 KiB; beside the plain reader | {:.2} | {:.2} | {:.2} | {told} |",
-        whole * 1e3,
-        pieces * 1e3,
-        pieces / whole
-    );
-    same
+    let name = format!("{name}, in pieces of 64 KiB; beside the plain reader");
+    crate::row(&name, whole, pieces, LIMIT, image == plain)
 }

@@ -18,6 +18,6 @@ pub fn print(side: usize, turns: usize, blocks: &[u8]) -> bool {
     let taken = crate::median(taken.collect());
     let same = image == plain;
     let told = if same { "yes" } else { "NO" };
-    println!("| RGBA8, as a sheet | | {:.2} | | {told} |", taken * 1e3);
+    println!("| RGBA8, as a sheet | | {:.2} | | | {told} |", taken * 1e3);
     same
 }

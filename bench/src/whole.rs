@@ -4,16 +4,33 @@ use crate::{clock, median, Maker, SEED, SIDE, TURNS};
 use std::hint::black_box;
 use yalivucu::typed::{self, Format, Picture, Refusal};
 
-/// A row for each of the four, and whether the bytes are the values divided by 8.
+/// A whole value takes no more than this much of a byte's time.
+const LIMIT: f64 = 2.20;
+
+/// A row for each of the four, and whether the bytes are the values divided by 8 and no ratio is above the limit.
 pub fn print(make: Maker) -> bool {
-    println!("| EAC | bytes | whole values | ratio | same bytes |");
-    println!("|---|---|---|---|---|");
+    println!("| EAC | bytes | whole values | ratio | limit | same bytes |");
+    println!("|---|---|---|---|---|---|");
     let red = &[Half::Channel][..];
     let both = &[Half::Channel, Half::Channel][..];
     let mut alike = row("R", Format::EacR, red, 0, typed::decode_eacr11, make);
-    alike &= row("R signed", Format::EacRSigned, red, 1023, typed::decode_eacr11_signed, make);
+    alike &= row(
+        "R signed",
+        Format::EacRSigned,
+        red,
+        1023,
+        typed::decode_eacr11_signed,
+        make,
+    );
     alike &= row("RG", Format::EacRg, both, 0, typed::decode_eacrg11, make);
-    alike &= row("RG signed", Format::EacRgSigned, both, 1023, typed::decode_eacrg11_signed, make);
+    alike &= row(
+        "RG signed",
+        Format::EacRgSigned,
+        both,
+        1023,
+        typed::decode_eacrg11_signed,
+        make,
+    );
     println!();
     alike
 }
@@ -46,11 +63,5 @@ fn row<T: Copy + Default + Into<i32>>(
         .chunks(halves.len())
         .zip(&pixels)
         .all(|(lanes, pixel)| (0..lanes.len()).all(|c| (lanes[c].into() + added) / 8 == shown(*pixel, c)));
-    let (bytes, wholes) = (median(bytes) * 1e3, median(wholes) * 1e3);
-    println!(
-        "| {name} | {bytes:.2} | {wholes:.2} | {:.2} | {} |",
-        wholes / bytes,
-        if same { "yes" } else { "NO" }
-    );
-    same
+    crate::row(name, median(bytes), median(wholes), LIMIT, same)
 }

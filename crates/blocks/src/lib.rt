@@ -1,72 +1,98 @@
 // The formats: blocks that stand beside each other in a picture, painted one after another, and the sixteen pixels of one block. Each
-// format's block has one caller, its own loop, so that its pixels go from the registers into the image (docs/PERFORMANCE.md); one block
+// kind of block has one caller, its own loop, so that its pixels go from the registers into the image (docs/PERFORMANCE.md); one block
 // alone is a picture of 4 by 4.
 use rules::Format;
 use rules::Picture;
 ghost use mathlib.Core.Path.{_≡_};
 ghost use mathlib.Core.Bool.{false};
-ghost use Prim.Native.Nat.{_+_, _*_, _≤_};
-ghost use lib.ListN.{length};
+ghost use Prim.Native.Nat.{ℕ, _+_, _*_, _≤_};
+ghost use lib.ListN.{length, getD};
 ghost use Rattle.rules.specs.Places.{tile, bytesOf};
-ghost use Rattle.rules.specs.Modes.{etc1Pixel, rgbPixel, rgba1Pixel};
-ghost use Rattle.rules.specs.Channels.{rgba8Pixel, redPixel, redGreenPixel};
+ghost use Rattle.rules.specs.Channels.{redPixel, redGreenPixel};
 ghost use Rattle.rules.specs.Desktop.{bc1Pixel, bc3Pixel};
 ghost use Rattle.rules.specs.Bc7.{bc7Pixel};
 ghost use Rattle.rules.specs.Formats.{sizeOf, showsOf};
+ghost use Rattle.laws.specs.Painted.{Painted};
+ghost use Rattle.consts.specs.Tables.{signedSteps};
+ghost use Rattle.place.specs.Tile.{InTile, Room, numberIn};
 ghost use Rattle.blocks.specs.Run.{Whole, PaintsRow};
+ghost use Rattle.blocks.specs.Colour.{colourSize, coloursFrom, colourShows};
 
-// Paints n blocks of ETC1 beside each other, from column bx on in row by.
-fn run_etc1(data: &[u8], n: usize, bx: usize, by: usize, pic: Picture, image: &mut [u32])
-    requires { ⌜ (n * 8 ≤ length (now «data»)) × Whole pic bx by n (length (now image)) ⌝ }
-    ensures { λ _. ⌜ PaintsRow etc1Pixel 8 (now («data» .entry)) pic bx by n (now (image .entry)) (now (image .exit)) ⌝ }
+// How many bytes a block of colours has, with an alpha half before them and without.
+fn colour_size(alpha: bool) -> usize
+    ensures { λ r. ⌜ (r ≡ colourSize alpha) × (r ≤ 16) ⌝ }
 {
-    let mut i: usize = 0;
-    while i < n {
-        let from = i * 8;
-        let end = from + 8;
-        place::place_whole(etc1::etc1_block(&data[from..end]), bx + i, by, pic, image);
-        i += 1;
-    }
+    if alpha { 16 } else { 8 }
 }
 
-// Paints n blocks of RGB beside each other, from column bx on in row by.
-fn run_rgb(data: &[u8], n: usize, bx: usize, by: usize, pic: Picture, image: &mut [u32])
-    requires { ⌜ (n * 8 ≤ length (now «data»)) × Whole pic bx by n (length (now image)) ⌝ }
-    ensures { λ _. ⌜ PaintsRow rgbPixel 8 (now («data» .entry)) pic bx by n (now (image .entry)) (now (image .exit)) ⌝ }
+// Where its colours begin.
+fn colours_from(alpha: bool) -> usize
+    ensures { λ r. ⌜ (r ≡ coloursFrom alpha) × (r + 8 ≡ colourSize alpha) ⌝ }
 {
-    let mut i: usize = 0;
-    while i < n {
-        let from = i * 8;
-        let end = from + 8;
-        place::place_whole(etc2::rgb_block(&data[from..end]), bx + i, by, pic, image);
-        i += 1;
-    }
+    if alpha { 8 } else { 0 }
 }
 
-// Paints n blocks of RGBA1 beside each other, from column bx on in row by.
-fn run_rgba1(data: &[u8], n: usize, bx: usize, by: usize, pic: Picture, image: &mut [u32])
-    requires { ⌜ (n * 8 ≤ length (now «data»)) × Whole pic bx by n (length (now image)) ⌝ }
-    ensures { λ _. ⌜ PaintsRow rgba1Pixel 8 (now («data» .entry)) pic bx by n (now (image .entry)) (now (image .exit)) ⌝ }
+// Paints a block of ETC1, RGB, RGBA1 or RGBA8.
+fn paint_colour(
+    plain: bool,
+    punch: bool,
+    alpha: bool,
+    d: &[u8],
+    table: &[[i16; 4]; 16],
+    bx: usize,
+    by: usize,
+    pic: Picture,
+    image: &mut [u32],
+)
+    requires { ⌜ (colourSize alpha ≤ length (now d)) × (now table ≡ signedSteps) ⌝ }
+    requires { ⌜ (bx * 4 + 4 ≤ pic .width) × (by * 4 + 4 ≤ pic .height) × Room pic (length (now image)) ⌝ }
+    ensures { λ _. ⌜ Painted (InTile pic bx by)
+        (λ (k : ℕ). getD (tile (colourShows plain punch alpha) (now (d .entry))) (numberIn pic k) 0)
+        (now (image .entry)) (now (image .exit)) ⌝ }
 {
-    let mut i: usize = 0;
-    while i < n {
-        let from = i * 8;
-        let end = from + 8;
-        place::place_whole(etc2::rgba1_block(&data[from..end]), bx + i, by, pic, image);
-        i += 1;
+    let at = colours_from(alpha);
+    let px = etc2::colour_block(plain, punch, &d[at..], table);
+    if !alpha {
+        place::place_whole(px, bx, by, pic, image);
+        return;
     }
+    place::place_whole(channel::a8_onto(d, px), bx, by, pic, image);
 }
 
-// Paints n blocks of RGBA8 beside each other, from column bx on in row by.
-fn run_rgba8(data: &[u8], n: usize, bx: usize, by: usize, pic: Picture, image: &mut [u32])
-    requires { ⌜ (n * 16 ≤ length (now «data»)) × Whole pic bx by n (length (now image)) ⌝ }
-    ensures { λ _. ⌜ PaintsRow rgba8Pixel 16 (now («data» .entry)) pic bx by n (now (image .entry)) (now (image .exit)) ⌝ }
+// Paints n blocks of ETC1, RGB, RGBA1 or RGBA8 beside each other, from column bx on in row by. One loop serves all four, so that a block
+// has one caller.
+fn run_colour(
+    plain: bool,
+    punch: bool,
+    alpha: bool,
+    data: &[u8],
+    n: usize,
+    bx: usize,
+    by: usize,
+    pic: Picture,
+    image: &mut [u32],
+)
+    requires { ⌜ (n * colourSize alpha ≤ length (now «data»)) × Whole pic bx by n (length (now image)) ⌝ }
+    ensures { λ _. ⌜ PaintsRow (colourShows plain punch alpha) (colourSize alpha) (now («data» .entry)) pic bx by n
+        (now (image .entry)) (now (image .exit)) ⌝ }
 {
+    let table = consts::modifiers();
+    let size = colour_size(alpha);
     let mut i: usize = 0;
     while i < n {
-        let from = i * 16;
-        let end = from + 16;
-        place::place_whole(etc2::rgba8_block(&data[from..end]), bx + i, by, pic, image);
+        let from = i * size;
+        let end = from + size;
+        paint_colour(
+            plain,
+            punch,
+            alpha,
+            &data[from..end],
+            &table,
+            bx + i,
+            by,
+            pic,
+            image,
+        );
         i += 1;
     }
 }
@@ -191,10 +217,10 @@ pub fn run(f: Format, data: &[u8], n: usize, bx: usize, by: usize, pic: Picture,
     ensures { λ _. ⌜ PaintsRow (showsOf f) (sizeOf f) (now («data» .entry)) pic bx by n (now (image .entry)) (now (image .exit)) ⌝ }
 {
     match f {
-        Format::Etc1 => run_etc1(data, n, bx, by, pic, image),
-        Format::Etc2Rgb => run_rgb(data, n, bx, by, pic, image),
-        Format::Etc2Rgba1 => run_rgba1(data, n, bx, by, pic, image),
-        Format::Etc2Rgba8 => run_rgba8(data, n, bx, by, pic, image),
+        Format::Etc1 => run_colour(true, false, false, data, n, bx, by, pic, image),
+        Format::Etc2Rgb => run_colour(false, false, false, data, n, bx, by, pic, image),
+        Format::Etc2Rgba1 => run_colour(false, true, false, data, n, bx, by, pic, image),
+        Format::Etc2Rgba8 => run_colour(false, false, true, data, n, bx, by, pic, image),
         Format::EacR => run_red(false, data, n, bx, by, pic, image),
         Format::EacRSigned => run_red(true, data, n, bx, by, pic, image),
         Format::EacRg => run_red_green(false, data, n, bx, by, pic, image),

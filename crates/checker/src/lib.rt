@@ -1,5 +1,6 @@
 // The checker of ETC1 blocks that an outside baker sends.
 use rules::Baking;
+use rules::Format;
 use rules::Kind;
 ghost use mathlib.Core.Path.{_≡_};
 ghost use Prim.Native.Nat.{ℕ, _≤_};
@@ -49,7 +50,7 @@ pub fn check(block: &[u8], tile: &[u32], tolerance: u32) -> Baking
     if is_strange(kinds::kind_of(block)) {
         return Baking::NotAccepted; // out of range
     }
-    if !all_near(tolerance, etc1::etc1_block(block), tile) {
+    if !all_near(tolerance, blocks::block_at(Format::Etc1, block, 0), tile) {
         return Baking::NotAccepted;
     }
     Baking::Done

@@ -5,7 +5,16 @@ ghost use Rattle.rules.specs.Channels.{alphaSteps};
 ghost use Rattle.rules.specs.Modes.{distances as distanceTable};
 ghost use Rattle.consts.specs.Tables.{signedSteps, writeOrder};
 
-const ETC1_MODIFIER_TABLE: [[i16; 4]; 8] = [
+// Without the opaque bit, and then with it. A step of -512 takes every channel to 0: index 2 is transparent there.
+const ETC1_MODIFIER_TABLE: [[i16; 4]; 16] = [
+    [0, 8, -512, -8],
+    [0, 17, -512, -17],
+    [0, 29, -512, -29],
+    [0, 42, -512, -42],
+    [0, 60, -512, -60],
+    [0, 80, -512, -80],
+    [0, 106, -512, -106],
+    [0, 183, -512, -183],
     [2, 8, -2, -8],
     [5, 17, -5, -17],
     [9, 29, -9, -29],
@@ -39,8 +48,9 @@ const ETC2_ALPHA_MOD_TABLE: [[i8; 8]; 16] = [
 
 const WRITE_ORDER_TABLE: [usize; 16] = [0, 4, 8, 12, 1, 5, 9, 13, 2, 6, 10, 14, 3, 7, 11, 15];
 
-// The four steps of each code, at twice the high bit plus the low: the crate's two columns, and the same negated.
-pub fn modifiers() -> [[i16; 4]; 8]
+// The four steps of each code, at twice the high bit plus the low: the crate's two columns, and the same negated; those of a block that is
+// not opaque first.
+pub fn modifiers() -> [[i16; 4]; 16]
     ensures { λ r. ⌜ r ≡ signedSteps ⌝ }
 {
     ETC1_MODIFIER_TABLE

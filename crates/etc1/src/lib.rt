@@ -1,16 +1,13 @@
-// The ETC1 block of src/etc/etc1.rs: two base colours, eight colours, sixteen pixels.
+// What ETC1 and ETC2 blocks of two halves share, after src/etc/etc1.rs: two base colours, and eight colours of them.
 ghost use mathlib.Core.Path.{_≡_};
 ghost use mathlib.Core.List.{[]};
-ghost use Prim.Native.Nat.{ℕ, _*_, _≤_, _<_};
-ghost use lib.IntN.{pos};
+ghost use Prim.Native.Nat.{_*_, _≤_, _<_};
 ghost use lib.ListN.{length, getD};
-ghost use lib.Signed.{mag};
 ghost use Rattle.rules.specs.Notation.{bits};
-ghost use Rattle.rules.specs.Places.{tile};
-ghost use Rattle.rules.specs.Colour.{base, five, wrapped, individual, wrapping, code, stepsOf};
-ghost use Rattle.rules.specs.Modes.{etc1Bases, etc1Pixel};
+ghost use Rattle.rules.specs.Colour.{base, five, wrapped, individual, wrapping, stepsOf};
 ghost use Rattle.consts.specs.Tables.{fourSteps};
 ghost use Rattle.shade.specs.Pick.{eight};
+ghost use Rattle.shade.specs.Tone.{Steps};
 ghost use Rattle.etc1.specs.Halves.{shades, ofHalf};
 
 // A byte's high nibble, as eight bits.
@@ -88,52 +85,15 @@ pub fn code_steps(code: usize) -> [i16; 4]
     ensures { λ r. ⌜ r ≡ fourSteps (stepsOf code) ⌝ }
 {
     let table = consts::modifiers();
-    table[code]
+    table[8 + code]
 }
 
-// The steps of the first half.
-pub fn first_steps(d: &[u8]) -> [i16; 4]
-    requires { ⌜ 8 ≤ length (now d) ⌝ }
-    ensures { λ r. ⌜ r ≡ fourSteps (stepsOf (code (now (d .entry)) 0)) ⌝ }
+// The colours of both halves, from their base colours and their steps. Where a block is not opaque, index 2 is transparent.
+pub fn both_halves(c: [[u8; 3]; 3], first: [i16; 4], second: [i16; 4], opaque: bool) -> [u32; 8]
+    requires { ⌜ Steps opaque first × Steps opaque second ⌝ }
+    ensures { λ r. ⌜ r ≡ eight (λ h. shades opaque (getD c h []) (ofHalf first second h)) ⌝ }
 {
-    code_steps((d[3] / 32 % 8) as usize)
-}
-
-// The steps of the second half.
-pub fn second_steps(d: &[u8]) -> [i16; 4]
-    requires { ⌜ 8 ≤ length (now d) ⌝ }
-    ensures { λ r. ⌜ r ≡ fourSteps (stepsOf (code (now (d .entry)) 1)) ⌝ }
-{
-    code_steps((d[3] / 4 % 8) as usize)
-}
-
-// The colours of both halves, from their base colours and their steps.
-pub fn both_halves(c: [[u8; 3]; 3], first: [i16; 4], second: [i16; 4]) -> [u32; 8]
-    requires { ⌜ ((k : ℕ) → (mag (getD first k (pos 0)) < 1024) × (mag (getD second k (pos 0)) < 1024)) ⌝ }
-    ensures { λ r. ⌜ r ≡ eight (λ h. shades (getD c h []) (ofHalf first second h)) ⌝ }
-{
-    let a = shade::four_colours([c[0], c[0], c[0], c[0]], first);
-    let b = shade::four_colours([c[1], c[1], c[1], c[1]], second);
+    let a = shade::four_colours([c[0], c[0], c[0], c[0]], first, opaque);
+    let b = shade::four_colours([c[1], c[1], c[1], c[1]], second, opaque);
     shade::joined(a, b)
-}
-
-// The base colours of an ETC1 block.
-fn etc1_bases(d: &[u8]) -> [[u8; 3]; 3]
-    requires { ⌜ 8 ≤ length (now d) ⌝ }
-    ensures { λ r. ⌜ r ≡ etc1Bases (now (d .entry)) ⌝ }
-{
-    if d[3] / 2 % 2 == 1 {
-        differential_bases(d)
-    } else {
-        individual_bases(d)
-    }
-}
-
-// The sixteen pixels of an ETC1 block, row by row.
-pub fn etc1_block(d: &[u8]) -> [u32; 16]
-    requires { ⌜ 8 ≤ length (now d) ⌝ }
-    ensures { λ r. ⌜ r ≡ tile etc1Pixel (now (d .entry)) ⌝ }
-{
-    let colours = both_halves(etc1_bases(d), first_steps(d), second_steps(d));
-    shade::picked(d, colours)
 }

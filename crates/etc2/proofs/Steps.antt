@@ -1,32 +1,47 @@
--- The steps of a code are small, in a block that is opaque and in one that is not.
+-- The steps of a code, in a block that is opaque and in one that is not, and the colours that they make.
 -- Assumes nothing.
-use mathlib.Core.Path.{_≡_}
-use mathlib.Core.Bool.{Bool, true, false}
-use mathlib.Core.List.{List, [], _∷_}
-use Prim.Native.Nat.{ℕ, _<_}
+use mathlib.Core.Path.{_≡_, refl}
+use mathlib.Core.Bool.{Bool, true, false, cond}
+use mathlib.Core.List.{List, []}
+use Prim.Native.Nat.{ℕ, _+_, _<_}
+use native.Mathlib.Nat.{zero-add}
 use lib.Dec.{lit<}
-use native.Mathlib.Omega.{arith}
 use lib.IntN.{ℤ, pos}
 use lib.ListN.{getD}
 use lib.Signed.{mag}
-use mir.Syntax.{w16}
 use Rattle.laws.proofs.Every.{below}
-use Rattle.laws.proofs.Signed.{held, held-small, small, small-at}
-use Rattle.rules.specs.Colour.{stepsOf}
-use Rattle.rules.specs.Modes.{clearSteps}
-use Rattle.consts.specs.Tables.{fourSteps}
+use Rattle.laws.proofs.Signed.{small, small-at}
+use Rattle.rules.specs.Colour.{stepsOf, halfColours}
+use Rattle.consts.specs.Tables.{fourSteps, clearFour, signedSteps}
+use Rattle.consts.proofs.Order.{clear-at, steps-at}
+use Rattle.shade.specs.Pick.{eight}
+use Rattle.shade.specs.Tone.{punched, Steps}
+use Rattle.shade.proofs.Tone.{steps-opaque, steps-clear}
+use Rattle.etc1.specs.Halves.{shades, ofHalf}
 use Rattle.etc1.proofs.Steps.{small-step}
 use Rattle.etc2.specs.Colours.{stepsWhere}
 
-pub small-where : (opaque : Bool) (code k : ℕ) → code < 8 → mag (getD (fourSteps (stepsWhere opaque code)) k (pos 0)) < 1024
-small-where true code k h = small-step code k h
-small-where false code k h =
-    small-at 1024 (fourSteps (stepsWhere false code)) (lit< tt) (below (λ j. small 1024 (fourSteps (stepsWhere false j))) 8 tt code h) k
+-- the steps of a code
+abbrev pub rowWhere : Bool → ℕ → List ℤ
+rowWhere opaque code = cond opaque (fourSteps (stepsOf code)) (clearFour (stepsOf code))
 
--- a row with its smaller step cleared
-pub cleared : (row : List ℤ) (code : ℕ) → code < 8 → row ≡ fourSteps (stepsOf code)
-    → pos 0 ∷ held w16 (getD row 1 (pos 0)) ∷ pos 0 ∷ held w16 (getD row 3 (pos 0)) ∷ [] ≡ fourSteps (clearSteps code)
-cleared row code h e =
-    let a = held-small w16 (getD (fourSteps (stepsOf code)) 1 (pos 0)) (omega (arith, small-step code 1 h)) in
-    let b = held-small w16 (getD (fourSteps (stepsOf code)) 3 (pos 0)) (omega (arith, small-step code 3 h)) in
-    rw (e, a, b)
+-- where the table has them
+pub row-at : (opaque : Bool) (t : List (List ℤ)) (code : ℕ) → t ≡ signedSteps → code < 8 → getD t (cond opaque 8 0 + code) [] ≡ rowWhere opaque code
+row-at true t code e h = steps-at t e code h
+row-at false t code e h = rw (zero-add code) (clear-at t e code h)
+
+small-clear : (code k : ℕ) → code < 8 → mag (getD (clearFour (stepsOf code)) k (pos 0)) < 1024
+small-clear code k h =
+    small-at 1024 (clearFour (stepsOf code)) (lit< tt) (below (λ j. small 1024 (clearFour (stepsOf j))) 8 tt code h) k
+
+pub steps-where : (opaque : Bool) (code : ℕ) → code < 8 → Steps opaque (rowWhere opaque code)
+steps-where true code h = steps-opaque (fourSteps (stepsOf code)) (λ k. small-step code k h)
+steps-where false code h = steps-clear (clearFour (stepsOf code)) (λ k. small-clear code k h) refl
+
+-- the colours of both halves
+pub coloured : (opaque : Bool) (c : List (List ℕ)) (code : ℕ → ℕ) (first second : List ℤ)
+    → first ≡ rowWhere opaque (code 0)
+    → second ≡ rowWhere opaque (code 1)
+    → eight (λ h. shades opaque (getD c h []) (ofHalf first second h)) ≡ eight (λ h. punched opaque (halfColours (getD c h []) (stepsWhere opaque (code h))))
+coloured true c code first second p q = rw (p, q)
+coloured false c code first second p q = rw (p, q)

@@ -1,92 +1,109 @@
-// The ETC2 blocks of src/etc/etc2.rs. RGB and RGBA1 are one function: they differ in how the kind is told and in what the opaque bit does.
+// The colour blocks of src/etc/etc1.rs and src/etc/etc2.rs. ETC1, RGB and RGBA1 are one function: they differ in how the kind is told
+// and in what the opaque bit does. It has one caller, a loop over blocks, so that all of it stands in that loop (docs/PERFORMANCE.md).
 use rules::Kind;
 ghost use mathlib.Core.Path.{_≡_};
-ghost use mathlib.Core.Bool.{true, cond};
-ghost use mathlib.Core.List.{[], _∷_};
-ghost use Prim.Native.Nat.{ℕ, _≤_, _<_};
-ghost use lib.ListN.{length, getD};
+ghost use mathlib.Core.Bool.{false, cond};
+ghost use Prim.Native.Nat.{_≤_};
+ghost use lib.ListN.{length};
 ghost use Rattle.rules.specs.Places.{tile};
-ghost use Rattle.rules.specs.Colour.{wrapping, differential, code, stepsOf, halfColours};
-ghost use Rattle.rules.specs.Modes.{rgbPixel, rgba1Pixel};
-ghost use Rattle.rules.specs.Channels.{rgba8Pixel};
-ghost use Rattle.consts.specs.Tables.{fourSteps};
+ghost use Rattle.rules.specs.Modes.{isPlanar};
+ghost use Rattle.consts.specs.Tables.{signedSteps};
 ghost use Rattle.shade.specs.Pick.{eight};
-ghost use Rattle.etc2.specs.Colours.{stepsWhere, madeColours, colourPixel};
+ghost use Rattle.shade.specs.Tone.{punched};
+ghost use Rattle.etc2.specs.Colours.{stepsWhere, halfBases, halvesColours, madeColours, madePixel};
+ghost use Rattle.etc2.specs.Colours.{etc1Kind, kindIn, opaqueIn, colourPixel};
 
-// The steps of a half. Where a block is not opaque, the smaller one is 0.
-fn steps_where(opaque: bool, row: [i16; 4]) -> [i16; 4]
-    ensures { λ r. ⌜ ((code : ℕ) → code < 8 → row ≡ fourSteps (stepsOf code) → r ≡ fourSteps (stepsWhere opaque code)) ⌝ }
-{
-    if opaque { row } else { [0, row[1], 0, row[3]] }
-}
-
-// The colours of both halves, from their base colours.
-fn both_halves(d: &[u8], c: [[u8; 3]; 3], opaque: bool) -> [u32; 8]
+// The base colours of a block of two halves.
+fn bases_of(d: &[u8], kind: Kind) -> [[u8; 3]; 3]
     requires { ⌜ 8 ≤ length (now d) ⌝ }
-    ensures { λ r. ⌜ r ≡ eight (λ h. halfColours (getD c h []) (stepsWhere opaque (code (now (d .entry)) h))) ⌝ }
+    ensures { λ r. ⌜ r ≡ halfBases kind (now (d .entry)) ⌝ }
 {
-    let first = steps_where(opaque, etc1::first_steps(d));
-    let second = steps_where(opaque, etc1::second_steps(d));
-    etc1::both_halves(c, first, second)
+    if let Kind::Individual = kind {
+        return etc1::individual_bases(d);
+    }
+    etc1::differential_bases(d)
 }
 
-// The eight colours of a block. Planar has none, and gets eight that are not used.
-fn colours_of(d: &[u8], kind: Kind, opaque: bool) -> [u32; 8]
-    requires { ⌜ 8 ≤ length (now d) ⌝ }
-    ensures { λ r. ⌜ r ≡ eight (madeColours (stepsWhere opaque) kind (now (d .entry))) ⌝ }
+// Where the steps of the code 0 stand in the table.
+fn first_row(opaque: bool) -> usize
+    ensures { λ r. ⌜ (r ≡ cond opaque 8 0) × (r ≤ 8) ⌝ }
 {
-    match kind {
-        Kind::Individual => both_halves(d, etc1::individual_bases(d), opaque),
-        Kind::Differential => both_halves(d, etc1::differential_bases(d), opaque),
-        Kind::T => modes::t_colours(d),
-        Kind::H => modes::h_colours(d),
-        Kind::Planar => [0; 8],
-    }
+    if opaque { 8 } else { 0 }
 }
 
-// Where a block is not opaque, index 2 is transparent in both halves.
-fn punched(c: [u32; 8], opaque: bool) -> [u32; 8]
-    ensures { λ r. ⌜ r ≡ cond opaque c (getD c 0 0 ∷ getD c 1 0 ∷ 0 ∷ getD c 3 0 ∷ getD c 4 0 ∷ getD c 5 0 ∷ 0 ∷ getD c 7 0 ∷ []) ⌝ }
+// The colours of both halves. The table of steps is lent: a function that names it copies all of it.
+fn both_halves(d: &[u8], kind: Kind, opaque: bool, table: &[[i16; 4]; 16]) -> [u32; 8]
+    requires { ⌜ (8 ≤ length (now d)) × (now table ≡ signedSteps) ⌝ }
+    ensures { λ r. ⌜ r ≡ eight (halvesColours opaque kind (now (d .entry))) ⌝ }
 {
-    if opaque {
-        c
-    } else {
-        [c[0], c[1], 0, c[3], c[4], c[5], 0, c[7]]
+    let from = first_row(opaque);
+    let first = table[from + (d[3] / 32 % 8) as usize];
+    let second = table[from + (d[3] / 4 % 8) as usize];
+    etc1::both_halves(bases_of(d, kind), first, second, opaque)
+}
+
+// The eight colours of a block that is not planar.
+fn colours_of(d: &[u8], kind: Kind, opaque: bool, table: &[[i16; 4]; 16]) -> [u32; 8]
+    requires { ⌜ (8 ≤ length (now d)) × (now table ≡ signedSteps) × (isPlanar kind ≡ false) ⌝ }
+    ensures { λ r. ⌜ r ≡ eight (λ h. punched opaque (madeColours (stepsWhere opaque) kind (now (d .entry)) h)) ⌝ }
+{
+    if let Kind::T = kind {
+        return modes::t_colours(d, opaque);
     }
+    if let Kind::H = kind {
+        return modes::h_colours(d, opaque);
+    }
+    both_halves(d, kind, opaque, table)
 }
 
 // The sixteen pixels of a colour block of a kind, row by row.
-fn colour_block(d: &[u8], kind: Kind, opaque: bool) -> [u32; 16]
-    requires { ⌜ 8 ≤ length (now d) ⌝ }
-    requires { ⌜ (kind ≡ Kind.Differential → wrapping (now d) ≡ differential (now d)) ⌝ }
-    ensures { λ r. ⌜ r ≡ tile (colourPixel kind opaque) (now (d .entry)) ⌝ }
+fn made_block(d: &[u8], kind: Kind, opaque: bool, table: &[[i16; 4]; 16]) -> [u32; 16]
+    requires { ⌜ (8 ≤ length (now d)) × (now table ≡ signedSteps) ⌝ }
+    ensures { λ r. ⌜ r ≡ tile (madePixel kind opaque) (now (d .entry)) ⌝ }
 {
     if let Kind::Planar = kind {
         return planar::planar_block(d);
     }
-    shade::picked(d, punched(colours_of(d, kind, opaque), opaque))
+    shade::picked(d, colours_of(d, kind, opaque, table))
 }
 
-// The sixteen pixels of an ETC2 RGB block.
-pub fn rgb_block(d: &[u8]) -> [u32; 16]
+// The kind of an ETC1 block, whose sums wrap: its difference bit decides.
+fn etc1_kind(d: &[u8]) -> Kind
     requires { ⌜ 8 ≤ length (now d) ⌝ }
-    ensures { λ r. ⌜ r ≡ tile rgbPixel (now (d .entry)) ⌝ }
+    ensures { λ r. ⌜ r ≡ etc1Kind (now (d .entry)) ⌝ }
 {
-    colour_block(d, kinds::kind_of(d), true)
+    if d[3] / 2 % 2 == 1 {
+        return Kind::Differential;
+    }
+    Kind::Individual
 }
 
-// The sixteen pixels of an ETC2 RGBA1 block: its difference bit says whether it is opaque.
-pub fn rgba1_block(d: &[u8]) -> [u32; 16]
+// The kind of a block of ETC1, of RGBA1, whose difference bit is the opaque bit, or of RGB.
+fn kind_in(plain: bool, punch: bool, d: &[u8]) -> Kind
     requires { ⌜ 8 ≤ length (now d) ⌝ }
-    ensures { λ r. ⌜ r ≡ tile rgba1Pixel (now (d .entry)) ⌝ }
+    ensures { λ r. ⌜ r ≡ kindIn plain punch (now (d .entry)) ⌝ }
 {
-    colour_block(d, kinds::kind_by_sums(d), d[3] / 2 % 2 == 1)
+    if punch {
+        return kinds::kind_by_sums(d);
+    }
+    if plain {
+        return etc1_kind(d);
+    }
+    kinds::kind_of(d)
 }
 
-// The sixteen pixels of an ETC2 RGBA8 block: the alpha half first, and the colour half from byte 8 on.
-pub fn rgba8_block(d: &[u8]) -> [u32; 16]
-    requires { ⌜ 16 ≤ length (now d) ⌝ }
-    ensures { λ r. ⌜ r ≡ tile rgba8Pixel (now (d .entry)) ⌝ }
+// Whether a block is opaque: only RGBA1 has others.
+fn opaque_in(punch: bool, d: &[u8]) -> bool
+    requires { ⌜ 8 ≤ length (now d) ⌝ }
+    ensures { λ r. ⌜ r ≡ opaqueIn punch (now (d .entry)) ⌝ }
 {
-    channel::a8_onto(d, rgb_block(&d[8..]))
+    (d[3] / 2 % 2 == 1) | !punch
+}
+
+// The sixteen pixels of a block of ETC1, of RGBA1 or of RGB, row by row.
+pub fn colour_block(plain: bool, punch: bool, d: &[u8], table: &[[i16; 4]; 16]) -> [u32; 16]
+    requires { ⌜ (8 ≤ length (now d)) × (now table ≡ signedSteps) ⌝ }
+    ensures { λ r. ⌜ r ≡ tile (colourPixel plain punch) (now (d .entry)) ⌝ }
+{
+    made_block(d, kind_in(plain, punch, d), opaque_in(punch, d), table)
 }

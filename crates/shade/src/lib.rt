@@ -2,44 +2,57 @@
 // kind of ETC2 block but planar share. Colours are made first and picked then, since sixteen sums and clamps take twice as long.
 ghost use mathlib.Core.Path.{_≡_};
 ghost use mathlib.Core.List.{[], _∷_};
-ghost use Prim.Native.Nat.{ℕ, _+_, _*_, _/_, _%_, _^_, _≤_, _<_};
+ghost use Prim.Native.Nat.{_+_, _*_, _/_, _%_, _^_, _≤_, _<_};
 ghost use lib.IntN.{pos, _+ℤ_};
 ghost use lib.ListN.{length, getD};
 ghost use lib.Signed.{mag};
-ghost use Rattle.rules.specs.Notation.{build, clamp};
-ghost use Rattle.rules.specs.Colour.{shaded};
+ghost use Rattle.rules.specs.Notation.{build, clamp, minus};
 ghost use Rattle.shade.specs.Pick.{highWord, lowWord, halfAt, taken};
+ghost use Rattle.shade.specs.Tone.{shadedWith, alphasWhere, toned, Steps};
 
-// A channel with a step, clamped to a byte.
+// A channel with a step, clamped to a byte. A step of -512 leaves nothing of it.
 fn stepped(channel: u8, step: i16) -> u32
     requires { ⌜ mag step < 1024 ⌝ }
-    ensures { λ r. ⌜ (r ≡ clamp 255 (pos channel +ℤ step)) × (r < 256) ⌝ }
+    ensures { λ r. ⌜ (r ≡ clamp 255 (pos channel +ℤ step)) × (r < 256) × (step ≡ minus 512 → r ≡ 0) ⌝ }
 {
     color::clamp(channel as i16 + step)
 }
 
-// A base colour with a step: an opaque pixel.
-fn applicate_color(c: [u8; 3], step: i16) -> u32
-    requires { ⌜ mag step < 1024 ⌝ }
-    ensures { λ r. ⌜ r ≡ shaded c step ⌝ }
+// A base colour with a step, and an alpha.
+fn applicate_color(c: [u8; 3], step: i16, alpha: u32) -> u32
+    requires { ⌜ (mag step < 1024) × (alpha < 256) ⌝ }
+    ensures { λ r. ⌜ (r ≡ shadedWith alpha c step) × (step ≡ minus 512 → alpha ≡ 0 → r ≡ 0) ⌝ }
 {
     color::color(
         stepped(c[0], step),
         stepped(c[1], step),
         stepped(c[2], step),
-        255,
+        alpha,
     )
 }
 
-// Four base colours, each with its step: the one way in which a half, T and H make their colours.
-pub fn four_colours(bases: [[u8; 3]; 4], steps: [i16; 4]) -> [u32; 4]
-    requires { ⌜ ((k : ℕ) → mag (getD steps k (pos 0)) < 1024) ⌝ }
-    ensures { λ r. ⌜ r ≡ build 4 (λ k. shaded (getD bases k []) (getD steps k (pos 0))) ⌝ }
+// The alpha of each index: of a block that is not opaque, index 2 is transparent.
+fn alphas_where(opaque: bool) -> [u32; 4]
+    ensures { λ r. ⌜ r ≡ alphasWhere opaque ⌝ }
 {
+    if opaque {
+        [255, 255, 255, 255]
+    } else {
+        [255, 255, 0, 255]
+    }
+}
+
+// Four base colours, each with its step: the one way in which a half, T and H make their colours. Where a block is not opaque, index 2 is
+// transparent. That is told by its step and its alpha and not by a choice, so that the compiler makes four colours at once.
+pub fn four_colours(bases: [[u8; 3]; 4], steps: [i16; 4], opaque: bool) -> [u32; 4]
+    requires { ⌜ Steps opaque steps ⌝ }
+    ensures { λ r. ⌜ r ≡ build 4 (λ k. toned opaque k (getD bases k []) (getD steps k (pos 0))) ⌝ }
+{
+    let alphas = alphas_where(opaque);
     let mut colours = [0u32; 4];
     let mut i: usize = 0;
     while i < 4 {
-        colours[i] = applicate_color(bases[i], steps[i]);
+        colours[i] = applicate_color(bases[i], steps[i], alphas[i]);
         i += 1;
     }
     colours

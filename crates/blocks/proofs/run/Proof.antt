@@ -1,6 +1,7 @@
 -- `blocks::run` meets its contract, format by format: each has a loop of its own.
 -- Assumes nothing.
 use denote.Ref.{now}
+use Rattle.rules.specs.Channels.{rgba8Pixel}
 use Rattle.rules.specs.Formats.{sizeOf, showsOf}
 use Rattle.blocks.proofs.Formats.{enough, shown}
 use borrow.Author.Needs.{needs}
@@ -10,30 +11,30 @@ use Rattle.blocks.proofs.run.Tie as tie
 enum-told : tie.Need-enum-told
 enum-told c = search needs
 
-run-etc1-requires : tie.Need-run-etc1-requires
+run-colour-requires : tie.Need-run-colour-requires
 unfolding sizeOf
-run-etc1-requires c κs = let s = c .before .before .before .before .before in (enough (s .args .n) (c .before .enum-told .given .1) (s .pre .0), s .pre .1)
+run-colour-requires c κs = let s = c .before .before .before .before .before in (enough (s .args .n) (c .before .enum-told .given .1) (s .pre .0), s .pre .1)
 
 enum-told-2 : tie.Need-enum-told-2
 enum-told-2 c = search needs
 
-run-rgb-requires : tie.Need-run-rgb-requires
+run-colour-requires-2 : tie.Need-run-colour-requires-2
 unfolding sizeOf
-run-rgb-requires c κs = let s = c .before .before .before .before .before in (enough (s .args .n) (c .before .enum-told2 .given .1) (s .pre .0), s .pre .1)
+run-colour-requires-2 c κs = let s = c .before .before .before .before .before in (enough (s .args .n) (c .before .enum-told2 .given .1) (s .pre .0), s .pre .1)
 
 enum-told-3 : tie.Need-enum-told-3
 enum-told-3 c = search needs
 
-run-rgba1-requires : tie.Need-run-rgba1-requires
+run-colour-requires-3 : tie.Need-run-colour-requires-3
 unfolding sizeOf
-run-rgba1-requires c κs = let s = c .before .before .before .before .before in (enough (s .args .n) (c .before .enum-told3 .given .1) (s .pre .0), s .pre .1)
+run-colour-requires-3 c κs = let s = c .before .before .before .before .before in (enough (s .args .n) (c .before .enum-told3 .given .1) (s .pre .0), s .pre .1)
 
 enum-told-4 : tie.Need-enum-told-4
 enum-told-4 c = search needs
 
-run-rgba8-requires : tie.Need-run-rgba8-requires
+run-colour-requires-4 : tie.Need-run-colour-requires-4
 unfolding sizeOf
-run-rgba8-requires c κs = let s = c .before .before .before .before .before in (enough (s .args .n) (c .before .enum-told4 .given .1) (s .pre .0), s .pre .1)
+run-colour-requires-4 c κs = let s = c .before .before .before .before .before in (enough (s .args .n) (c .before .enum-told4 .given .1) (s .pre .0), s .pre .1)
 
 enum-told-5 : tie.Need-enum-told-5
 enum-told-5 c = search needs
@@ -99,7 +100,7 @@ unfolding showsOf sizeOf
 returns c =
     let t = c .before .before .before .before in
     let a = t .before .before .before .before .args in
-    shown (now (a .«data»)) (a .pic) (a .bx) (a .by) (a .n) (now (a .image)) _ (t .enum-told .given .1) (c .before .before .run-etc1 .ensures)
+    shown (now (a .«data»)) (a .pic) (a .bx) (a .by) (a .n) (now (a .image)) _ (t .enum-told .given .1) (c .before .before .run-colour .ensures)
 
 same-length-2 : tie.Need-same-length-2
 same-length-2 c = search needs
@@ -109,7 +110,7 @@ unfolding showsOf sizeOf
 returns-2 c =
     let t = c .before .before .before .before in
     let a = t .before .before .before .before .args in
-    shown (now (a .«data»)) (a .pic) (a .bx) (a .by) (a .n) (now (a .image)) _ (t .enum-told2 .given .1) (c .before .before .run-rgb .ensures)
+    shown (now (a .«data»)) (a .pic) (a .bx) (a .by) (a .n) (now (a .image)) _ (t .enum-told2 .given .1) (c .before .before .run-colour2 .ensures)
 
 same-length-3 : tie.Need-same-length-3
 same-length-3 c = search needs
@@ -119,17 +120,17 @@ unfolding showsOf sizeOf
 returns-3 c =
     let t = c .before .before .before .before in
     let a = t .before .before .before .before .args in
-    shown (now (a .«data»)) (a .pic) (a .bx) (a .by) (a .n) (now (a .image)) _ (t .enum-told3 .given .1) (c .before .before .run-rgba1 .ensures)
+    shown (now (a .«data»)) (a .pic) (a .bx) (a .by) (a .n) (now (a .image)) _ (t .enum-told3 .given .1) (c .before .before .run-colour3 .ensures)
 
 same-length-4 : tie.Need-same-length-4
 same-length-4 c = search needs
 
 returns-4 : tie.Need-returns-4
-unfolding showsOf sizeOf
+unfolding showsOf sizeOf rgba8Pixel
 returns-4 c =
     let t = c .before .before .before .before in
     let a = t .before .before .before .before .args in
-    shown (now (a .«data»)) (a .pic) (a .bx) (a .by) (a .n) (now (a .image)) _ (t .enum-told4 .given .1) (c .before .before .run-rgba8 .ensures)
+    shown (now (a .«data»)) (a .pic) (a .bx) (a .by) (a .n) (now (a .image)) _ (t .enum-told4 .given .1) (c .before .before .run-colour4 .ensures)
 
 same-length-5 : tie.Need-same-length-5
 same-length-5 c = search needs
@@ -216,13 +217,13 @@ run-spec =
     tie.close
     (tie.spec
     enum-told
-    run-etc1-requires
+    run-colour-requires
     enum-told-2
-    run-rgb-requires
+    run-colour-requires-2
     enum-told-3
-    run-rgba1-requires
+    run-colour-requires-3
     enum-told-4
-    run-rgba8-requires
+    run-colour-requires-4
     enum-told-5
     run-red-requires
     enum-told-6

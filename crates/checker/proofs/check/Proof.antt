@@ -9,6 +9,9 @@ use Rattle.rules.specs.Colour.{outOfRange}
 use Rattle.rules.specs.Checking.{like, checkVerdict}
 use Rattle.laws.specs.Kinds.{strange}
 use Rattle.laws.proofs.Range.{exactly}
+use Rattle.rules.specs.Formats.{sizeOf, showsOf}
+use Rattle.rules.specs.declared.Format.the-variants.{Etc1}
+use Rattle.blocks.proofs.First.{first-block}
 use Rattle.checker.proofs.Verdict.{of-block, short-block, short-tile, out-of-range, in-range}
 use borrow.Author.Needs.{needs}
 use Rattle.checker.proofs.check.Statement.{statement}
@@ -40,8 +43,9 @@ returns-3 c =
     let e = c .before .before .before in
     out-of-range (a .tolerance) (now (a .block)) (now (a .tile)) (e .before .if1 .left) (e .if2 .left) (ranged (c .before) ∙ c .if3 .taken)
 
-etc1-block-requires : tie.Need-etc1-block-requires
-etc1-block-requires c κs = search needs
+block-at-requires : tie.Need-block-at-requires
+unfolding sizeOf
+block-at-requires c κs = search needs
 
 all-near-requires : tie.Need-all-near-requires
 all-near-requires c κs = search needs
@@ -51,9 +55,10 @@ start c = c .before .before .before .before .before .before .before .before .bef
 
 -- what the test of the sixteen pixels says of the block
 tested : (c : tie.After-all-near) → c .all-near .result ≡ like (start c .args .tolerance) (now (start c .args .block)) (now (start c .args .tile))
+unfolding showsOf
 tested c =
     let a = start c .args in
-    c .all-near .ensures ∙ of-block (a .tolerance) (now (a .block)) (c .before .etc1-block .result) (now (a .tile)) (c .before .etc1-block .ensures)
+    c .all-near .ensures ∙ of-block (a .tolerance) (now (a .block)) (c .before .block-at .result) (now (a .tile)) (c .before .block-at .ensures ∙ first-block Etc1 (now (a .block)))
 
 -- so it is the answer, the other checks having passed
 answered : (c : tie.After-all-near) (b : Bool) → c .all-near .result ≡ b
@@ -79,7 +84,7 @@ check-spec =
     kind-of-requires
     is-strange-requires
     returns-3
-    etc1-block-requires
+    block-at-requires
     all-near-requires
     returns-4
     returns-5)

@@ -2,6 +2,7 @@
 -- Assumes nothing.
 use mathlib.Core.Path.{_∙_}
 use Rattle.rules.specs.Colour.{stepsOf}
+use Rattle.shade.proofs.Tone.{steps-opaque}
 use Rattle.etc1.proofs.Steps.{small-step}
 use Rattle.codes.proofs.Coloured.{coloured}
 use borrow.Author.Needs.{needs}
@@ -12,7 +13,7 @@ code-steps-requires : tie.Need-code-steps-requires
 code-steps-requires c κs = search needs
 
 four-colours-requires : tie.Need-four-colours-requires
-four-colours-requires c κs k = rw (c .code-steps .ensures) (small-step (c .before .args .code) k (c .before .pre))
+four-colours-requires c κs = steps-opaque (c .code-steps .result) (λ k. rw (c .code-steps .ensures) (small-step (c .before .args .code) k (c .before .pre)))
 
 returns : tie.Need-returns
 returns c =

@@ -9,35 +9,35 @@ use borrow.Author.Needs.{needs}
 use Rattle.etc1.proofs.both_halves.Statement.{statement}
 use Rattle.etc1.proofs.both_halves.Tie as tie
 
-array-copy-out-t9 : tie.Need-array-copy-out-t9
-array-copy-out-t9 c = search needs
+array-copy-out-t10 : tie.Need-array-copy-out-t10
+array-copy-out-t10 c = search needs
 
-array-copy-out-t12 : tie.Need-array-copy-out-t12
-array-copy-out-t12 c = search needs
+array-copy-out-t13 : tie.Need-array-copy-out-t13
+array-copy-out-t13 c = search needs
 
-array-copy-out-t15 : tie.Need-array-copy-out-t15
-array-copy-out-t15 c = search needs
+array-copy-out-t16 : tie.Need-array-copy-out-t16
+array-copy-out-t16 c = search needs
 
-array-copy-out-t18 : tie.Need-array-copy-out-t18
-array-copy-out-t18 c = search needs
+array-copy-out-t19 : tie.Need-array-copy-out-t19
+array-copy-out-t19 c = search needs
 
 four-colours-requires : tie.Need-four-colours-requires
-four-colours-requires c κs k = c .before .before .before .before .pre k .0
+four-colours-requires c κs = c .before .before .before .before .pre .0
 
-array-copy-out-t9-2 : tie.Need-array-copy-out-t9-2
-array-copy-out-t9-2 c = search needs
+array-copy-out-t10-2 : tie.Need-array-copy-out-t10-2
+array-copy-out-t10-2 c = search needs
 
-array-copy-out-t12-2 : tie.Need-array-copy-out-t12-2
-array-copy-out-t12-2 c = search needs
+array-copy-out-t13-2 : tie.Need-array-copy-out-t13-2
+array-copy-out-t13-2 c = search needs
 
-array-copy-out-t18-2 : tie.Need-array-copy-out-t18-2
-array-copy-out-t18-2 c = search needs
+array-copy-out-t19-2 : tie.Need-array-copy-out-t19-2
+array-copy-out-t19-2 c = search needs
 
-array-copy-out-t15-2 : tie.Need-array-copy-out-t15-2
-array-copy-out-t15-2 c = search needs
+array-copy-out-t16-2 : tie.Need-array-copy-out-t16-2
+array-copy-out-t16-2 c = search needs
 
 four-colours-requires-2 : tie.Need-four-colours-requires-2
-four-colours-requires-2 c κs k = c .before .before .before .before .before .before .before .before .before .pre k .1
+four-colours-requires-2 c κs = c .before .before .before .before .before .before .before .before .before .pre .1
 
 joined-requires : tie.Need-joined-requires
 joined-requires c κs = search needs
@@ -46,22 +46,22 @@ returns : tie.Need-returns
 returns c =
     let a = c .before .before .before .before .before .before .before .before .before .before .before .args in
     c .joined .ensures
-    ∙ halves (λ h. shades (getD (a .t1) h []) (ofHalf (a .first) (a .second) h)) _ _ (c .before .before .before .before .before .before .four-colours .ensures)
+    ∙ halves (λ h. shades (a .opaque) (getD (a .t1) h []) (ofHalf (a .first) (a .second) h)) _ _ (c .before .before .before .before .before .before .four-colours .ensures)
     (c .before .four-colours2 .ensures)
 
 pub both-halves-spec : {M : Type 1} → statement M
 both-halves-spec =
     tie.close
     (tie.spec
-    array-copy-out-t9
-    array-copy-out-t12
-    array-copy-out-t15
-    array-copy-out-t18
+    array-copy-out-t10
+    array-copy-out-t13
+    array-copy-out-t16
+    array-copy-out-t19
     four-colours-requires
-    array-copy-out-t9-2
-    array-copy-out-t12-2
-    array-copy-out-t18-2
-    array-copy-out-t15-2
+    array-copy-out-t10-2
+    array-copy-out-t13-2
+    array-copy-out-t19-2
+    array-copy-out-t16-2
     four-colours-requires-2
     joined-requires
     returns)

@@ -8,6 +8,9 @@ use Rattle.etc1.proofs.code_steps.Tie as tie
 modifiers-requires : tie.Need-modifiers-requires
 modifiers-requires c κs = search needs
 
+add-result : tie.Need-add-result
+add-result c = search needs
+
 mul-result : tie.Need-mul-result
 mul-result c = search needs
 
@@ -18,4 +21,4 @@ returns : tie.Need-returns
 returns c = steps-at (c .before .modifiers .result) (c .before .modifiers .ensures) (c .before .before .args .code) (search needs)
 
 pub code-steps-spec : {M : Type 1} → statement M
-code-steps-spec = tie.close (tie.spec modifiers-requires mul-result array-copy-out-result returns)
+code-steps-spec = tie.close (tie.spec modifiers-requires add-result mul-result array-copy-out-result returns)

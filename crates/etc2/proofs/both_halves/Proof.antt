@@ -1,58 +1,101 @@
 -- The steps of each half, and the colours that they make.
 -- Assumes nothing.
-use mathlib.Core.Path.{_≡_, _∙_}
+use mathlib.Core.Path.{_≡_, _∙_, sym, ap, subst}
+use mathlib.Core.List.{List, []}
+use Prim.Native.Nat.{ℕ, _+_, _<_}
 use native.Mathlib.Omega.{arith}
-use Rattle.rules.specs.Colour.{code}
-use Rattle.consts.specs.Tables.{fourSteps}
-use Rattle.etc1.proofs.Steps.{coloured}
+use lib.IntN.{ℤ}
+use lib.ListN.{getD}
+use Rattle.rules.specs.Colour.{code, halfColours}
+use Rattle.shade.specs.Pick.{eight}
+use Rattle.shade.specs.Tone.{punched, Steps}
 use Rattle.etc2.specs.Colours.{stepsWhere}
-use Rattle.etc2.proofs.Steps.{small-where}
+use Rattle.etc2.proofs.Steps.{rowWhere, row-at, steps-where, coloured}
 use borrow.Author.Needs.{needs}
 use Rattle.etc2.proofs.both_halves.Statement.{statement}
 use Rattle.etc2.proofs.both_halves.Tie as tie
 
--- what the function was given
-abbrev given : tie.After-steps-where2 → tie.Start
-given c = c .before .before .before .before .before
+first-row-requires : tie.Need-first-row-requires
+first-row-requires c κs = search needs
 
-first-steps-requires : tie.Need-first-steps-requires
-first-steps-requires c κs = search needs
+shared-slice-read-first : tie.Need-shared-slice-read-first
+shared-slice-read-first c = search needs
 
-steps-where-requires : tie.Need-steps-where-requires
-steps-where-requires c κs = search needs
+cast-first : tie.Need-cast-first
+cast-first c = search needs
 
-second-steps-requires : tie.Need-second-steps-requires
-second-steps-requires c κs = search needs
+add-first : tie.Need-add-first
+add-first c = omega arith
 
-steps-where-requires-2 : tie.Need-steps-where-requires-2
-steps-where-requires-2 c κs = search needs
+mul-first : tie.Need-mul-first
+mul-first c = omega arith
+
+element-copy-out-first : tie.Need-element-copy-out-first
+element-copy-out-first c = omega arith
+
+shared-slice-read-second : tie.Need-shared-slice-read-second
+shared-slice-read-second c = search needs
+
+cast-second : tie.Need-cast-second
+cast-second c = search needs
+
+add-second : tie.Need-add-second
+add-second c = omega arith
+
+mul-second : tie.Need-mul-second
+mul-second c = omega arith
+
+element-copy-out-second : tie.Need-element-copy-out-second
+element-copy-out-second c = omega arith
+
+bases-of-requires : tie.Need-bases-of-requires
+bases-of-requires c κs = search needs
 
 -- the steps of the two halves
-first : (c : tie.After-steps-where2) → c .before .before .steps-where .result ≡ fourSteps (stepsWhere (given c .args .opaque) (code (given c .args .d .now) 0))
-first c = c .before .before .steps-where .ensures (code (given c .args .d .now) 0) (omega arith) (c .before .before .before .first-steps .ensures)
+abbrev given : tie.After-bases-of → tie.Start
+given c = c .before .before .before .before .before .before .before
 
-second : (c : tie.After-steps-where2) → c .steps-where2 .result ≡ fourSteps (stepsWhere (given c .args .opaque) (code (given c .args .d .now) 1))
-second c = c .steps-where2 .ensures (code (given c .args .d .now) 1) (omega arith) (c .before .second-steps .ensures)
+abbrev row : tie.After-bases-of → ℕ → List ℤ
+row c h = getD (given c .args .table .now) (c .before .before .before .before .before .first-row .result + code (given c .args .d .now) h) []
+
+is-row : (c : tie.After-bases-of) (h : ℕ) → code (given c .args .d .now) h < 8 → row c h ≡ rowWhere (given c .args .opaque) (code (given c .args .d .now) h)
+is-row c h m =
+    let t = given c .args .table .now in
+    let k = code (given c .args .d .now) h in
+    ap (λ (n : ℕ). getD t (n + k) []) (c .before .before .before .before .before .first-row .ensures .0) ∙ row-at (given c .args .opaque) t k (given c .pre .1) m
 
 both-halves-requires : tie.Need-both-halves-requires
-both-halves-requires c κs k = (
-  rw (first c) (small-where (given c .args .opaque) (code (given c .args .d .now) 0) k (omega arith)),
-  rw (second c) (small-where (given c .args .opaque) (code (given c .args .d .now) 1) k (omega arith)),
-)
+both-halves-requires c κs =
+    let o = given c .args .opaque in
+    let d = given c .args .d .now in (
+      subst (Steps o) (sym (is-row c 0 (omega arith))) (steps-where o (code d 0) (omega arith)),
+      subst (Steps o) (sym (is-row c 1 (omega arith))) (steps-where o (code d 1) (omega arith)),
+    )
 
 returns : tie.Need-returns
 returns c =
-    let t = c .before in
+    let b = c .before in
+    let a = given b .args in
+    let d = a .d .now in
     c .both-halves .ensures
-    ∙ coloured (given t .args .c) (λ h. stepsWhere (given t .args .opaque) (code (given t .args .d .now) h)) _ _ (first t) (second t)
+    ∙ coloured (a .opaque) (b .bases-of .result) (code d) (row b 0) (row b 1) (is-row b 0 (omega arith)) (is-row b 1 (omega arith))
+    ∙ ap (λ (l : List (List ℕ)). eight (λ h. punched (a .opaque) (halfColours (getD l h []) (stepsWhere (a .opaque) (code d h))))) (b .bases-of .ensures)
 
 pub both-halves-spec : {M : Type 1} → statement M
 both-halves-spec =
     tie.close
     (tie.spec
-    first-steps-requires
-    steps-where-requires
-    second-steps-requires
-    steps-where-requires-2
+    first-row-requires
+    shared-slice-read-first
+    cast-first
+    add-first
+    mul-first
+    element-copy-out-first
+    shared-slice-read-second
+    cast-second
+    add-second
+    mul-second
+    element-copy-out-second
+    bases-of-requires
     both-halves-requires
     returns)

@@ -1,49 +1,36 @@
--- A planar block by its plane, and every other by the pick of its eight colours.
+-- The kind and the opaque bit are the ones of the format.
 -- Assumes nothing.
-use mathlib.Core.Path.{_∙_, sym, ap}
+use mathlib.Core.Path.{_∙_, ap}
+use mathlib.Core.Bool.{Bool}
+use Prim.Native.Nat.{_/_, _%_}
 use Rattle.rules.specs.Places.{tile}
 use Rattle.rules.specs.declared.Kind.{Kind}
-use Rattle.etc2.specs.Colours.{stepsWhere, madeColours, colourPixel}
-use Rattle.etc2.proofs.Colours.{not-planar, punch, picked}
+use Rattle.laws.proofs.Filled.{build-same}
+use Rattle.etc2.specs.Colours.{madePixel, kindIn, opaqueIn, colourPixel}
+use Rattle.etc2.proofs.Colours.{pixel}
 use borrow.Author.Needs.{needs}
 use Rattle.etc2.proofs.colour_block.Statement.{statement}
 use Rattle.etc2.proofs.colour_block.Tie as tie
 
-enum-told : tie.Need-enum-told
-enum-told c = search needs
+kind-in-requires : tie.Need-kind-in-requires
+kind-in-requires c κs = search needs
 
-planar-block-requires : tie.Need-planar-block-requires
-planar-block-requires c κs = search needs
+opaque-in-requires : tie.Need-opaque-in-requires
+opaque-in-requires c κs = search needs
+
+made-block-requires : tie.Need-made-block-requires
+made-block-requires c κs = search needs
 
 returns : tie.Need-returns
 returns c =
     let a = c .before .before .before .before .args in
-    c .planar-block .ensures ∙ ap (λ (k : Kind). tile (colourPixel k (a .opaque)) (a .d .now)) (sym (c .before .enum-told .given .1))
-
-colours-of-requires : tie.Need-colours-of-requires
-colours-of-requires c κs = search needs
-
-punched-requires : tie.Need-punched-requires
-punched-requires c κs = search needs
-
-picked-requires : tie.Need-picked-requires
-picked-requires c κs = search needs
-
-returns-2 : tie.Need-returns-2
-returns-2 c =
-    let s = c .before .before .before .before .before in
-    let a = s .args in
-    let e = punch (a .opaque) (madeColours (stepsWhere (a .opaque)) (a .kind) (a .d .now)) _ _ (c .before .before .colours-of .ensures) (c .before .punched .ensures) in
-    c .picked .ensures ∙ picked (a .kind) (a .d .now) (not-planar (a .kind) (c .before .before .before .match .keys2)) (s .pre .1) (a .opaque) _ e
+    let d = a .d .now in
+    c .made-block .ensures
+    ∙ ap (λ (k : Kind). tile (madePixel k (c .before .opaque-in .result)) d) (c .before .before .kind-in .ensures)
+    ∙ ap (λ (o : Bool). tile (madePixel (kindIn (a .plain) (a .punch) d) o) d) (c .before .opaque-in .ensures)
+    ∙ build-same 0 (λ k. madePixel (kindIn (a .plain) (a .punch) d) (opaqueIn (a .punch) d) d (k % 4) (k / 4)) (λ k. colourPixel (a .plain) (a .punch) d (k % 4) (k / 4)) 16
+    (λ k h. pixel d (k % 4) (k / 4) (a .plain) (a .punch))
 
 pub colour-block-spec : {M : Type 1} → statement M
 colour-block-spec =
-    tie.close
-    (tie.spec
-    enum-told
-    planar-block-requires
-    returns
-    colours-of-requires
-    punched-requires
-    picked-requires
-    returns-2)
+    tie.close (tie.spec kind-in-requires opaque-in-requires made-block-requires returns)

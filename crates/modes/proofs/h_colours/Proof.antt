@@ -2,9 +2,10 @@
 -- Assumes nothing.
 use mathlib.Core.Path.{_∙_, ap}
 use Rattle.rules.specs.Modes.{hBases, hDistance, hColours}
+use Rattle.shade.specs.Tone.{punched}
 use Rattle.shade.proofs.Pick.{halves}
 use Rattle.fields.specs.Fields.{distanceAt}
-use Rattle.modes.proofs.Four.{small-h, h-four}
+use Rattle.modes.proofs.Four.{steps-h, h-four}
 use borrow.Author.Needs.{needs}
 use Rattle.modes.proofs.h_colours.Statement.{statement}
 use Rattle.modes.proofs.h_colours.Tie as tie
@@ -36,35 +37,37 @@ distance-requires c κs = search needs
 h-steps-requires : tie.Need-h-steps-requires
 h-steps-requires c κs = search needs
 
-array-copy-out-t17 : tie.Need-array-copy-out-t17
-array-copy-out-t17 c = search needs
+array-copy-out-t18 : tie.Need-array-copy-out-t18
+array-copy-out-t18 c = search needs
 
-array-copy-out-t20 : tie.Need-array-copy-out-t20
-array-copy-out-t20 c = search needs
+array-copy-out-t21 : tie.Need-array-copy-out-t21
+array-copy-out-t21 c = search needs
 
-array-copy-out-t23 : tie.Need-array-copy-out-t23
-array-copy-out-t23 c = search needs
+array-copy-out-t24 : tie.Need-array-copy-out-t24
+array-copy-out-t24 c = search needs
 
-array-copy-out-t26 : tie.Need-array-copy-out-t26
-array-copy-out-t26 c = search needs
+array-copy-out-t27 : tie.Need-array-copy-out-t27
+array-copy-out-t27 c = search needs
 
 four-colours-requires : tie.Need-four-colours-requires
-four-colours-requires c κs k =
+four-colours-requires c κs =
     let s = c .before .before .before .before in
-    rw (s .h-steps .ensures) (small-h (s .before .distance .result) (s .before .distance .ensures .1) k)
+    let o = s .before .before .before .before .before .before .before .before .before .before .args .opaque in
+    rw (s .h-steps .ensures) (steps-h (s .before .distance .result) (s .before .distance .ensures .1) o)
 
 joined-requires : tie.Need-joined-requires
 joined-requires c κs = search needs
 
 returns : tie.Need-returns
 returns c =
-    let d = c .before .before .before .before .before .before .before .before .before .before .before .before .before .before .before .before .args .d .now in
+    let a = c .before .before .before .before .before .before .before .before .before .before .before .before .before .before .before .before .args in
+    let d = a .d .now in
     let f = c .before .before .before .before .before .before .before .before .before .before .h-fields in
     let n = c .before .before .before .before .before .before .before .before .h-number in
     let m = c .before .before .before .before .before .before .before .distance in
     let s = c .before .before .before .before .before .before .h-steps in
-    let e = c .before .four-colours .ensures ∙ h-four d (f .result) (s .result) (m .result) (f .ensures) (m .ensures .0 ∙ ap distanceAt (n .ensures .0)) (s .ensures) in
-    c .joined .ensures ∙ halves (λ h. hColours (hBases d) (hDistance d)) _ _ e e
+    let e = c .before .four-colours .ensures ∙ h-four (a .opaque) d (f .result) (s .result) (m .result) (f .ensures) (m .ensures .0 ∙ ap distanceAt (n .ensures .0)) (s .ensures) in
+    c .joined .ensures ∙ halves (λ h. punched (a .opaque) (hColours (hBases d) (hDistance d))) _ _ e e
 
 pub h-colours-spec : {M : Type 1} → statement M
 h-colours-spec =
@@ -79,10 +82,10 @@ h-colours-spec =
     h-number-requires
     distance-requires
     h-steps-requires
-    array-copy-out-t17
-    array-copy-out-t20
-    array-copy-out-t23
-    array-copy-out-t26
+    array-copy-out-t18
+    array-copy-out-t21
+    array-copy-out-t24
+    array-copy-out-t27
     four-colours-requires
     joined-requires
     returns)

@@ -2,8 +2,9 @@
 -- Assumes nothing.
 use mathlib.Core.Path.{_∙_}
 use Rattle.rules.specs.Modes.{tBases, tDistance, tColours}
+use Rattle.shade.specs.Tone.{punched}
 use Rattle.shade.proofs.Pick.{halves}
-use Rattle.modes.proofs.Four.{small-t, t-four}
+use Rattle.modes.proofs.Four.{steps-t, t-four}
 use borrow.Author.Needs.{needs}
 use Rattle.modes.proofs.t_colours.Statement.{statement}
 use Rattle.modes.proofs.t_colours.Tie as tie
@@ -41,34 +42,36 @@ distance-requires c κs = search needs
 t-steps-requires : tie.Need-t-steps-requires
 t-steps-requires c κs = search needs
 
-array-copy-out-t22 : tie.Need-array-copy-out-t22
-array-copy-out-t22 c = search needs
+array-copy-out-t23 : tie.Need-array-copy-out-t23
+array-copy-out-t23 c = search needs
 
-array-copy-out-t25 : tie.Need-array-copy-out-t25
-array-copy-out-t25 c = search needs
+array-copy-out-t26 : tie.Need-array-copy-out-t26
+array-copy-out-t26 c = search needs
 
-array-copy-out-t28 : tie.Need-array-copy-out-t28
-array-copy-out-t28 c = search needs
+array-copy-out-t29 : tie.Need-array-copy-out-t29
+array-copy-out-t29 c = search needs
 
-array-copy-out-t31 : tie.Need-array-copy-out-t31
-array-copy-out-t31 c = search needs
+array-copy-out-t32 : tie.Need-array-copy-out-t32
+array-copy-out-t32 c = search needs
 
 four-colours-requires : tie.Need-four-colours-requires
-four-colours-requires c κs k =
+four-colours-requires c κs =
     let s = c .before .before .before .before in
-    rw (s .t-steps .ensures) (small-t (s .before .distance .result) (s .before .distance .ensures .1) k)
+    let o = s .before .before .before .before .before .before .before .before .before .before .args .opaque in
+    rw (s .t-steps .ensures) (steps-t (s .before .distance .result) (s .before .distance .ensures .1) o)
 
 joined-requires : tie.Need-joined-requires
 joined-requires c κs = search needs
 
 returns : tie.Need-returns
 returns c =
-    let d = c .before .before .before .before .before .before .before .before .before .before .before .before .before .before .before .before .args .d .now in
+    let a = c .before .before .before .before .before .before .before .before .before .before .before .before .before .before .before .before .args in
+    let d = a .d .now in
     let f = c .before .before .before .before .before .before .before .before .before .before .t-fields in
     let m = c .before .before .before .before .before .before .before .distance in
     let s = c .before .before .before .before .before .before .t-steps in
-    let e = c .before .four-colours .ensures ∙ t-four d (f .result) (s .result) (m .result) (f .ensures) (m .ensures .0) (s .ensures) in
-    c .joined .ensures ∙ halves (λ h. tColours (tBases d) (tDistance d)) _ _ e e
+    let e = c .before .four-colours .ensures ∙ t-four (a .opaque) d (f .result) (s .result) (m .result) (f .ensures) (m .ensures .0) (s .ensures) in
+    c .joined .ensures ∙ halves (λ h. punched (a .opaque) (tColours (tBases d) (tDistance d))) _ _ e e
 
 pub t-colours-spec : {M : Type 1} → statement M
 t-colours-spec =
@@ -85,10 +88,10 @@ t-colours-spec =
     add-distance
     distance-requires
     t-steps-requires
-    array-copy-out-t22
-    array-copy-out-t25
-    array-copy-out-t28
-    array-copy-out-t31
+    array-copy-out-t23
+    array-copy-out-t26
+    array-copy-out-t29
+    array-copy-out-t32
     four-colours-requires
     joined-requires
     returns)

@@ -12,11 +12,21 @@ use Rattle.modes.proofs.t_steps.Tie as tie
 cast-m : tie.Need-cast-m
 cast-m c = search needs
 
-sub-t3 : tie.Need-sub-t3
-sub-t3 c = opposite-fits w16 (c .args .distance) (omega arith)
+sub-t6 : tie.Need-sub-t6
+sub-t6 c = opposite-fits w16 (c .before .args .distance) (omega arith)
+
+sub-t7 : tie.Need-sub-t7
+sub-t7 c = opposite-fits w16 (c .before .args .distance) (omega arith)
 
 returns : tie.Need-returns
-returns c = four refl (cast-pos w16 (c .args .distance) (omega arith)) refl (opposite-held w16 (c .args .distance) (omega arith))
+returns c =
+    let n = c .before .args .distance in
+    rw (c .if1 .taken) (four refl (cast-pos w16 n (omega arith)) refl (opposite-held w16 n (omega arith)))
+
+returns-2 : tie.Need-returns-2
+returns-2 c =
+    let n = c .before .args .distance in
+    rw (c .if1 .left) (four refl (cast-pos w16 n (omega arith)) refl (opposite-held w16 n (omega arith)))
 
 pub t-steps-spec : {M : Type 1} → statement M
-t-steps-spec = tie.close (tie.spec cast-m sub-t3 returns)
+t-steps-spec = tie.close (tie.spec cast-m sub-t6 sub-t7 returns returns-2)

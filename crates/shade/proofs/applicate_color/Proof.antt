@@ -1,3 +1,4 @@
+use mathlib.Core.Path.{_∙_}
 use mir.Syntax.{w16}
 use mir.ValLaws.{toZ-ofZ}
 use native.Mathlib.Omega.{arith}
@@ -30,7 +31,10 @@ returns : tie.Need-returns
 returns c =
     let s = c .before .before .before .before in
     let e = toZ-ofZ w16 (s .args .step) (s .fits .step) in
-    omega (arith, rw e at (c .before .before .before .stepped .ensures .0), rw e at (c .before .before .stepped2 .ensures .0), rw e at (c .before .stepped3 .ensures .0))
+    let r = c .before .before .before .stepped .ensures in
+    let g = c .before .before .stepped2 .ensures in
+    let b = c .before .stepped3 .ensures in
+    (omega (arith, rw e at (r .0), rw e at (g .0), rw e at (b .0)), λ n z. omega (arith, r .2 (e ∙ n), g .2 (e ∙ n), b .2 (e ∙ n), z))
 
 pub applicate-color-spec : {M : Type 1} → statement M
 applicate-color-spec =

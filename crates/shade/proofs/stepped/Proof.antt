@@ -1,9 +1,11 @@
 use mathlib.Core.Path.{_∙_, ap}
 use native.Mathlib.Omega.{arith}
+use lib.IntN.{ℤ, pos, _+ℤ_}
 use borrow.Author.Needs.{needs}
 use mir.Syntax.{w16}
 use Rattle.rules.specs.Notation.{clamp}
 use Rattle.laws.proofs.Signed.{sum-fits, sum-held}
+use Rattle.shade.proofs.Tone.{nothing}
 use Rattle.shade.proofs.stepped.Statement.{statement}
 use Rattle.shade.proofs.stepped.Tie as tie
 
@@ -19,7 +21,8 @@ clamp-requires c κs = search needs
 returns : tie.Need-returns
 returns c =
     let s = c .before in
-    (c .clamp .ensures .0 ∙ ap (clamp 255) (sum-held w16 (s .args .channel) (s .args .step) (s .fits .step) (omega arith)), c .clamp .ensures .1)
+    let e = c .clamp .ensures .0 ∙ ap (clamp 255) (sum-held w16 (s .args .channel) (s .args .step) (s .fits .step) (omega arith)) in
+    (e, c .clamp .ensures .1, λ n. e ∙ ap (λ (z : ℤ). clamp 255 (pos (s .args .channel) +ℤ z)) n ∙ nothing (s .args .channel) (omega arith))
 
 pub stepped-spec : {M : Type 1} → statement M
 stepped-spec = tie.close (tie.spec cast-clamp add-clamp clamp-requires returns)

@@ -9,7 +9,7 @@ use Rattle.laws.proofs.Unique.{refusal}
 use Rattle.single.proofs.Block.{Passed, passed, sixteen}
 use native.Mathlib.Omega.{arith}
 use Rattle.rules.specs.Formats.{sizeOf, showsOf}
-use Rattle.single.proofs.First.{first-block}
+use Rattle.blocks.proofs.First.{first-block}
 use borrow.Author.Needs.{needs}
 use Rattle.single.proofs.read_block.Statement.{statement}
 use Rattle.single.proofs.read_block.Tie as tie

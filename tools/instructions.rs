@@ -1,0 +1,38 @@
+//! The crate's readers under C names, for tools/instructions.
+extern crate given;
+
+macro_rules! names {
+    ($($name:ident = $called:path;)*) => {$(
+        /// # Safety
+        ///
+        /// The pointers and lengths are those of two slices that live through the call.
+        #[no_mangle]
+        pub unsafe extern "C" fn $name(
+            data: *const u8,
+            bytes: usize,
+            width: usize,
+            height: usize,
+            image: *mut u32,
+            elements: usize,
+        ) -> u32 {
+            let data = std::slice::from_raw_parts(data, bytes);
+            let image = std::slice::from_raw_parts_mut(image, elements);
+            $called(data, width, height, image).is_err() as u32
+        }
+    )*};
+}
+
+names! {
+    given_decode_etc1 = given::decode_etc1;
+    given_decode_etc2_rgb = given::decode_etc2_rgb;
+    given_decode_etc2_rgba1 = given::decode_etc2_rgba1;
+    given_decode_etc2_rgba8 = given::decode_etc2_rgba8;
+    given_decode_eacr = given::decode_eacr;
+    given_decode_eacr_signed = given::decode_eacr_signed;
+    given_decode_eacrg = given::decode_eacrg;
+    given_decode_eacrg_signed = given::decode_eacrg_signed;
+    given_decode_bc1 = given::decode_bc1;
+    given_decode_bc1a = given::decode_bc1a;
+    given_decode_bc3 = given::decode_bc3;
+    given_decode_bc7 = given::decode_bc7;
+}
