@@ -5,7 +5,7 @@ use std::hint::black_box;
 use yalivucu::typed::{self, Format, Picture, Refusal};
 
 /// A whole value takes no more than this much of a byte's time.
-const LIMIT: f64 = 2.20;
+const LIMIT: f64 = 1.25;
 
 /// A row for each of the four, and whether the bytes are the values divided by 8 and no ratio is above the limit.
 pub fn print(make: Maker) -> bool {
