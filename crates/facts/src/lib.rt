@@ -2,10 +2,9 @@
 use rules::Format;
 use textures::Texture;
 ghost use mathlib.Core.Path.{_≡_};
-ghost use mathlib.Core.Bool.{cond};
 ghost use mathlib.Core.List.{_++_};
 ghost use Prim.Native.Nat.{_+_, _≤_};
-ghost use lib.ListN.{length, take};
+ghost use lib.ListN.{length};
 ghost use Rattle.shown.specs.Texts.{decimal, Puts};
 ghost use Rattle.facts.specs.Facts.{wordAt, containerOf, bigFirst, srgbNumber, isSrgb, levelsIn, factsOf};
 ghost use Rattle.facts.specs.Facts.{formatName, containerName, orderName, yesOrNo, pictureLines, pictureJson, fileLines, fileJson};
