@@ -37,7 +37,7 @@ fn colours_from(alpha: bool) -> usize
 // The eight alphas of a block that has an alpha half. They are made before its colours, which stay in registers then.
 fn alphas_where(alpha: bool, d: &[u8]) -> [i16; 8]
     requires { ⌜ 8 ≤ length (now d) ⌝ }
-    ensures { λ r. ⌜ alpha ≡ true → r ≡ eightAlphas (byte (now (d .entry)) 0) (byte (now (d .entry)) 1) ⌝ }
+    ensures { λ r. ⌜ (alpha ≡ true → r ≡ eightAlphas (byte (now (d .entry)) 0) (byte (now (d .entry)) 1)) ⌝ }
 {
     if alpha {
         channel::eight_alphas(d[0], d[1])

@@ -25,10 +25,3 @@ small-row n j h = small-at 16 (getD alphaSteps n []) (lit< tt) (below (λ k. sma
 
 pub eight-in-row : (n : ℕ) → n < 16 → length (getD alphaSteps n []) ≡ 8
 eight-in-row n h = eqb→eq _ 8 (below (λ k. eqb (length (getD alphaSteps k [])) 8) 16 tt n h)
-
--- small numbers of a list that has a rule, as the machine holds them
-pub held-at : (f : ℕ → ℤ) (l : List ℤ) (k : ℕ) → l ≡ build 16 f → k < 16 → mag (f k) < 256 → held w16 (getD l k (pos 0)) ≡ f k
-held-at f l k e h s =
-    ap (λ (a : List ℤ). held w16 (getD a k (pos 0))) e
-    ∙ ap (held w16) (getD-build f (pos 0) 16 k h)
-    ∙ held-small w16 (f k) (omega (arith, s))
