@@ -1,19 +1,15 @@
 -- The steps of a channel: small, so that every type holds them.
 -- Assumes nothing.
-use mathlib.Core.Path.{_≡_, _∙_, ap}
+use mathlib.Core.Path.{_≡_}
 use mathlib.Core.List.{List, []}
 use Prim.Native.Nat.{ℕ, _/_, _%_, _<_}
-use native.Mathlib.Omega.{arith}
 use lib.Dec.{eqb, eqb→eq, lit<}
 use lib.IntN.{ℤ, pos}
 use lib.ListN.{length, getD}
 use lib.Signed.{mag}
-use mir.Syntax.{w16}
-use Rattle.rules.specs.Notation.{build}
 use Rattle.rules.specs.Channels.{alphaSteps, alphaStep}
 use Rattle.laws.proofs.Every.{below}
-use Rattle.laws.proofs.Filled.{getD-build}
-use Rattle.laws.proofs.Signed.{small, small-at, held, held-small}
+use Rattle.laws.proofs.Signed.{small, small-at}
 
 -- the step of place k, row by row
 abbrev pub stepAt : List ℕ → ℕ → ℤ

@@ -2,7 +2,7 @@
 // kind of ETC2 block but planar share. Colours are made first and picked then, since sixteen sums and clamps take twice as long.
 ghost use mathlib.Core.Path.{_≡_};
 ghost use mathlib.Core.List.{[], _∷_};
-ghost use Prim.Native.Nat.{_+_, _*_, _/_, _%_, _^_, _≤_, _<_};
+ghost use Prim.Native.Nat.{_*_, _≤_, _<_};
 ghost use lib.IntN.{pos, _+ℤ_};
 ghost use lib.ListN.{length, getD};
 ghost use lib.Signed.{mag};

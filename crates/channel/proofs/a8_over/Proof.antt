@@ -101,9 +101,11 @@ loop-again c =
     let i = l .i in
     let stood : getD (l .image) i 0 ≡ getD old i 0 = l .inv .1 .1 .miss i (λ h. omega arith) in
     let e = c .topped .ensures ∙ ap (λ (z : ℤ). withAlpha (getD (l .image) i 0) (natAbs z)) (turn (c .before))
-    ∙ ap (λ (p : ℕ). withAlpha p (alphaByte d (i % 4) (i / 4))) stood in
-    (omega arith, subst (λ (v : ℕ). Begun (rule d old) old (set (l .image) i v) (i + 1)) (sym e)
-    (go-on (rule d old) old (l .image) i (room (c .before .before .before)) (l .inv .1)))
+    ∙ ap (λ (p : ℕ). withAlpha p (alphaByte d (i % 4) (i / 4))) stood in (
+      omega arith,
+      subst (λ (v : ℕ). Begun (rule d old) old (set (l .image) i v) (i + 1)) (sym e)
+          (go-on (rule d old) old (l .image) i (room (c .before .before .before)) (l .inv .1)),
+    )
 
 same-length : tie.Need-same-length Inv-loop μ-loop
 same-length c = c .before .loop .inv .1 .1 .same

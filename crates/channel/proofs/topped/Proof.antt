@@ -4,7 +4,6 @@ use mathlib.Core.Path.{_≡_}
 use native.Mathlib.Omega.{arith}
 use lib.IntN.{pos, natAbs}
 use mir.Syntax.{w16}
-use borrow.Author.Needs.{needs}
 use Rattle.laws.proofs.Signed.{held}
 use Rattle.channel.proofs.Moves.{held-pos}
 use Rattle.channel.proofs.topped.Statement.{statement}
