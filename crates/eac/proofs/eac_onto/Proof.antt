@@ -46,7 +46,7 @@ eight-bytes-requires c κs =
     let a = m .before .before .before .before in (
       (a .pre .0, m .before .before .alpha-steps .ensures, c .before .span-of .ensures .1),
       middle-held (m .middle-of .result)
-      (m .middle-of .ensures .0 ∙ ap (λ (t : Bool). middle t (byte (a .args .d .now) 0)) (sym (c .before .span-of .ensures .0))) (m .middle-of .ensures .1),
+          (m .middle-of .ensures .0 ∙ ap (λ (t : Bool). middle t (byte (a .args .d .now) 0)) (sym (c .before .span-of .ensures .0))) (m .middle-of .ensures .1),
     )
 
 -- what the function was given
