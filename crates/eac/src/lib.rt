@@ -30,8 +30,8 @@ fn widened(bytes: [i16; 16]) -> [u32; 16]
     out
 }
 
-// The eight values of a block, of the value in their middle. The table of steps is lent. Nothing here asks whether values are signed: a body
-// without a branch is small enough to stand in each loop over blocks.
+// The eight values of a block, of the value in their middle. The table of steps is lent. Nothing here asks whether values are signed: a
+// body without a branch is small enough to stand in each loop over blocks.
 pub fn eight_wholes(d: &[u8], base: i16, span: Span, table: &[[i8; 8]; 16]) -> [i16; 8]
     requires { ⌜ (8 ≤ length (now d)) × (now table ≡ alphaSteps) × Spans span ⌝ }
     requires { ⌜ (base ≡ middle (span .signed) (byte (now d) 0)) × (mag base < 4096) ⌝ }

@@ -204,10 +204,11 @@ fn paint_whole(
     pic: Picture,
     image: &mut [u16],
 ) -> usize
-    requires { ⌜ (blocks pic * (lanes green * 8) ≤ length (now «data»)) × (by < across (pic .height)) × (pic .height ≤ limit) × Spans span ⌝ }
+    requires { ⌜ (blocks pic * (lanes green * 8) ≤ length (now «data»)) × (by < across (pic .height)) × (pic .height ≤ limit)
+        × Spans span ⌝ }
     requires { ⌜ Ready (lanes green) pic (length (now image)) ⌝ }
-    ensures { λ r. ⌜ (r ≤ across (pic .width)) × PaintsBlocks (lanes green) (span .signed) (now («data» .entry)) pic (by * across (pic .width))
-        (by * across (pic .width) + r) (now (image .entry)) (now (image .exit)) ⌝ }
+    ensures { λ r. ⌜ (r ≤ across (pic .width)) × PaintsBlocks (lanes green) (span .signed) (now («data» .entry)) pic
+        (by * across (pic .width)) (by * across (pic .width) + r) (now (image .entry)) (now (image .exit)) ⌝ }
 {
     let row = checks::across(pic.width);
     let n = whole_in(pic, by);
@@ -226,7 +227,8 @@ fn paint_whole(
 
 // Paints the blocks of row by.
 fn paint_row(green: bool, span: Span, data: &[u8], by: usize, pic: Picture, image: &mut [u16])
-    requires { ⌜ (blocks pic * (lanes green * 8) ≤ length (now «data»)) × (by < across (pic .height)) × (pic .height ≤ limit) × Spans span ⌝ }
+    requires { ⌜ (blocks pic * (lanes green * 8) ≤ length (now «data»)) × (by < across (pic .height)) × (pic .height ≤ limit)
+        × Spans span ⌝ }
     requires { ⌜ Ready (lanes green) pic (length (now image)) ⌝ }
     ensures { λ _. ⌜ PaintsBlocks (lanes green) (span .signed) (now («data» .entry)) pic (by * across (pic .width))
         (by * across (pic .width) + across (pic .width)) (now (image .entry)) (now (image .exit)) ⌝ }

@@ -43,14 +43,14 @@ pub fn times_of(m: u8) -> u8
 }
 
 // The least of the values.
-pub fn least_of(signed: bool) -> i16
+fn least_of(signed: bool) -> i16
     ensures { λ r. ⌜ r ≡ least signed ⌝ }
 {
     if signed { -1023 } else { 0 }
 }
 
 // The most of them.
-pub fn most_of(signed: bool) -> i16
+fn most_of(signed: bool) -> i16
     ensures { λ r. ⌜ r ≡ most signed ⌝ }
 {
     if signed { 1023 } else { 2047 }
@@ -79,8 +79,8 @@ pub fn eac_whole(base: i16, m: u8, s: i16, low: i16, high: i16) -> i16
 }
 
 // What makes a value no less than 0.
-pub fn added_of(signed: bool) -> u16
-    ensures { λ r. ⌜ (r ≡ added signed) × (r < 2048) ⌝ }
+fn added_of(signed: bool) -> u16
+    ensures { λ r. ⌜ r ≡ added signed ⌝ }
 {
     if signed { 1023 } else { 0 }
 }
@@ -111,7 +111,7 @@ pub fn span_of(signed: bool) -> Span
     }
 }
 
-// A value with that added.
+// A value with as much added.
 fn raised(v: i16, up: u16) -> u16
     requires { ⌜ (mag v < 2048) × (up < 2048) × T (nonNeg (pos up +ℤ v)) ⌝ }
     ensures { λ r. ⌜ (pos r ≡ pos up +ℤ v) × (r < 4096) ⌝ }
