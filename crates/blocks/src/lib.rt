@@ -126,12 +126,13 @@ fn run_red(
     ensures { λ _. ⌜ PaintsRow (redPixel signed) 8 (now («data» .entry)) pic bx by n (now (image .entry)) (now (image .exit)) ⌝ }
 {
     let table = consts::alpha_steps();
+    let span = values::span_of(signed);
     let mut i: usize = 0;
     while i < n {
         let from = i * 8;
         let end = from + 8;
         place::place_whole(
-            eac::eacr_block(&data[from..end], signed, &table),
+            eac::eacr_block(&data[from..end], span, &table),
             bx + i,
             by,
             pic,
@@ -155,12 +156,13 @@ fn run_red_green(
     ensures { λ _. ⌜ PaintsRow (redGreenPixel signed) 16 (now («data» .entry)) pic bx by n (now (image .entry)) (now (image .exit)) ⌝ }
 {
     let table = consts::alpha_steps();
+    let span = values::span_of(signed);
     let mut i: usize = 0;
     while i < n {
         let from = i * 16;
         let end = from + 16;
         place::place_whole(
-            eac::eacrg_block(&data[from..end], signed, &table),
+            eac::eacrg_block(&data[from..end], span, &table),
             bx + i,
             by,
             pic,
