@@ -1,7 +1,7 @@
-/* One picture of random blocks, read by one function, for tools/instructions: count FUNCTION TIMES, where TIMES is 0 or 1. It says what
-   was painted by a sum. */
+/* One picture of random blocks, read by one function, for tools/instructions: count FUNCTION. It says what was painted by a sum. */
 #include "yalivucu.h"
-#ifdef ALONE /* tools/alone.c has these */
+#ifdef ALONE /* tools/alone.c has these; what is counted stands in another part than this */
+#pragma clang section text = "own"
 int strcmp(const char *, const char *);
 void say(uint32_t sum);
 #else
@@ -88,7 +88,7 @@ int main(int argc, char **argv)
         random ^= random << 17;
         data[k] = (uint8_t)random;
     }
-    if (argc != 3 || (argv[2][0] == '1' && read_by(argv[1]))) return 2;
+    if (argc != 2 || read_by(argv[1])) return 2;
     for (size_t k = 0; k < PITCH * SIDE; k++) sum = sum * 31 + image[k];
     for (size_t k = 0; k < SIDE * SIDE * 2; k++) sum = sum * 31 + sixteens[k];
     say(sum);
