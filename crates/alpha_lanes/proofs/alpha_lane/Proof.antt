@@ -1,10 +1,10 @@
 -- The sum, divided, and what the last one has beside it.
 -- Assumes nothing.
 use mathlib.Core.Path.{_∙_}
-use Rattle.bc3.specs.Lanes.{alphaLane}
+use Rattle.alpha_lanes.specs.Lanes.{alphaLane}
 use borrow.Author.Needs.{needs}
-use Rattle.bc3.proofs.alpha_lane.Statement.{statement}
-use Rattle.bc3.proofs.alpha_lane.Tie as tie
+use Rattle.alpha_lanes.proofs.alpha_lane.Statement.{statement}
+use Rattle.alpha_lanes.proofs.alpha_lane.Tie as tie
 
 fifths-requires : tie.Need-fifths-requires
 fifths-requires c κs = search needs

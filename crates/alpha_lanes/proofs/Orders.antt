@@ -9,8 +9,8 @@ use Rattle.rules.specs.Notation.{build}
 use Rattle.rules.specs.Desktop.{alphas}
 use Rattle.laws.proofs.Filled.{getD-build}
 use Rattle.bc1.proofs.Colours.{sums}
-use Rattle.bc3.proofs.Shares.{shared}
-use Rattle.bc3.specs.Lanes.{alphaLane}
+use Rattle.alphas.proofs.Shares.{shared}
+use Rattle.alpha_lanes.specs.Lanes.{alphaLane}
 
 -- the lanes of one order
 abbrev pub lanes : Bool → ℕ → ℕ → ℕ → ℕ

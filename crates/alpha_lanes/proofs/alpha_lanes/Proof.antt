@@ -4,10 +4,10 @@ use mathlib.Core.Path.{refl}
 use Prim.Native.Nat.{_-_, _%_}
 use native.Mathlib.Omega.{arith}
 use Rattle.laws.proofs.Filling.{Filling, inOrder, begun, stored-next, filled-all}
-use Rattle.bc3.specs.Lanes.{alphaLane}
+use Rattle.alpha_lanes.specs.Lanes.{alphaLane}
 use borrow.Author.Needs.{needs}
-use Rattle.bc3.proofs.alpha_lanes.Statement.{statement}
-use Rattle.bc3.proofs.alpha_lanes.Tie as tie
+use Rattle.alpha_lanes.proofs.alpha_lanes.Statement.{statement}
+use Rattle.alpha_lanes.proofs.alpha_lanes.Tie as tie
 
 abbrev Inv-loop : tie.InvT-loop
 Inv-loop a b c d m g out₀ i₀ out i =

@@ -1,12 +1,19 @@
--- Sevenths and fifths by a product and a shift, and the eight alphas of both orders.
+-- Sevenths and fifths by a product and a shift, the eight alphas of both orders, and the word of a known channel.
 -- Assumes nothing.
-use mathlib.Core.Path.{_≡_}
+use mathlib.Core.Path.{_≡_, _∙_, sym, ap}
 use mathlib.Core.Bool.{Bool, true, false, cond}
 use mathlib.Core.List.{[], _∷_}
 use Prim.Native.Nat.{ℕ, _+_, _*_, _/_, _<_, _≤_}
 use native.Mathlib.Omega.{arith}
-use Rattle.rules.specs.Desktop.{alphas}
-use Rattle.bc3.proofs.Turns.{eight}
+use Rattle.rules.specs.Desktop.{alphas, replaced}
+
+pub eight : {a b c d e f g h a' b' c' d' e' f' g' h' : ℕ} → a ≡ a' → b ≡ b' → c ≡ c' → d ≡ d' → e ≡ e' → f ≡ f' → g ≡ g' → h ≡ h'
+    → a ∷ b ∷ c ∷ d ∷ e ∷ f ∷ g ∷ h ∷ [] ≡ a' ∷ b' ∷ c' ∷ d' ∷ e' ∷ f' ∷ g' ∷ h' ∷ []
+eight p q r s t u v w = rw (p, q, r, s, t, u, v, w)
+
+-- the word of a known channel
+pub known : {r n : ℕ} (k p b : ℕ) → n ≡ k → r ≡ replaced k p b → r ≡ replaced n p b
+known k p b e f = f ∙ ap (λ (m : ℕ). replaced m p b) (sym e)
 
 pub shared : (s : Bool) (n : ℕ) → n ≤ 1785 → (n * cond s 9363 13108 ≤ 0x2000000) × (n * cond s 9363 13108 / 0x10000 ≡ cond s (n / 7) (n / 5))
 shared true n h = (omega arith, omega arith)

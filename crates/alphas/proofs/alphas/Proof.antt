@@ -4,11 +4,10 @@ use mathlib.Core.Path.{_∙_, refl}
 use Prim.Native.Nat.{_≤_}
 use native.Mathlib.Omega.{arith}
 use lib.Dec.{ltb}
-use Rattle.bc3.proofs.Shares.{few, listed}
-use Rattle.bc3.proofs.Turns.{eight}
+use Rattle.alphas.proofs.Shares.{eight, few, listed}
 use borrow.Author.Needs.{needs}
-use Rattle.bc3.proofs.alphas.Statement.{statement}
-use Rattle.bc3.proofs.alphas.Tie as tie
+use Rattle.alphas.proofs.alphas.Statement.{statement}
+use Rattle.alphas.proofs.alphas.Tie as tie
 
 -- two parts more, or none
 more : (c : tie.After-either) → c .either .result ≤ 510

@@ -1,10 +1,10 @@
 -- A product and a shift.
 -- Assumes nothing.
 use native.Mathlib.Omega.{arith}
-use Rattle.bc3.proofs.Shares.{shared}
+use Rattle.alphas.proofs.Shares.{shared}
 use borrow.Author.Needs.{needs}
-use Rattle.bc3.proofs.share.Statement.{statement}
-use Rattle.bc3.proofs.share.Tie as tie
+use Rattle.alphas.proofs.share.Statement.{statement}
+use Rattle.alphas.proofs.share.Tie as tie
 
 either-requires : tie.Need-either-requires
 either-requires c κs = search needs

@@ -7,8 +7,8 @@ use lib.ListN.{getD}
 use Rattle.rules.specs.Desktop.{alphasIn}
 use Rattle.laws.proofs.Between.{alphas-small}
 use borrow.Author.Needs.{needs}
-use Rattle.bc3.proofs.alphas_in.Statement.{statement}
-use Rattle.bc3.proofs.alphas_in.Tie as tie
+use Rattle.alphas.proofs.alphas_in.Statement.{statement}
+use Rattle.alphas.proofs.alphas_in.Tie as tie
 
 first-requires : tie.Need-first-requires
 first-requires c κs = search needs

@@ -2,8 +2,8 @@
 -- Assumes nothing.
 use mathlib.Core.Path.{_∙_}
 use borrow.Author.Needs.{needs}
-use Rattle.bc3.proofs.fifths.Statement.{statement}
-use Rattle.bc3.proofs.fifths.Tie as tie
+use Rattle.alpha_lanes.proofs.fifths.Statement.{statement}
+use Rattle.alpha_lanes.proofs.fifths.Tie as tie
 
 pick-requires : tie.Need-pick-requires
 pick-requires c κs = search needs

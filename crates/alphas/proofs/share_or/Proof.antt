@@ -1,10 +1,10 @@
 -- A product and a shift, or what stands beside fifths.
 -- Assumes nothing.
 use native.Mathlib.Omega.{arith}
-use Rattle.bc3.proofs.Shares.{shared-or}
+use Rattle.alphas.proofs.Shares.{shared-or}
 use borrow.Author.Needs.{needs}
-use Rattle.bc3.proofs.share_or.Statement.{statement}
-use Rattle.bc3.proofs.share_or.Tie as tie
+use Rattle.alphas.proofs.share_or.Statement.{statement}
+use Rattle.alphas.proofs.share_or.Tie as tie
 
 either-requires : tie.Need-either-requires
 either-requires c κs = search needs

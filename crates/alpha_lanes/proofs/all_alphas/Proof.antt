@@ -7,10 +7,10 @@ use native.Mathlib.Omega.{arith}
 use lib.Dec.{ltb}
 use lib.ListN.{getD}
 use Rattle.rules.specs.Notation.{build}
-use Rattle.bc3.proofs.Orders.{lanes, in-order}
+use Rattle.alpha_lanes.proofs.Orders.{lanes, in-order}
 use borrow.Author.Needs.{needs}
-use Rattle.bc3.proofs.all_alphas.Statement.{statement}
-use Rattle.bc3.proofs.all_alphas.Tie as tie
+use Rattle.alpha_lanes.proofs.all_alphas.Statement.{statement}
+use Rattle.alpha_lanes.proofs.all_alphas.Tie as tie
 
 wide-requires : tie.Need-wide-requires
 wide-requires c κs = search needs

@@ -3,10 +3,10 @@
 use mathlib.Core.Path.{_≡_}
 use Prim.Native.Nat.{ℕ, _<_}
 use native.Mathlib.Omega.{arith}
-use Rattle.bc3.proofs.Turns.{known}
+use Rattle.alphas.proofs.Shares.{known}
 use borrow.Author.Needs.{needs}
-use Rattle.bc3.proofs.replace.Statement.{statement}
-use Rattle.bc3.proofs.replace.Tie as tie
+use Rattle.alphas.proofs.replace.Statement.{statement}
+use Rattle.alphas.proofs.replace.Tie as tie
 
 last : (n : ℕ) → (n ≡ 0 → ⊥) → (n ≡ 1 → ⊥) → (n ≡ 2 → ⊥) → n < 4 → n ≡ 3
 last n a b c h = omega arith
