@@ -1,4 +1,4 @@
--- `pieces::paint_joined` meets its contract: the block that is in both, and then those that are in the new bytes alone.
+-- `joined::paint_joined` meets its contract: the block that is in both, and then those that are in the new bytes alone.
 -- Assumes nothing.
 use mathlib.Core.Path.{_≡_, _∙_, ap}
 use mathlib.Core.List.{List, _++_}
@@ -16,8 +16,8 @@ use Rattle.kept.proofs.Joined.{joint-block, later-block}
 use Rattle.blocks.proofs.Runs.{two-runs, other-bytes}
 use Rattle.kept.proofs.Numbers.{peel, one-block}
 use borrow.Author.Needs.{needs}
-use Rattle.pieces.proofs.paint_joined.Statement.{statement}
-use Rattle.pieces.proofs.paint_joined.Tie as tie
+use Rattle.joined.proofs.paint_joined.Statement.{statement}
+use Rattle.joined.proofs.paint_joined.Tie as tie
 
 abbrev start-of : tie.After-size → tie.Start
 start-of z = z .before .before .before .before .before
