@@ -1,5 +1,5 @@
 // What a file tells of itself, on standard output. What the text is follows from the file's bytes by functions whose contracts are
-// equations, of crates/facts and crates/shown; reading the bytes and writing the text is all that no contract speaks of.
+// equations, of crates/facts, crates/report and crates/shown; reading the bytes and writing the text is all that no contract speaks of.
 use keys::At;
 use libc::STDOUT_FILENO;
 use shown::Pen;
@@ -90,7 +90,7 @@ pub fn told(fd: i32, json: bool, t: Texture) -> bool {
     let mut head = [0u8; 64];
     let got = io::count(libc::pread(fd, &mut head, 0), &head);
     let mut text = io::buffer();
-    let n = facts::put_facts(json, facts::facts_of(&head[..got], t), &mut text);
+    let n = report::put_facts(json, facts::facts_of(&head[..got], t), &mut text);
     io::write_all(STDOUT_FILENO, &text[..n]);
     told_of_keys(fd, json, &head[..got])
 }
