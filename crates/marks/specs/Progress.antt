@@ -3,8 +3,8 @@
 use mathlib.Core.Bool.{Bool, cond, not}
 use Prim.Native.Nat.{ℕ, _%_}
 use lib.Dec.{eqb, ltb}
-use Rattle.words.specs.declared.Mark.{Mark}
-use Rattle.words.specs.declared.Mark.the-variants.{Nothing, Row, Last, End}
+use Rattle.marks.specs.declared.Mark.{Mark}
+use Rattle.marks.specs.declared.Mark.the-variants.{Nothing, Row, Last, End}
 
 -- Of a picture of 256 rows of blocks or more, every 64th row and the last, which ends the line. Where a row did not go well the line
 -- ends without it, if one was shown.

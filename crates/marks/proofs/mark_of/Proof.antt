@@ -1,9 +1,9 @@
--- `words::mark_of` meets its contract: the first test that holds decides.
+-- `marks::mark_of` meets its contract: the first test that holds decides.
 -- Assumes nothing.
 use borrow.Author.Tests.{eq-eqb, ne-eqb, lt-ltb, le-ltb, not-true, not-false}
-use Rattle.words.specs.Progress.{markOf}
-use Rattle.words.proofs.mark_of.Statement.{statement}
-use Rattle.words.proofs.mark_of.Tie as tie
+use Rattle.marks.specs.Progress.{markOf}
+use Rattle.marks.proofs.mark_of.Statement.{statement}
+use Rattle.marks.proofs.mark_of.Tie as tie
 
 returns : tie.Need-returns
 unfolding markOf

@@ -1,10 +1,10 @@
--- `words::number_of` meets its contract, arm by arm.
+-- `marks::number_of` meets its contract, arm by arm.
 -- Assumes nothing.
 use mathlib.Core.Path.{sym, ap}
 use Rattle.textures.specs.Textures.{numberOf}
 use borrow.Author.Needs.{needs}
-use Rattle.words.proofs.number_of.Statement.{statement}
-use Rattle.words.proofs.number_of.Tie as tie
+use Rattle.marks.proofs.number_of.Statement.{statement}
+use Rattle.marks.proofs.number_of.Tie as tie
 
 enum-told : tie.Need-enum-told
 enum-told c = search needs
