@@ -1,11 +1,11 @@
--- `levels::picked` meets its contract, by its test.
+-- `walks::picked` meets its contract, by its test.
 -- Assumes nothing.
 use mathlib.Core.Path.{sym}
 use borrow.Author.Tests.{lt-ltb, le-ltb}
-use Rattle.levels.specs.Levels.{pickedOf}
+use Rattle.walks.specs.Walk.{pickedOf}
 use borrow.Author.Needs.{needs}
-use Rattle.levels.proofs.picked.Statement.{statement}
-use Rattle.levels.proofs.picked.Tie as tie
+use Rattle.walks.proofs.picked.Statement.{statement}
+use Rattle.walks.proofs.picked.Tie as tie
 
 returns : tie.Need-returns
 unfolding pickedOf

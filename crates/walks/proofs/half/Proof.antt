@@ -1,9 +1,9 @@
--- `levels::half` meets its contract, by its test.
+-- `walks::half` meets its contract, by its test.
 -- Assumes nothing.
 use native.Mathlib.Omega.{arith}
 use borrow.Author.Tests.{lt-ltb, le-ltb}
-use Rattle.levels.proofs.half.Statement.{statement}
-use Rattle.levels.proofs.half.Tie as tie
+use Rattle.walks.proofs.half.Statement.{statement}
+use Rattle.walks.proofs.half.Tie as tie
 
 returns : tie.Need-returns
 returns c = (simp (lt-ltb _ _ (c .if1 .taken)), omega arith)

@@ -1,11 +1,11 @@
--- `levels::next` meets its contract, by those of what it calls.
+-- `walks::next` meets its contract, by those of what it calls.
 -- Assumes nothing.
 use mathlib.Core.Path.{sym}
 use native.Mathlib.Omega.{arith}
-use Rattle.levels.specs.Levels.{nextOf}
+use Rattle.walks.specs.Walk.{nextOf}
 use borrow.Author.Needs.{needs}
-use Rattle.levels.proofs.next.Statement.{statement}
-use Rattle.levels.proofs.next.Tie as tie
+use Rattle.walks.proofs.next.Statement.{statement}
+use Rattle.walks.proofs.next.Tie as tie
 
 bytes-of-requires : tie.Need-bytes-of-requires
 bytes-of-requires c κs = search needs

@@ -1,12 +1,12 @@
--- `levels::bytes_of` meets its contract, by those of what it calls; no product wraps.
+-- `walks::bytes_of` meets its contract, by those of what it calls; no product wraps.
 -- Assumes nothing.
 use mathlib.Core.Path.{ap₂}
 use Prim.Native.Nat.{_*_, _≤_}
 use native.Mathlib.Omega.{arith}
 use native.Mathlib.Nat.{mul-le-mul}
 use borrow.Author.Needs.{needs}
-use Rattle.levels.proofs.bytes_of.Statement.{statement}
-use Rattle.levels.proofs.bytes_of.Tie as tie
+use Rattle.walks.proofs.bytes_of.Statement.{statement}
+use Rattle.walks.proofs.bytes_of.Tie as tie
 
 blocks-of-requires : tie.Need-blocks-of-requires
 blocks-of-requires c κs = search needs

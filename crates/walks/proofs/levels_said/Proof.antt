@@ -1,4 +1,4 @@
--- `levels::levels_said` meets its contract: what is left to say, from the level so far, comes to the same at each turn.
+-- `walks::levels_said` meets its contract: what is left to say, from the level so far, comes to the same at each turn.
 -- Assumes nothing.
 use mathlib.Core.Path.{_≡_, _∙_, sym}
 use Prim.Native.Nat.{_+_, _*_, _-_, _≤_}
@@ -7,10 +7,10 @@ use native.Mathlib.Nat.{sub-zero}
 use denote.Ref.{now}
 use borrow.Author.Needs.{needs}
 use Rattle.textures.specs.Textures.{fileLimit}
-use Rattle.levels.specs.Levels.{levelsSaid}
-use Rattle.levels.proofs.Walks.{decided, goes-on, over}
-use Rattle.levels.proofs.levels_said.Statement.{statement}
-use Rattle.levels.proofs.levels_said.Tie as tie
+use Rattle.walks.specs.Walk.{levelsSaid}
+use Rattle.walks.proofs.Walks.{decided, goes-on, over}
+use Rattle.walks.proofs.levels_said.Statement.{statement}
+use Rattle.walks.proofs.levels_said.Tie as tie
 
 abbrev Inv-loop : tie.InvT-loop
 Inv-loop order f count sizes len l₀ i₀ l i =

@@ -1,10 +1,10 @@
--- `levels::chosen` meets its contract, arm by arm.
+-- `walks::chosen` meets its contract, arm by arm.
 -- Assumes nothing.
 use mathlib.Core.Path.{_∙_, sym}
-use Rattle.levels.specs.Levels.{chosenOf}
+use Rattle.walks.specs.Walk.{chosenOf}
 use borrow.Author.Needs.{needs}
-use Rattle.levels.proofs.chosen.Statement.{statement}
-use Rattle.levels.proofs.chosen.Tie as tie
+use Rattle.walks.proofs.chosen.Statement.{statement}
+use Rattle.walks.proofs.chosen.Tie as tie
 
 levels-said-requires : tie.Need-levels-said-requires
 levels-said-requires c κs = search needs

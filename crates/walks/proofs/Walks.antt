@@ -10,11 +10,11 @@ use types.Run.{OneOf, miss}
 use denote.Enum.Declared
 use lib.Dec.{ltb}
 use Rattle.rules.specs.declared.Format.{Format}
-use Rattle.levels.specs.Levels.{nextOf, levelOf, levelSaid, levelsSaid, first}
-use Rattle.levels.specs.declared.Level.{Level}
-use Rattle.levels.specs.declared.Said.{Said}
-use Rattle.levels.specs.declared.Said.the-variants.{Right, Missing, Disagree}
-use Rattle.levels.proofs.Said.{the-type}
+use Rattle.walks.specs.Walk.{nextOf, levelOf, levelSaid, levelsSaid, first}
+use Rattle.walks.specs.declared.Level.{Level}
+use Rattle.walks.specs.declared.Said.{Said}
+use Rattle.walks.specs.declared.Said.the-variants.{Right, Missing, Disagree}
+use Rattle.walks.proofs.Said.{the-type}
 
 -- a level is its sides and its place
 pub alike : {w w' h h' a a' : ℕ} → w ≡ w' → h ≡ h' → a ≡ a' → _≡_ {A = Level} (record { width = w; height = h; at = a }) (record { width = w'; height = h'; at = a' })

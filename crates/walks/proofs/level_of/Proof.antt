@@ -1,14 +1,14 @@
--- `levels::level_of` meets its contract: what is left to go, from the level so far, leads to the same at each turn.
+-- `walks::level_of` meets its contract: what is left to go, from the level so far, leads to the same at each turn.
 -- Assumes nothing.
 use mathlib.Core.Path.{_≡_, _∙_, sym}
 use Prim.Native.Nat.{_+_, _*_, _-_, _≤_}
 use native.Mathlib.Omega.{arith}
 use native.Mathlib.Nat.{sub-zero}
 use Rattle.textures.specs.Textures.{fileLimit}
-use Rattle.levels.specs.Levels.{levelOf}
-use Rattle.levels.proofs.Walks.{onward, there}
-use Rattle.levels.proofs.level_of.Statement.{statement}
-use Rattle.levels.proofs.level_of.Tie as tie
+use Rattle.walks.specs.Walk.{levelOf}
+use Rattle.walks.proofs.Walks.{onward, there}
+use Rattle.walks.proofs.level_of.Statement.{statement}
+use Rattle.walks.proofs.level_of.Tie as tie
 
 abbrev Inv-loop : tie.InvT-loop
 Inv-loop f n l₀ i₀ l i =

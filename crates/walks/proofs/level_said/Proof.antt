@@ -1,12 +1,12 @@
--- `levels::level_said` meets its contract: the first test that fails decides.
+-- `walks::level_said` meets its contract: the first test that fails decides.
 -- Assumes nothing.
 use mathlib.Core.Path.{sym}
 use borrow.Author.Tests.{lt-ltb, le-ltb, not-true, not-false}
 use Rattle.header.proofs.Picks.{same, other}
-use Rattle.levels.specs.Levels.{levelSaid}
+use Rattle.walks.specs.Walk.{levelSaid}
 use borrow.Author.Needs.{needs}
-use Rattle.levels.proofs.level_said.Statement.{statement}
-use Rattle.levels.proofs.level_said.Tie as tie
+use Rattle.walks.proofs.level_said.Statement.{statement}
+use Rattle.walks.proofs.level_said.Tie as tie
 
 bytes-of-requires : tie.Need-bytes-of-requires
 bytes-of-requires c κs = search needs
