@@ -7,7 +7,7 @@ use Prim.Native.String.{String}
 use Rattle.rules.specs.declared.Format.{Format}
 use Rattle.rules.specs.declared.Format.the-variants.{Etc1, Etc2Rgb, Etc2Rgba1, Etc2Rgba8, EacR, EacRSigned, EacRg, EacRgSigned}
 use Rattle.rules.specs.declared.Format.the-variants.{Bc1, Bc1Alpha, Bc3, Bc7}
-use Rattle.shown.specs.Texts.{bytes}
+use Rattle.texts.specs.Texts.{bytes}
 
 unfoldable pub formatName : Format → List ℕ
 formatName Etc1 = bytes "ETC1"

@@ -3,7 +3,7 @@ use rules::Format;
 ghost use mathlib.Core.List.{_++_};
 ghost use Prim.Native.Nat.{_+_, _≤_};
 ghost use lib.ListN.{length};
-ghost use Rattle.shown.specs.Texts.{decimal, Puts};
+ghost use Rattle.texts.specs.Texts.{decimal, Puts};
 ghost use Rattle.labels.specs.Labels.{formatName, orderName, yesOrNo};
 
 // Puts the name of a format.
@@ -12,18 +12,18 @@ fn put_format(f: Format, out: &mut [u8], at: usize) -> usize
     ensures { λ r. ⌜ Puts (formatName f) (now (out .entry)) at (now (out .exit)) r × (r ≤ at + 20) ⌝ }
 {
     match f {
-        Format::Etc1 => shown::put(b"ETC1", out, at),
-        Format::Etc2Rgb => shown::put(b"ETC2 RGB", out, at),
-        Format::Etc2Rgba1 => shown::put(b"ETC2 RGBA1", out, at),
-        Format::Etc2Rgba8 => shown::put(b"ETC2 RGBA8", out, at),
-        Format::EacR => shown::put(b"EAC R", out, at),
-        Format::EacRSigned => shown::put(b"EAC R signed", out, at),
-        Format::EacRg => shown::put(b"EAC RG", out, at),
-        Format::EacRgSigned => shown::put(b"EAC RG signed", out, at),
-        Format::Bc1 => shown::put(b"BC1", out, at),
-        Format::Bc1Alpha => shown::put(b"BC1 with alpha", out, at),
-        Format::Bc3 => shown::put(b"BC3", out, at),
-        Format::Bc7 => shown::put(b"BC7", out, at),
+        Format::Etc1 => texts::put(b"ETC1", out, at),
+        Format::Etc2Rgb => texts::put(b"ETC2 RGB", out, at),
+        Format::Etc2Rgba1 => texts::put(b"ETC2 RGBA1", out, at),
+        Format::Etc2Rgba8 => texts::put(b"ETC2 RGBA8", out, at),
+        Format::EacR => texts::put(b"EAC R", out, at),
+        Format::EacRSigned => texts::put(b"EAC R signed", out, at),
+        Format::EacRg => texts::put(b"EAC RG", out, at),
+        Format::EacRgSigned => texts::put(b"EAC RG signed", out, at),
+        Format::Bc1 => texts::put(b"BC1", out, at),
+        Format::Bc1Alpha => texts::put(b"BC1 with alpha", out, at),
+        Format::Bc3 => texts::put(b"BC3", out, at),
+        Format::Bc7 => texts::put(b"BC7", out, at),
     }
 }
 
@@ -33,9 +33,9 @@ fn put_order(big: bool, out: &mut [u8], at: usize) -> usize
     ensures { λ r. ⌜ Puts (orderName big) (now (out .entry)) at (now (out .exit)) r × (r ≤ at + 20) ⌝ }
 {
     if big {
-        return shown::put(b"big endian", out, at);
+        return texts::put(b"big endian", out, at);
     }
-    shown::put(b"little endian", out, at)
+    texts::put(b"little endian", out, at)
 }
 
 // Puts yes or no, as JSON has them or not.
@@ -45,14 +45,14 @@ fn put_yes_or_no(json: bool, b: bool, out: &mut [u8], at: usize) -> usize
 {
     if json {
         if b {
-            return shown::put(b"true", out, at);
+            return texts::put(b"true", out, at);
         }
-        return shown::put(b"false", out, at);
+        return texts::put(b"false", out, at);
     }
     if b {
-        return shown::put(b"yes", out, at);
+        return texts::put(b"yes", out, at);
     }
-    shown::put(b"no", out, at)
+    texts::put(b"no", out, at)
 }
 
 // Puts a label and a number.
@@ -60,8 +60,8 @@ pub fn put_counted(label: &[u8], n: usize, out: &mut [u8], at: usize) -> usize
     requires { ⌜ (length (now label) ≤ 20) × (at + 40 ≤ length (now out)) ⌝ }
     ensures { λ r. ⌜ Puts (now (label .entry) ++ decimal n) (now (out .entry)) at (now (out .exit)) r × (r ≤ at + 40) ⌝ }
 {
-    let middle = shown::put(label, out, at);
-    shown::put_number(n as u64, out, middle)
+    let middle = texts::put(label, out, at);
+    texts::put_number(n as u64, out, middle)
 }
 
 // Puts a label and the name of a format.
@@ -69,7 +69,7 @@ pub fn put_formatted(label: &[u8], f: Format, out: &mut [u8], at: usize) -> usiz
     requires { ⌜ (length (now label) ≤ 20) × (at + 40 ≤ length (now out)) ⌝ }
     ensures { λ r. ⌜ Puts (now (label .entry) ++ formatName f) (now (out .entry)) at (now (out .exit)) r × (r ≤ at + 40) ⌝ }
 {
-    let middle = shown::put(label, out, at);
+    let middle = texts::put(label, out, at);
     put_format(f, out, middle)
 }
 
@@ -78,7 +78,7 @@ pub fn put_ordered(label: &[u8], big: bool, out: &mut [u8], at: usize) -> usize
     requires { ⌜ (length (now label) ≤ 20) × (at + 40 ≤ length (now out)) ⌝ }
     ensures { λ r. ⌜ Puts (now (label .entry) ++ orderName big) (now (out .entry)) at (now (out .exit)) r × (r ≤ at + 40) ⌝ }
 {
-    let middle = shown::put(label, out, at);
+    let middle = texts::put(label, out, at);
     put_order(big, out, middle)
 }
 
@@ -87,6 +87,6 @@ pub fn put_answered(label: &[u8], json: bool, b: bool, out: &mut [u8], at: usize
     requires { ⌜ (length (now label) ≤ 20) × (at + 40 ≤ length (now out)) ⌝ }
     ensures { λ r. ⌜ Puts (now (label .entry) ++ yesOrNo json b) (now (out .entry)) at (now (out .exit)) r × (r ≤ at + 40) ⌝ }
 {
-    let middle = shown::put(label, out, at);
+    let middle = texts::put(label, out, at);
     put_yes_or_no(json, b, out, middle)
 }

@@ -4,7 +4,7 @@ use mathlib.Core.Bool.{Bool, true, false, cond}
 use mathlib.Core.List.{List, [], _∷_, _++_}
 use Prim.Native.Nat.{ℕ}
 use Prim.Native.String.{String}
-use Rattle.shown.specs.Texts.{bytes, decimal}
+use Rattle.texts.specs.Texts.{bytes, decimal}
 use Rattle.labels.specs.Labels.{formatName, orderName, yesOrNo}
 use Rattle.facts.specs.declared.Container.{Container}
 use Rattle.facts.specs.declared.Container.the-variants.{Ktx, OldPkm, NewPkm}

@@ -4,7 +4,7 @@ use facts::Facts;
 ghost use mathlib.Core.List.{_++_};
 ghost use Prim.Native.Nat.{_+_, _≤_};
 ghost use lib.ListN.{length};
-ghost use Rattle.shown.specs.Texts.{Puts};
+ghost use Rattle.texts.specs.Texts.{Puts};
 ghost use Rattle.report.specs.Report.{containerName, pictureLines, pictureJson, fileLines, fileJson, factsText};
 
 // Puts the name of a kind of files.
@@ -13,9 +13,9 @@ fn put_container(c: Container, out: &mut [u8], at: usize) -> usize
     ensures { λ r. ⌜ Puts (containerName c) (now (out .entry)) at (now (out .exit)) r × (r ≤ at + 20) ⌝ }
 {
     match c {
-        Container::Ktx => shown::put(b"KTX 1", out, at),
-        Container::OldPkm => shown::put(b"PKM 1.0", out, at),
-        Container::NewPkm => shown::put(b"PKM 2.0", out, at),
+        Container::Ktx => texts::put(b"KTX 1", out, at),
+        Container::OldPkm => texts::put(b"PKM 1.0", out, at),
+        Container::NewPkm => texts::put(b"PKM 2.0", out, at),
     }
 }
 
@@ -24,7 +24,7 @@ fn put_contained(label: &[u8], c: Container, out: &mut [u8], at: usize) -> usize
     requires { ⌜ (length (now label) ≤ 20) × (at + 40 ≤ length (now out)) ⌝ }
     ensures { λ r. ⌜ Puts (now (label .entry) ++ containerName c) (now (out .entry)) at (now (out .exit)) r × (r ≤ at + 40) ⌝ }
 {
-    let middle = shown::put(label, out, at);
+    let middle = texts::put(label, out, at);
     put_container(c, out, middle)
 }
 
@@ -66,7 +66,7 @@ fn put_file_lines(f: Facts, out: &mut [u8], at: usize) -> usize
     let a2 = labels::put_ordered(b"\nbyte order ", f.order, out, a1);
     let a3 = labels::put_answered(b"\nsRGB ", false, f.srgb, out, a2);
     let a4 = labels::put_counted(b"\nlevels ", f.levels, out, a3);
-    shown::put(b"\n", out, a4)
+    texts::put(b"\n", out, a4)
 }
 
 // The same as JSON.
@@ -79,7 +79,7 @@ fn put_file_json(f: Facts, out: &mut [u8], at: usize) -> usize
     let a2 = labels::put_ordered(b"\", \"byteOrder\": \"", f.order, out, a1);
     let a3 = labels::put_answered(b"\", \"sRGB\": ", true, f.srgb, out, a2);
     let a4 = labels::put_counted(b", \"levels\": ", f.levels, out, a3);
-    shown::put(b", \"orientation\": ", out, a4)
+    texts::put(b", \"orientation\": ", out, a4)
 }
 
 // Puts all that is said, in front of the buffer.

@@ -1,7 +1,7 @@
 -- `labels::put_order` meets its contract, by its test.
 -- Assumes nothing.
 use native.Mathlib.Omega.{arith}
-use Rattle.shown.proofs.Puts.{briefly}
+use Rattle.texts.proofs.Puts.{briefly}
 use borrow.Author.Needs.{needs}
 use Rattle.labels.proofs.put_order.Statement.{statement}
 use Rattle.labels.proofs.put_order.Tie as tie

@@ -1,7 +1,7 @@
 -- `labels::put_yes_or_no` meets its contract, by its tests.
 -- Assumes nothing.
 use native.Mathlib.Omega.{arith}
-use Rattle.shown.proofs.Puts.{briefly}
+use Rattle.texts.proofs.Puts.{briefly}
 use borrow.Author.Needs.{needs}
 use Rattle.labels.proofs.put_yes_or_no.Statement.{statement}
 use Rattle.labels.proofs.put_yes_or_no.Tie as tie

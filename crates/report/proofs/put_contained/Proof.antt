@@ -1,7 +1,7 @@
 -- `report::put_contained` meets its contract: the label, and behind it the value.
 -- Assumes nothing.
 use mathlib.Core.Path.{refl}
-use Rattle.shown.proofs.Puts.{briefly, then}
+use Rattle.texts.proofs.Puts.{briefly, then}
 use borrow.Author.Needs.{needs}
 use Rattle.report.proofs.put_contained.Statement.{statement}
 use Rattle.report.proofs.put_contained.Tie as tie

@@ -3,7 +3,7 @@
 use mathlib.Core.Path.{sym, ap}
 use native.Mathlib.Omega.{arith}
 use Rattle.report.specs.Report.{containerName}
-use Rattle.shown.proofs.Puts.{briefly}
+use Rattle.texts.proofs.Puts.{briefly}
 use borrow.Author.Needs.{needs}
 use Rattle.report.proofs.put_container.Statement.{statement}
 use Rattle.report.proofs.put_container.Tie as tie

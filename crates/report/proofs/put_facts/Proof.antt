@@ -2,7 +2,7 @@
 -- Assumes nothing.
 use Rattle.report.specs.Report.{factsText}
 use native.Mathlib.Omega.{arith}
-use Rattle.shown.proofs.Puts.{told, then}
+use Rattle.texts.proofs.Puts.{told, then}
 use borrow.Author.Needs.{needs}
 use Rattle.report.proofs.put_facts.Statement.{statement}
 use Rattle.report.proofs.put_facts.Tie as tie

@@ -1,7 +1,7 @@
 -- `report::put_picture_json` meets its contract: one label and value after another.
 -- Assumes nothing.
 use Rattle.report.specs.Report.{pictureJson}
-use Rattle.shown.proofs.Puts.{then}
+use Rattle.texts.proofs.Puts.{then}
 use borrow.Author.Needs.{needs}
 use Rattle.report.proofs.put_picture_json.Statement.{statement}
 use Rattle.report.proofs.put_picture_json.Tie as tie
