@@ -8,7 +8,8 @@ ghost use mathlib.Core.Path.{_≡_};
 ghost use mathlib.Core.Bool.{true};
 ghost use Prim.Native.Nat.{_<_, _≤_};
 ghost use lib.ListN.{length};
-ghost use Rattle.levels.specs.Levels.{baseOf, isTyped, countOf, ktxHeld, hasLevels, heldOf, sizeIn, sizeAt, sizesIn, orderOf, keysEnd};
+ghost use Rattle.levels.specs.Levels.{baseOf, isTyped, countOf, ktxHeld, hasLevels, heldOf};
+ghost use Rattle.levels.specs.Levels.{sizeIn, sizeAt, sizesIn, orderOf, keysEnd};
 
 // OpenGL's number of what a format of blocks shows.
 fn base_of(number: usize) -> usize
