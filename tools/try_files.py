@@ -5,11 +5,12 @@ import resource
 import shutil
 import signal
 import stat
+import struct
 import subprocess
 import tempfile
 import time
 
-from try_common import TOOL, content, example, large, note, unpack, write
+from try_common import KTX, TOOL, content, example, large, note, unpack, write
 
 OLD, KINDS, GLOW = example("old.pkm"), example("kinds.ktx"), example("glow.ktx")
 
@@ -272,7 +273,7 @@ def moved(room):
 
 
 def inputs(room):
-    """What is no ordinary file, and standard input."""
+    """What is no ordinary file, also as standard input."""
     pipe = os.path.join(room, "pipe")
     os.mkfifo(pipe)
     out = os.path.join(room, "out.png")
@@ -290,6 +291,12 @@ def inputs(room):
     note(run.returncode == 36 and b"terminal" in run.stderr, "no PNG to a terminal")
     os.close(master)
     os.close(terminal)
+    note(listing(room) == ["pipe"], "nothing is left of what is no ordinary file")
+
+
+def streams(room):
+    """Standard input is read as far as its header asks for, and a file that it brings is the same as one with a name."""
+    out = os.path.join(room, "out.png")
     for name in ("old", "kinds", "glow"):
         data = content(OLD if name == "old" else example(name + ".ktx"))
         png = content(example(name + ".png"))
@@ -302,12 +309,29 @@ def inputs(room):
     note(run.returncode == 2 and run.stdout == b"", "a short standard input: nothing is written")
     run = subprocess.run("yes | '%s' - -" % TOOL, shell=True, capture_output=True, timeout=60)
     note(run.returncode == 21 and run.stdout == b"", "an endless standard input: %d" % run.returncode)
-    note(listing(room) == ["pipe"], "nothing is left of standard input")
+    wide = KTX + struct.pack("<14I", 0x04030201, 0, 1, 0, 0x9278, 0x1908, 16385, 4, 0, 0, 1, 1, 0, 65552) + bytes(65552)
+    status, _, sentence = unpack("-", out, input=wide)
+    note(status == 1 and sentence.count("\n") == 1, "standard input that is too wide: %d %s" % (status, sentence))
+    limit = "ulimit -f 1024; { cat '%s'; yes; } | '%s' - -" % (GLOW, TOOL)
+    run = subprocess.run(limit, shell=True, capture_output=True, timeout=60)
+    note(run.stdout == content(example("glow.png")), "a file with an endless stream behind it: no more is kept than it needs: %s" % run.stderr)
+    whole = b"PKM 10" + struct.pack(">5H", 0, 360, 364, 360, 364) + bytes(65520)
+    for data, number in ((whole[:-1], 2), (whole, 0), (whole + b"\0", 6)):
+        status = unpack("--check", "-", input=data)[0]
+        note(status == number, "--check of %d bytes of standard input: %d" % (len(data), status))
+    for size in (65535, 65536, 65537, 131072, 131073):
+        data = write(os.path.join(room, "bare"), bytes(size))
+        words = ["--raw", "etc1", "128", "256"]
+        note(unpack(*words, data, out)[0] == unpack("--force", *words, "-", out, input=content(data))[0], "%d bare bytes of standard input" % size)
+        os.remove(data)
+        if os.path.exists(out):
+            os.remove(out)
+    note(listing(room) == [], "nothing is left of standard input")
 
 
 def cases():
     with tempfile.TemporaryDirectory() as top:
         big = write(os.path.join(top, "big.ktx"), large(4096))
-        for case in (unfinished, modes, two_at_once, names, systems, unlinked, unnamed, several, signals, unread, limits, moved, inputs):
+        for case in (unfinished, modes, two_at_once, names, systems, unlinked, unnamed, several, signals, unread, limits, moved, inputs, streams):
             room = tempfile.mkdtemp(dir=top)
             case(room, big) if case in (two_at_once, signals, limits) else case(room)
