@@ -2,7 +2,7 @@
 -- Assumes nothing.
 use mathlib.Core.Path.{_≡_, _∙_, sym, ap, subst}
 use mathlib.Core.Bool.{true, false}
-use mathlib.Core.List.{List, [], _∷_}
+use mathlib.Core.List.{List}
 use Prim.Native.Nat.{ℕ, zero, suc, _+_, _*_, _/_, _%_, _^_, _<_, _≤_}
 use native.Mathlib.Omega.{arith}
 use lib.ListN.{getD, drop}
@@ -13,14 +13,6 @@ use Rattle.rules.specs.Desktop.{halfWord, paletteIn, colourIndex, alphasIn, alp
 use Rattle.laws.proofs.Between.{alphas-small}
 use Rattle.laws.proofs.Filled.{build-same, getD-build}
 use Rattle.laws.proofs.Word.{Word, palette-word}
-
-pub eight : {a b c d e f g h a' b' c' d' e' f' g' h' : ℕ} → a ≡ a' → b ≡ b' → c ≡ c' → d ≡ d' → e ≡ e' → f ≡ f' → g ≡ g' → h ≡ h'
-    → a ∷ b ∷ c ∷ d ∷ e ∷ f ∷ g ∷ h ∷ [] ≡ a' ∷ b' ∷ c' ∷ d' ∷ e' ∷ f' ∷ g' ∷ h' ∷ []
-eight p q r s t u v w = rw (p, q, r, s, t, u, v, w)
-
--- the word of a known channel
-pub known : {r n : ℕ} (k p b : ℕ) → n ≡ k → r ≡ replaced k p b → r ≡ replaced n p b
-known k p b e f = f ∙ ap (λ (m : ℕ). replaced m p b) (sym e)
 
 -- a place of sixteen, by its row and its column
 by-row : (k : ℕ) → k ≡ 4 * (k / 4) + k % 4

@@ -4,9 +4,10 @@
 use rules::Format;
 use rules::Picture;
 ghost use mathlib.Core.Path.{_≡_};
-ghost use mathlib.Core.Bool.{false};
+ghost use mathlib.Core.Bool.{true, false};
 ghost use Prim.Native.Nat.{ℕ, _+_, _*_, _≤_};
 ghost use lib.ListN.{length, getD};
+ghost use Rattle.rules.specs.Notation.{byte};
 ghost use Rattle.rules.specs.Places.{tile, bytesOf};
 ghost use Rattle.rules.specs.Channels.{redPixel, redGreenPixel};
 ghost use Rattle.rules.specs.Desktop.{bc1Pixel, bc3Pixel};
@@ -14,6 +15,7 @@ ghost use Rattle.rules.specs.Bc7.{bc7Pixel};
 ghost use Rattle.rules.specs.Formats.{sizeOf, showsOf};
 ghost use Rattle.laws.specs.Painted.{Painted};
 ghost use Rattle.consts.specs.Tables.{signedSteps};
+ghost use Rattle.channel.specs.Alphas.{eightAlphas};
 ghost use Rattle.place.specs.Tile.{InTile, Room, numberIn};
 ghost use Rattle.blocks.specs.Run.{Whole, PaintsRow};
 ghost use Rattle.blocks.specs.Colour.{colourSize, coloursFrom, colourShows};
@@ -30,6 +32,18 @@ fn colours_from(alpha: bool) -> usize
     ensures { λ r. ⌜ (r ≡ coloursFrom alpha) × (r + 8 ≡ colourSize alpha) ⌝ }
 {
     if alpha { 8 } else { 0 }
+}
+
+// The eight alphas of a block that has an alpha half. They are made before its colours, which stay in registers then.
+fn alphas_where(alpha: bool, d: &[u8]) -> [i16; 8]
+    requires { ⌜ 8 ≤ length (now d) ⌝ }
+    ensures { λ r. ⌜ (alpha ≡ true → r ≡ eightAlphas (byte (now (d .entry)) 0) (byte (now (d .entry)) 1)) ⌝ }
+{
+    if alpha {
+        channel::eight_alphas(d[0], d[1])
+    } else {
+        [0i16; 8]
+    }
 }
 
 // Paints a block of ETC1, RGB, RGBA1 or RGBA8.
@@ -51,12 +65,13 @@ fn paint_colour(
         (now (image .entry)) (now (image .exit)) ⌝ }
 {
     let at = colours_from(alpha);
+    let eight = alphas_where(alpha, d);
     let px = etc2::colour_block(plain, punch, &d[at..], table);
     if !alpha {
         place::place_whole(px, bx, by, pic, image);
         return;
     }
-    place::place_whole(channel::a8_onto(d, px), bx, by, pic, image);
+    place::place_whole(channel::a8_onto(d, eight, px), bx, by, pic, image);
 }
 
 // Paints n blocks of ETC1, RGB, RGBA1 or RGBA8 beside each other, from column bx on in row by. One loop serves all four, so that a block
@@ -111,12 +126,13 @@ fn run_red(
     ensures { λ _. ⌜ PaintsRow (redPixel signed) 8 (now («data» .entry)) pic bx by n (now (image .entry)) (now (image .exit)) ⌝ }
 {
     let table = consts::alpha_steps();
+    let span = values::span_of(signed);
     let mut i: usize = 0;
     while i < n {
         let from = i * 8;
         let end = from + 8;
         place::place_whole(
-            eac::eacr_block(&data[from..end], signed, &table),
+            eac::eacr_block(&data[from..end], span, &table),
             bx + i,
             by,
             pic,
@@ -140,12 +156,13 @@ fn run_red_green(
     ensures { λ _. ⌜ PaintsRow (redGreenPixel signed) 16 (now («data» .entry)) pic bx by n (now (image .entry)) (now (image .exit)) ⌝ }
 {
     let table = consts::alpha_steps();
+    let span = values::span_of(signed);
     let mut i: usize = 0;
     while i < n {
         let from = i * 16;
         let end = from + 16;
         place::place_whole(
-            eac::eacrg_block(&data[from..end], signed, &table),
+            eac::eacrg_block(&data[from..end], span, &table),
             bx + i,
             by,
             pic,

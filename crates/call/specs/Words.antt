@@ -1,4 +1,4 @@
--- What the words of a call mean: what is asked, the names of formats, and numbers.
+-- What the words of a call mean: what is asked, where the file's name stands, the names of formats, and numbers.
 -- Assumes nothing.
 use mathlib.Core.Bool.{Bool, true, false, cond, not, _&&_}
 use mathlib.Core.List.{List, [], _∷_}
@@ -90,3 +90,16 @@ readOn n (b ∷ l) = cond (ltb 9999 n) None (cond (isDigit b) (readOn (n * 10 + 
 -- a number below 100,000, in digits
 unfoldable pub numberOf : List ℕ → Number
 numberOf word = cond (eqb (length word) 0) None (readOn 0 word)
+
+-- where a call has the name of the file that is read: behind `--raw` or `--more`, FORMAT, WIDTH and HEIGHT, behind `--level N`, behind
+-- one word, or first; a call that reads no file has no such place, and is given the second
+abbrev pub placeOf : Asked → ℕ
+placeOf Picture = 1
+placeOf Level = 3
+placeOf Raw = 5
+placeOf More = 5
+placeOf Check = 2
+placeOf Info = 2
+placeOf Json = 2
+placeOf Help = 2
+placeOf Nothing = 2

@@ -1,9 +1,10 @@
-// The words of a call: what they ask, the names of formats, and numbers. specs/Words.antt says what each means.
+// The words of a call: what they ask, where the file's name stands, the names of formats, and numbers. specs/Words.antt says what each
+// means.
 use rules::Format;
 use textures::Known;
 ghost use mathlib.Core.Path.{_≡_};
 ghost use Prim.Native.Nat.{_<_};
-ghost use Rattle.call.specs.Words.{same, orNamed, formatOf, ofTwo, ofFour, ofSix, meantOf, moreOf, numberOf};
+ghost use Rattle.call.specs.Words.{same, orNamed, formatOf, ofTwo, ofFour, ofSix, meantOf, moreOf, numberOf, placeOf};
 
 // A number that somebody wrote, or none.
 pub enum Number {
@@ -147,4 +148,21 @@ pub fn number_in(word: &[u8]) -> Number
         i += 1;
     }
     Number::Is(number)
+}
+
+// Where the file's name stands among the arguments.
+pub fn place_of(what: Asked) -> usize
+    ensures { λ r. ⌜ r ≡ placeOf what ⌝ }
+{
+    match what {
+        Asked::Picture => 1,
+        Asked::Level => 3,
+        Asked::Raw => 5,
+        Asked::More => 5,
+        Asked::Check => 2,
+        Asked::Info => 2,
+        Asked::Json => 2,
+        Asked::Help => 2,
+        Asked::Nothing => 2,
+    }
 }

@@ -1,19 +1,15 @@
 -- The steps of a channel: small, so that every type holds them.
 -- Assumes nothing.
-use mathlib.Core.Path.{_≡_, _∙_, ap}
+use mathlib.Core.Path.{_≡_}
 use mathlib.Core.List.{List, []}
 use Prim.Native.Nat.{ℕ, _/_, _%_, _<_}
-use native.Mathlib.Omega.{arith}
 use lib.Dec.{eqb, eqb→eq, lit<}
 use lib.IntN.{ℤ, pos}
 use lib.ListN.{length, getD}
 use lib.Signed.{mag}
-use mir.Syntax.{w16}
-use Rattle.rules.specs.Notation.{build}
 use Rattle.rules.specs.Channels.{alphaSteps, alphaStep}
 use Rattle.laws.proofs.Every.{below}
-use Rattle.laws.proofs.Filled.{getD-build}
-use Rattle.laws.proofs.Signed.{small, small-at, held, held-small}
+use Rattle.laws.proofs.Signed.{small, small-at}
 
 -- the step of place k, row by row
 abbrev pub stepAt : List ℕ → ℕ → ℤ
@@ -25,10 +21,3 @@ small-row n j h = small-at 16 (getD alphaSteps n []) (lit< tt) (below (λ k. sma
 
 pub eight-in-row : (n : ℕ) → n < 16 → length (getD alphaSteps n []) ≡ 8
 eight-in-row n h = eqb→eq _ 8 (below (λ k. eqb (length (getD alphaSteps k [])) 8) 16 tt n h)
-
--- small numbers of a list that has a rule, as the machine holds them
-pub held-at : (f : ℕ → ℤ) (l : List ℤ) (k : ℕ) → l ≡ build 16 f → k < 16 → mag (f k) < 256 → held w16 (getD l k (pos 0)) ≡ f k
-held-at f l k e h s =
-    ap (λ (a : List ℤ). held w16 (getD a k (pos 0))) e
-    ∙ ap (held w16) (getD-build f (pos 0) 16 k h)
-    ∙ held-small w16 (f k) (omega (arith, s))

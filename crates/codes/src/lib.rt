@@ -11,7 +11,8 @@ pub fn colours(base: [u8; 3], code: usize) -> [u32; 4]
     requires { ⌜ code < 8 ⌝ }
     ensures { λ r. ⌜ r ≡ halfColours base (stepsOf code) ⌝ }
 {
-    shade::four_colours([base, base, base, base], etc1::code_steps(code), true)
+    let steps = etc1::code_steps(code);
+    shade::four_colours([base, base, base, base], &steps, true)
 }
 
 // The least sum of half h with this code.

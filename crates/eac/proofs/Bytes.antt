@@ -44,6 +44,11 @@ in-order signed low high el eh =
     tested true = refl
     tested false = refl
 
+-- what is added is small
+pub small-added : (signed : Bool) (up : ℕ) → up ≡ added signed → up < 2048
+small-added true up e = omega arith
+small-added false up e = omega arith
+
 -- each of the eight values is small, so that every type holds it
 pub small-whole : (signed : Bool) (d : List ℕ) (j : ℕ) → Raised (added signed) (wholeOf signed d j)
 small-whole signed d j =
@@ -55,6 +60,10 @@ small-eighth signed d j =
     let r = small-whole signed d j in
     let e : natAbs (wholeOf signed d j +ℤ pos (added signed)) ≡ r .value = ap natAbs (+ℤ-comm (wholeOf signed d j) (pos (added signed)) ∙ r .is) in
     omega (arith, e, r .few)
+
+-- the value in their middle as it is held
+pub middle-held : (base : ℤ) {z : ℤ} → base ≡ z → mag base < 4096 → (held w16 base ≡ z) × (mag (held w16 base) < 4096)
+middle-held base e b = let h = held-small w16 base (omega arith) in (h ∙ e, rw h b)
 
 -- a step as it is held
 module _ (d : List ℕ) (steps : List ℤ) (row j : ℕ) (es : steps ≡ getD alphaSteps row []) (er : row ≡ bits 3 0 (byte d 1)) where
@@ -97,6 +106,11 @@ module _ (signed : Bool) (d : List ℕ) (v : ℤ) (j up : ℕ) (e : v ≡ wholeO
       ap (λ (z : ℤ). natAbs (pos up +ℤ z) / 8) e
       ∙ ap (λ (n : ℕ). natAbs (pos n +ℤ wholeOf signed d j) / 8) u
       ∙ ap (λ (z : ℤ). natAbs z / 8) (+ℤ-comm (pos (added signed)) (wholeOf signed d j))
+
+-- eight of them
+module _ (signed : Bool) (d : List ℕ) (wholes : List ℤ) (e : wholes ≡ build 8 (wholeOf signed d)) where
+  pub wholes-at : (j : ℕ) → j < 8 → getD wholes j (pos 0) ≡ wholeOf signed d j
+  wholes-at j h = ap (λ (l : List ℤ). getD l j (pos 0)) e ∙ getD-build (wholeOf signed d) (pos 0) 8 j h
 
 -- what pixel k picks of eight numbers, and of eight that have a rule
 pub picked-at : (d : List ℕ) (eight sixteen : List ℤ) (k : ℕ) → sixteen ≡ build 16 (pickAt d eight) → k < 16 → getD sixteen k (pos 0) ≡ getD eight (numberAt d k) (pos 0)

@@ -2,6 +2,7 @@
 // to a pixel is a picture of numbers, twice as wide with twice the pitch, in which a block has two tiles beside each other.
 use rules::Answer;
 use rules::Picture;
+use values::Span;
 ghost use mathlib.Core.Path.{_≡_};
 ghost use Prim.Native.Nat.{_+_, _*_, _/_, _<_, _≤_};
 ghost use lib.ListN.{length};
@@ -11,6 +12,7 @@ ghost use Rattle.rules.specs.Answers.{limit};
 ghost use Rattle.rules.specs.Channels.{alphaSteps};
 ghost use Rattle.rules.specs.Whole.{wholePicture, ReadsWhole};
 ghost use Rattle.checks.specs.Passed.{Passed};
+ghost use Rattle.values.specs.Spans.{Spans};
 ghost use Rattle.eleven.specs.Lanes.{lanes, twice, paired, Ready, PaintsBlock, PaintsBlocks};
 
 // How many numbers a pixel has: red, and green where there is one.
@@ -49,7 +51,7 @@ fn doubled(pic: Picture) -> Picture
 
 // Paints a block of red that the picture has whole, in column bx and row by of blocks.
 fn whole_red(
-    signed: bool,
+    span: Span,
     d: &[u8],
     table: &[[i8; 8]; 16],
     bx: usize,
@@ -58,16 +60,17 @@ fn whole_red(
     image: &mut [u16],
 )
     requires { ⌜ (8 ≤ length (now d)) × (now table ≡ alphaSteps) × Ready 1 pic (length (now image)) ⌝ }
-    requires { ⌜ (bx * 4 + 4 ≤ pic .width) × (by * 4 + 4 ≤ pic .height) ⌝ }
-    ensures { λ _. ⌜ PaintsBlock 1 signed (now (d .entry)) pic bx by (now (image .entry)) (now (image .exit)) ⌝ }
+    requires { ⌜ (bx * 4 + 4 ≤ pic .width) × (by * 4 + 4 ≤ pic .height) × Spans span ⌝ }
+    ensures { λ _. ⌜ PaintsBlock 1 (span .signed) (now (d .entry)) pic bx by (now (image .entry)) (now (image .exit)) ⌝ }
 {
-    let eight = eac::eight_wholes(d, signed, table);
-    lanes::place_whole(eac::eac_sixteens(d, signed, eight), bx, by, pic, image);
+    let base = values::middle_of(d[0], span.signed);
+    let eight = eac::eight_wholes(d, base, span, table);
+    lanes::place_whole(eac::eac_sixteens(d, span, eight), bx, by, pic, image);
 }
 
 // Paints a block of red and green that the picture has whole.
 fn whole_red_green(
-    signed: bool,
+    span: Span,
     d: &[u8],
     table: &[[i8; 8]; 16],
     bx: usize,
@@ -76,12 +79,16 @@ fn whole_red_green(
     image: &mut [u16],
 )
     requires { ⌜ (16 ≤ length (now d)) × (now table ≡ alphaSteps) × Ready 2 pic (length (now image)) ⌝ }
-    requires { ⌜ (bx * 4 + 4 ≤ pic .width) × (by * 4 + 4 ≤ pic .height) ⌝ }
-    ensures { λ _. ⌜ PaintsBlock 2 signed (now (d .entry)) pic bx by (now (image .entry)) (now (image .exit)) ⌝ }
+    requires { ⌜ (bx * 4 + 4 ≤ pic .width) × (by * 4 + 4 ≤ pic .height) × Spans span ⌝ }
+    ensures { λ _. ⌜ PaintsBlock 2 (span .signed) (now (d .entry)) pic bx by (now (image .entry)) (now (image .exit)) ⌝ }
 {
     let half = &d[8..];
-    let red = eac::eac_sixteens(d, signed, eac::eight_wholes(d, signed, table));
-    let green = eac::eac_sixteens(half, signed, eac::eight_wholes(half, signed, table));
+    let red_base = values::middle_of(d[0], span.signed);
+    let green_base = values::middle_of(half[0], span.signed);
+    let red_eight = eac::eight_wholes(d, red_base, span, table);
+    let green_eight = eac::eight_wholes(half, green_base, span, table);
+    let red = eac::eac_sixteens(d, span, red_eight);
+    let green = eac::eac_sixteens(half, span, green_eight);
     let wide = doubled(pic);
     lanes::place_whole(pairs(red, green, 0), 2 * bx, by, wide, image);
     lanes::place_whole(pairs(red, green, 1), 2 * bx + 1, by, wide, image);
@@ -90,7 +97,7 @@ fn whole_red_green(
 // Paints a block that the picture has whole.
 fn whole_block(
     green: bool,
-    signed: bool,
+    span: Span,
     d: &[u8],
     table: &[[i8; 8]; 16],
     bx: usize,
@@ -99,19 +106,19 @@ fn whole_block(
     image: &mut [u16],
 )
     requires { ⌜ (lanes green * 8 ≤ length (now d)) × (now table ≡ alphaSteps) × Ready (lanes green) pic (length (now image)) ⌝ }
-    requires { ⌜ (bx * 4 + 4 ≤ pic .width) × (by * 4 + 4 ≤ pic .height) ⌝ }
-    ensures { λ _. ⌜ PaintsBlock (lanes green) signed (now (d .entry)) pic bx by (now (image .entry)) (now (image .exit)) ⌝ }
+    requires { ⌜ (bx * 4 + 4 ≤ pic .width) × (by * 4 + 4 ≤ pic .height) × Spans span ⌝ }
+    ensures { λ _. ⌜ PaintsBlock (lanes green) (span .signed) (now (d .entry)) pic bx by (now (image .entry)) (now (image .exit)) ⌝ }
 {
     if green {
-        whole_red_green(signed, d, table, bx, by, pic, image);
+        whole_red_green(span, d, table, bx, by, pic, image);
         return;
     }
-    whole_red(signed, d, table, bx, by, pic, image);
+    whole_red(span, d, table, bx, by, pic, image);
 }
 
 // Paints a block of red, of which the picture may lack a part.
 fn paint_red(
-    signed: bool,
+    span: Span,
     d: &[u8],
     table: &[[i8; 8]; 16],
     bx: usize,
@@ -120,16 +127,17 @@ fn paint_red(
     image: &mut [u16],
 )
     requires { ⌜ (8 ≤ length (now d)) × (now table ≡ alphaSteps) × Ready 1 pic (length (now image)) ⌝ }
-    requires { ⌜ (bx < 0x10000) × (by < 0x10000) ⌝ }
-    ensures { λ _. ⌜ PaintsBlock 1 signed (now (d .entry)) pic bx by (now (image .entry)) (now (image .exit)) ⌝ }
+    requires { ⌜ (bx < 0x10000) × (by < 0x10000) × Spans span ⌝ }
+    ensures { λ _. ⌜ PaintsBlock 1 (span .signed) (now (d .entry)) pic bx by (now (image .entry)) (now (image .exit)) ⌝ }
 {
-    let eight = eac::eight_wholes(d, signed, table);
-    lanes::place(eac::eac_sixteens(d, signed, eight), bx, by, pic, image);
+    let base = values::middle_of(d[0], span.signed);
+    let eight = eac::eight_wholes(d, base, span, table);
+    lanes::place(eac::eac_sixteens(d, span, eight), bx, by, pic, image);
 }
 
 // Paints a block of red and green, of which the picture may lack a part.
 fn paint_red_green(
-    signed: bool,
+    span: Span,
     d: &[u8],
     table: &[[i8; 8]; 16],
     bx: usize,
@@ -138,12 +146,16 @@ fn paint_red_green(
     image: &mut [u16],
 )
     requires { ⌜ (16 ≤ length (now d)) × (now table ≡ alphaSteps) × Ready 2 pic (length (now image)) ⌝ }
-    requires { ⌜ (bx < 0x10000) × (by < 0x10000) ⌝ }
-    ensures { λ _. ⌜ PaintsBlock 2 signed (now (d .entry)) pic bx by (now (image .entry)) (now (image .exit)) ⌝ }
+    requires { ⌜ (bx < 0x10000) × (by < 0x10000) × Spans span ⌝ }
+    ensures { λ _. ⌜ PaintsBlock 2 (span .signed) (now (d .entry)) pic bx by (now (image .entry)) (now (image .exit)) ⌝ }
 {
     let half = &d[8..];
-    let red = eac::eac_sixteens(d, signed, eac::eight_wholes(d, signed, table));
-    let green = eac::eac_sixteens(half, signed, eac::eight_wholes(half, signed, table));
+    let red_base = values::middle_of(d[0], span.signed);
+    let green_base = values::middle_of(half[0], span.signed);
+    let red_eight = eac::eight_wholes(d, red_base, span, table);
+    let green_eight = eac::eight_wholes(half, green_base, span, table);
+    let red = eac::eac_sixteens(d, span, red_eight);
+    let green = eac::eac_sixteens(half, span, green_eight);
     let wide = doubled(pic);
     lanes::place(pairs(red, green, 0), 2 * bx, by, wide, image);
     lanes::place(pairs(red, green, 1), 2 * bx + 1, by, wide, image);
@@ -152,7 +164,7 @@ fn paint_red_green(
 // Paints a block, of which the picture may lack a part.
 fn paint_block(
     green: bool,
-    signed: bool,
+    span: Span,
     d: &[u8],
     table: &[[i8; 8]; 16],
     bx: usize,
@@ -161,14 +173,14 @@ fn paint_block(
     image: &mut [u16],
 )
     requires { ⌜ (lanes green * 8 ≤ length (now d)) × (now table ≡ alphaSteps) × Ready (lanes green) pic (length (now image)) ⌝ }
-    requires { ⌜ (bx < 0x10000) × (by < 0x10000) ⌝ }
-    ensures { λ _. ⌜ PaintsBlock (lanes green) signed (now (d .entry)) pic bx by (now (image .entry)) (now (image .exit)) ⌝ }
+    requires { ⌜ (bx < 0x10000) × (by < 0x10000) × Spans span ⌝ }
+    ensures { λ _. ⌜ PaintsBlock (lanes green) (span .signed) (now (d .entry)) pic bx by (now (image .entry)) (now (image .exit)) ⌝ }
 {
     if green {
-        paint_red_green(signed, d, table, bx, by, pic, image);
+        paint_red_green(span, d, table, bx, by, pic, image);
         return;
     }
-    paint_red(signed, d, table, bx, by, pic, image);
+    paint_red(span, d, table, bx, by, pic, image);
 }
 
 // How many blocks of row by the picture has whole.
@@ -186,16 +198,17 @@ fn whole_in(pic: Picture, by: usize) -> usize
 // stored to be loaded again (docs/PERFORMANCE.md).
 fn paint_whole(
     green: bool,
-    signed: bool,
+    span: Span,
     data: &[u8],
     by: usize,
     pic: Picture,
     image: &mut [u16],
 ) -> usize
-    requires { ⌜ (blocks pic * (lanes green * 8) ≤ length (now «data»)) × (by < across (pic .height)) × (pic .height ≤ limit) ⌝ }
+    requires { ⌜ (blocks pic * (lanes green * 8) ≤ length (now «data»)) × (by < across (pic .height)) × (pic .height ≤ limit)
+        × Spans span ⌝ }
     requires { ⌜ Ready (lanes green) pic (length (now image)) ⌝ }
-    ensures { λ r. ⌜ (r ≤ across (pic .width)) × PaintsBlocks (lanes green) signed (now («data» .entry)) pic (by * across (pic .width))
-        (by * across (pic .width) + r) (now (image .entry)) (now (image .exit)) ⌝ }
+    ensures { λ r. ⌜ (r ≤ across (pic .width)) × PaintsBlocks (lanes green) (span .signed) (now («data» .entry)) pic
+        (by * across (pic .width)) (by * across (pic .width) + r) (now (image .entry)) (now (image .exit)) ⌝ }
 {
     let row = checks::across(pic.width);
     let n = whole_in(pic, by);
@@ -206,28 +219,29 @@ fn paint_whole(
     while bx < n {
         let from = (first + bx) * s;
         let end = from + s;
-        whole_block(green, signed, &data[from..end], &table, bx, by, pic, image);
+        whole_block(green, span, &data[from..end], &table, bx, by, pic, image);
         bx += 1;
     }
     n
 }
 
 // Paints the blocks of row by.
-fn paint_row(green: bool, signed: bool, data: &[u8], by: usize, pic: Picture, image: &mut [u16])
-    requires { ⌜ (blocks pic * (lanes green * 8) ≤ length (now «data»)) × (by < across (pic .height)) × (pic .height ≤ limit) ⌝ }
+fn paint_row(green: bool, span: Span, data: &[u8], by: usize, pic: Picture, image: &mut [u16])
+    requires { ⌜ (blocks pic * (lanes green * 8) ≤ length (now «data»)) × (by < across (pic .height)) × (pic .height ≤ limit)
+        × Spans span ⌝ }
     requires { ⌜ Ready (lanes green) pic (length (now image)) ⌝ }
-    ensures { λ _. ⌜ PaintsBlocks (lanes green) signed (now («data» .entry)) pic (by * across (pic .width))
+    ensures { λ _. ⌜ PaintsBlocks (lanes green) (span .signed) (now («data» .entry)) pic (by * across (pic .width))
         (by * across (pic .width) + across (pic .width)) (now (image .entry)) (now (image .exit)) ⌝ }
 {
     let row = checks::across(pic.width);
     let table = consts::alpha_steps();
     let s = lanes_of(green) * 8;
     let first = by * row;
-    let mut bx = paint_whole(green, signed, data, by, pic, image);
+    let mut bx = paint_whole(green, span, data, by, pic, image);
     while bx < row {
         let at = (first + bx) * s;
         let end = at + s;
-        paint_block(green, signed, &data[at..end], &table, bx, by, pic, image);
+        paint_block(green, span, &data[at..end], &table, bx, by, pic, image);
         bx += 1;
     }
 }
@@ -238,9 +252,10 @@ fn paint(green: bool, signed: bool, data: &[u8], pic: Picture, image: &mut [u16]
     ensures { λ _. ⌜ now (image .exit) ≡ wholePicture signed (lanes green) pic (now («data» .entry)) (now (image .entry)) ⌝ }
 {
     let rows = checks::across(pic.height);
+    let span = values::span_of(signed);
     let mut by: usize = 0;
     while by < rows {
-        paint_row(green, signed, data, by, pic, image);
+        paint_row(green, span, data, by, pic, image);
         by += 1;
     }
 }

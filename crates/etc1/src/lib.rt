@@ -89,9 +89,9 @@ pub fn code_steps(code: usize) -> [i16; 4]
 }
 
 // The colours of both halves, from their base colours and their steps. Where a block is not opaque, index 2 is transparent.
-pub fn both_halves(c: [[u8; 3]; 3], first: [i16; 4], second: [i16; 4], opaque: bool) -> [u32; 8]
-    requires { ⌜ Steps opaque first × Steps opaque second ⌝ }
-    ensures { λ r. ⌜ r ≡ eight (λ h. shades opaque (getD c h []) (ofHalf first second h)) ⌝ }
+pub fn both_halves(c: [[u8; 3]; 3], first: &[i16; 4], second: &[i16; 4], opaque: bool) -> [u32; 8]
+    requires { ⌜ Steps opaque (now first) × Steps opaque (now second) ⌝ }
+    ensures { λ r. ⌜ r ≡ eight (λ h. shades opaque (getD c h []) (ofHalf (now (first .entry)) (now (second .entry)) h)) ⌝ }
 {
     let a = shade::four_colours([c[0], c[0], c[0], c[0]], first, opaque);
     let b = shade::four_colours([c[1], c[1], c[1], c[1]], second, opaque);

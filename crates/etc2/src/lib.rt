@@ -37,9 +37,9 @@ fn both_halves(d: &[u8], kind: Kind, opaque: bool, table: &[[i16; 4]; 16]) -> [u
     ensures { λ r. ⌜ r ≡ eight (halvesColours opaque kind (now (d .entry))) ⌝ }
 {
     let from = first_row(opaque);
-    let first = table[from + (d[3] / 32 % 8) as usize];
-    let second = table[from + (d[3] / 4 % 8) as usize];
-    etc1::both_halves(bases_of(d, kind), first, second, opaque)
+    let first = from + (d[3] / 32 % 8) as usize;
+    let second = from + (d[3] / 4 % 8) as usize;
+    etc1::both_halves(bases_of(d, kind), &table[first], &table[second], opaque)
 }
 
 // The eight colours of a block that is not planar.

@@ -1,179 +1,15 @@
-// The levels of a texture file: where each stands, whether all are there as the file tells, and the picture of one of them.
+// The levels of a texture file: how many it tells of, where the size of each stands, and the picture of one of them.
 // specs/Levels.antt says which. A PKM file has one.
-use rules::Format;
-use rules::Picture;
 use textures::Header;
 use textures::Known;
 use textures::Texture;
+use walks::Level;
 ghost use mathlib.Core.Path.{_≡_};
 ghost use mathlib.Core.Bool.{true};
-ghost use Prim.Native.Nat.{_+_, _/_, _<_, _≤_};
+ghost use Prim.Native.Nat.{_<_, _≤_};
 ghost use lib.ListN.{length};
-ghost use Rattle.textures.specs.Textures.{bytesFor, fileLimit};
-ghost use Rattle.levels.specs.Levels.{halfOf, nextOf, levelOf, levelSaid, levelsSaid, baseOf, isTyped, countOf};
-ghost use Rattle.levels.specs.Levels.{pickedOf, chosenOf, ktxHeld, hasLevels, heldOf, sizeIn, sizeAt, sizesIn, orderOf, keysEnd};
-
-// A level: its sides, and where its size stands in the file.
-pub struct Level {
-    pub width: usize,
-    pub height: usize,
-    pub at: usize,
-}
-
-// What is to be said of levels.
-pub enum Said {
-    Right,
-    // the file ends before one of them does
-    Missing,
-    // one has another size than its blocks need, or follows one of a single pixel
-    Disagree,
-}
-
-// Half a side, and 1 at the least.
-fn half(side: usize) -> usize
-    ensures { λ r. ⌜ (r ≡ halfOf side) × (r ≤ 1 + side / 2) ⌝ }
-{
-    if side < 2 {
-        return 1;
-    }
-    side / 2
-}
-
-// The bytes of a level's blocks.
-fn bytes_of(f: Format, l: Level) -> usize
-    requires { ⌜ (l .width ≤ fileLimit) × (l .height ≤ fileLimit) ⌝ }
-    ensures { λ r. ⌜ (r ≡ bytesFor f (l .width) (l .height)) × (r ≤ 0x100000000) ⌝ }
-{
-    let pic = Picture {
-        width: l.width,
-        height: l.height,
-        pitch: l.width,
-    };
-    checks::blocks_of(pic) * checks::size(f)
-}
-
-// The level behind a level.
-fn next(f: Format, l: Level) -> Level
-    requires { ⌜ (l .width ≤ fileLimit) × (l .height ≤ fileLimit) × (l .at < 0x10000000000) ⌝ }
-    ensures { λ r. ⌜ (r ≡ nextOf f l) × (r .width ≤ fileLimit) × (r .height ≤ fileLimit) × (r .at ≤ l .at + 0x100000004) ⌝ }
-{
-    let bytes = bytes_of(f, l);
-    let at = l.at + 4 + bytes;
-    Level {
-        width: half(l.width),
-        height: half(l.height),
-        at: at,
-    }
-}
-
-// Level n, counted from a first one.
-fn level_of(f: Format, first: Level, n: usize) -> Level
-    requires { ⌜ (first .width ≤ fileLimit) × (first .height ≤ fileLimit) × (first .at < 0x200000000) × (n ≤ 15) ⌝ }
-    ensures { λ r. ⌜ (r ≡ levelOf f first n) × (r .width ≤ fileLimit) × (r .height ≤ fileLimit) × (r .at < 0x10000000000) ⌝ }
-{
-    let mut l = first;
-    let mut i: usize = 0;
-    while i < n {
-        l = next(f, l);
-        i += 1;
-    }
-    l
-}
-
-// What is to be said of a level, which is the i-th and has another behind it or none.
-fn level_said(
-    order: bool,
-    f: Format,
-    l: Level,
-    i: usize,
-    more: bool,
-    sizes: &[u8],
-    len: usize,
-) -> Said
-    requires { ⌜ (l .width ≤ fileLimit) × (l .height ≤ fileLimit) × (l .at < 0x10000000000) × (i ≤ 15) ⌝ }
-    ensures { λ r. ⌜ r ≡ levelSaid order f len (now (sizes .entry)) i more l ⌝ }
-{
-    let bytes = bytes_of(f, l);
-    if len < l.at + 4 + bytes {
-        return Said::Missing;
-    }
-    if sizes.len() < 4 * i + 4 {
-        return Said::Missing;
-    }
-    if header::word(order, sizes, 4 * i) != bytes {
-        return Said::Disagree;
-    }
-    if !more {
-        return Said::Right;
-    }
-    if 1 < l.width {
-        return Said::Right;
-    }
-    if 1 < l.height {
-        return Said::Right;
-    }
-    Said::Disagree
-}
-
-// What is to be said of so many levels.
-fn levels_said(order: bool, f: Format, first: Level, count: usize, sizes: &[u8], len: usize) -> Said
-    requires { ⌜ (first .width ≤ fileLimit) × (first .height ≤ fileLimit) × (first .at < 0x200000000) × (count ≤ 15) ⌝ }
-    ensures { λ r. ⌜ r ≡ levelsSaid order f len (now (sizes .entry)) count 0 first ⌝ }
-{
-    let mut l = first;
-    let mut i: usize = 0;
-    while i < count {
-        let said = level_said(order, f, l, i, i + 1 < count, sizes, len);
-        let Said::Right = said else {
-            return said;
-        };
-        l = next(f, l);
-        i += 1;
-    }
-    Said::Right
-}
-
-// The picture of level n of so many.
-fn picked(f: Format, first: Level, count: usize, n: usize) -> Header
-    requires { ⌜ (first .width ≤ fileLimit) × (first .height ≤ fileLimit) × (first .at < 0x200000000) × (count ≤ 15) ⌝ }
-    ensures { λ r. ⌜ r ≡ pickedOf f first count n ⌝ }
-{
-    if count <= n {
-        return Header::NoLevel;
-    }
-    let l = level_of(f, first, n);
-    let bytes = bytes_of(f, l);
-    let start = l.at + 4;
-    Header::Holds(Texture {
-        format: f,
-        width: l.width,
-        height: l.height,
-        start: start,
-        bytes: bytes,
-        level: bytes,
-    })
-}
-
-// The same, where all levels are there.
-fn chosen(
-    order: bool,
-    f: Format,
-    first: Level,
-    count: usize,
-    n: usize,
-    sizes: &[u8],
-    len: usize,
-) -> Header
-    requires { ⌜ (first .width ≤ fileLimit) × (first .height ≤ fileLimit) × (first .at < 0x200000000) × (count ≤ 15) ⌝ }
-    ensures { λ r. ⌜ r ≡ chosenOf (levelsSaid order f len (now (sizes .entry)) count 0 first) (pickedOf f first count n) ⌝ }
-{
-    let said = levels_said(order, f, first, count, sizes, len);
-    match said {
-        Said::Right => picked(f, first, count, n),
-        Said::Missing => Header::LevelsMissing,
-        Said::Disagree => Header::SizesDisagree,
-    }
-}
+ghost use Rattle.levels.specs.Levels.{baseOf, isTyped, countOf, ktxHeld, hasLevels, heldOf};
+ghost use Rattle.levels.specs.Levels.{sizeIn, sizeAt, sizesIn, orderOf, keysEnd};
 
 // OpenGL's number of what a format of blocks shows.
 fn base_of(number: usize) -> usize
@@ -245,7 +81,7 @@ fn ktx_held(t: Texture, d: &[u8], sizes: &[u8], keys: bool, n: usize, len: usize
         height: t.height,
         at: header::level_at(d),
     };
-    chosen(order, f, first, count, n, sizes, len)
+    walks::chosen(order, f, first, count, n, sizes, len)
 }
 
 // Whether a file's first bytes are a header that tells of levels: a whole one of KTX.
@@ -300,7 +136,7 @@ fn size_in(known: Known, order: bool, d: &[u8], k: usize) -> usize
         height: height,
         at: header::level_at(d),
     };
-    let l = level_of(f, first, k);
+    let l = walks::level_of(f, first, k);
     l.at
 }
 

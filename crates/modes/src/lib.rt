@@ -42,7 +42,7 @@ pub fn t_colours(d: &[u8], opaque: bool) -> [u32; 8]
 {
     let c = fields::t_fields(d[0], d[1], d[2], d[3]);
     let steps = t_steps(fields::distance(2 * (d[3] / 4 % 4) + d[3] % 2), opaque);
-    let four = shade::four_colours([c[0], c[1], c[1], c[1]], steps, opaque);
+    let four = shade::four_colours([c[0], c[1], c[1], c[1]], &steps, opaque);
     shade::joined(four, four)
 }
 
@@ -53,6 +53,6 @@ pub fn h_colours(d: &[u8], opaque: bool) -> [u32; 8]
 {
     let c = fields::h_fields(d[0], d[1], d[2], d[3]);
     let steps = h_steps(fields::distance(fields::h_number(c, d[3])), opaque);
-    let four = shade::four_colours([c[0], c[0], c[1], c[1]], steps, opaque);
+    let four = shade::four_colours([c[0], c[0], c[1], c[1]], &steps, opaque);
     shade::joined(four, four)
 }

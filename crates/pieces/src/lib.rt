@@ -8,15 +8,11 @@ use rules::Progress;
 use rules::Started;
 use rules::Taken;
 ghost use mathlib.Core.Path.{_≡_};
-ghost use mathlib.Core.List.{_++_};
-ghost use Prim.Native.Nat.{_+_, _-_, _*_, _<_, _≤_, min};
-ghost use lib.ListN.{length, take};
-ghost use Rattle.rules.specs.Places.{blocks};
+ghost use Prim.Native.Nat.{_≤_, min};
+ghost use lib.ListN.{length};
 ghost use Rattle.rules.specs.Answers.{said, limit, verdict};
-ghost use Rattle.rules.specs.Formats.{sizeOf};
 ghost use Rattle.rules.specs.Pieces.{startChecks, Starts, Takes, Ends};
 ghost use Rattle.place.specs.Tile.{Room};
-ghost use Rattle.blocks.specs.Run.{PaintsRun};
 ghost use Rattle.pieces.specs.Took.{Took};
 
 // The checks of starting and of each piece: 1, 12, 3.
@@ -63,36 +59,6 @@ fn least(a: usize, b: usize) -> usize
     if a < b { a } else { b }
 }
 
-// Paints the blocks from number first to last - 1, whose bytes are the kept ones followed by the new ones: every pixel of them, and no
-// other element.
-fn paint_joined(
-    f: Format,
-    pic: Picture,
-    kept: [u8; 15],
-    held: usize,
-    bytes: &[u8],
-    first: usize,
-    last: usize,
-    image: &mut [u32],
-)
-    requires { ⌜ (pic .width ≤ limit) × (pic .height ≤ limit) × (first ≤ last) × (last ≤ blocks pic) × Room pic (length (now image)) ⌝ }
-    requires { ⌜ (held < sizeOf f) × ((last - first) * sizeOf f ≤ held + length (now bytes)) ⌝ }
-    ensures { λ _. ⌜ PaintsRun f (take held kept ++ now (bytes .entry)) pic first last (now (image .entry)) (now (image .exit)) ⌝ }
-{
-    if first == last {
-        return;
-    }
-    if held == 0 {
-        paint::paint(f, bytes, pic, first, last, image);
-        return;
-    }
-    let from = checks::size(f) - held;
-    let second = first + 1;
-    let joint = kept::first_block(kept, held, bytes);
-    paint::paint(f, &joint, pic, first, second, image);
-    paint::paint(f, &bytes[from..], pic, second, last, image);
-}
-
 // Takes a piece into a picture that has passed the checks.
 fn take_piece(p: Progress, bytes: &[u8], image: &mut [u32]) -> Taken
     requires { ⌜ (p .picture .width ≤ limit) × (p .picture .height ≤ limit) × Room (p .picture) (length (now image)) ⌝ }
@@ -111,7 +77,7 @@ fn take_piece(p: Progress, bytes: &[u8], image: &mut [u32]) -> Taken
     let held = got % s;
     let count = last - first;
     let unused = bytes.len() - used;
-    paint_joined(f, pic, kept, held, bytes, first, last, image);
+    joined::paint_joined(f, pic, kept, held, bytes, first, last, image);
     let rest = kept::rest_of(kept, held, bytes, count * s, later % s);
     let progress = Progress {
         format: f,

@@ -1,13 +1,15 @@
--- The test of all specimens, which antt computes over the very definitions that the readers promise; and that these are what
+-- The test of the specimens, which antt computes over the very definitions that the readers promise; and that these are what
 -- they promise. Document 01's rows are in Specimens.antt, those of M-104 in Pitches.antt, those of M-107 in
--- Leftovers.antt, those of M-109 in Opaque.antt, those of other decoders in Recorded.antt.
+-- Leftovers.antt, those of M-109 in Opaque.antt, those of other decoders in Recorded.antt. Of the last those of one block are computed
+-- here, with every edit of a definition, and all of them once, in crate recorded.
 -- Assumes nothing.
 use mathlib.Core.Bool.{Bool, true, false, cond, not, _&&_}
 use mathlib.Core.List.{List, [], _∷_, _++_}
 use mathlib.Core.Path.{_≡_}
 use Prim.Native.Nat.{ℕ, zero, suc, _+_, _/_, _%_}
-use lib.Dec.{T}
+use lib.Dec.{T, leb}
 use lib.IntN.{pos}
+use lib.ListN.{length}
 use Rattle.rules.specs.Notation.{minus, modulo}
 use Rattle.rules.specs.Pixel.{alphaOf, redOf, greenOf, blueOf}
 use Rattle.rules.specs.Places.{sized, pitched, element, needed, inside, bytesOf, bytesFrom, inTile, tile, pixelAt, painted}
@@ -28,7 +30,8 @@ use Rattle.rules.specs.declared.Answer.{Answer}
 use Rattle.rules.specs.declared.Answer.the-variants.{Done, TooLarge, ShortData, ShortImage, OutOfRange, NoChannel, LongData, NotOpaque, ShortPitch}
 use Rattle.rules.specs.declared.Format.the-variants.{Etc2Rgb, Etc2Rgba1}
 use Rattle.rules.proofs.Rows.{Reader, picture, strict, opaque, padded, paddedStrict, paddedOpaque, block, alphaHalf, channel, alphaInto, Row}
-use Rattle.rules.proofs.Rows.{caseOf, bytes, same}
+use Rattle.rules.proofs.Rows.{shows, packed, joins, refuses, answers}
+use Rattle.rules.proofs.Rows.{caseOf, bytes, same, kindNumber}
 use Rattle.rules.proofs.Specimens.{rows, columns, bench, table}
 use Rattle.rules.proofs.Pitches.{pitches}
 use Rattle.rules.proofs.Leftovers.{leftovers}
@@ -36,7 +39,7 @@ use Rattle.rules.proofs.Opaque.{opaques}
 use Rattle.rules.proofs.Recorded.{recorded}
 
 -- what a reader says of the bytes and the image that it is lent, and what it would paint
-verdictOf : Reader → ℕ → ℕ → List ℕ → List ℕ → List ℕ
+unfoldable pub verdictOf : Reader → ℕ → ℕ → List ℕ → List ℕ → List ℕ
 verdictOf (picture f) w h d image = pictureVerdict f (sized w h) d image
 verdictOf strict w h d image = strictVerdict (sized w h) d image
 verdictOf opaque w h d image = opaqueVerdict (sized w h) d image
@@ -48,7 +51,7 @@ verdictOf alphaHalf w h d image = blockVerdict 8 d image
 verdictOf (channel s c) w h d image = channelVerdict c d image
 verdictOf (alphaInto c) w h d image = channelVerdict c d image
 
-paints : Reader → ℕ → ℕ → List ℕ → List ℕ → List ℕ
+unfoldable pub paints : Reader → ℕ → ℕ → List ℕ → List ℕ → List ℕ
 paints (picture f) w h d image = pictureOf f (sized w h) d image
 paints strict w h d image = pictureOf Etc2Rgb (sized w h) d image
 paints opaque w h d image = pictureOf Etc2Rgba1 (sized w h) d image
@@ -60,7 +63,7 @@ paints alphaHalf w h d image = alphaPainted d image
 paints (channel s c) w h d image = channelPainted s d c image
 paints (alphaInto c) w h d image = replacedPainted d c image
 
-leaves : Reader → ℕ → ℕ → List ℕ → List ℕ → List ℕ
+unfoldable pub leaves : Reader → ℕ → ℕ → List ℕ → List ℕ → List ℕ
 leaves reader w h d image = left (verdictOf reader w h d image) (paints reader w h d image) image
 
 -- that is what it promises, no less and no more
@@ -109,15 +112,27 @@ no-more alphaHalf w h d image answer new a b = record { says = a; leaves = b }
 no-more (channel s c) w h d image answer new a b = record { says = a; leaves = b }
 no-more (alphaInto c) w h d image answer new a b = record { says = a; leaves = b }
 
-holds : Row → Bool
+unfoldable pub holds : Row → Bool
 holds row =
     let c = caseOf row in
     same (verdictOf (c .reader) (c .width) (c .height) (c .lent) (c .image)) (c .says)
     && same (leaves (c .reader) (c .width) (c .height) (c .lent) (c .image)) (c .leaves)
 
-every : List Row → Bool
+unfoldable pub every : List Row → Bool
 every [] = true
 every (r ∷ rs) = holds r && every rs
+
+-- whether a row has one block, of eight bytes or of sixteen, each eight as one number; and the rows that have
+isShort : Row → Bool
+isShort (shows r w h blocks pixels spare) = leb (length blocks) 2
+isShort (packed r w h blocks across lines spare) = leb (length blocks) 2
+isShort (joins r w h blocks across old new) = leb (length blocks) 2
+isShort (refuses r w h blocks n verdict) = leb (length blocks) 2
+isShort (answers r w h count n verdict) = leb count 16
+
+short : List Row → List Row
+short [] = []
+short (r ∷ rs) = cond (isShort r) (r ∷ short rs) (short rs)
 
 -- "When the reader says no": the numbers
 numbers : Bool
@@ -189,8 +204,16 @@ orders =
     && notLess (5 ∷ 3 ∷ 9 ∷ []) (5 ∷ 2 ∷ 1 ∷ [])
     && notLess (5 ∷ 3 ∷ 9 ∷ []) (4 ∷ 2 ∷ 1 ∷ [])
 
-hold : T (numbers && tested && words && orders && places && every (bench ++ recorded ++ table ++ pitches ++ leftovers ++ opaques))
-unfolding numbers numbersOf tested words orders places every bench table pitches leftovers opaques recorded verdictOf paints leaves holds marked needed
+-- "red gives T; else green gives H; else blue gives planar": a base of 0 and a step of -1 is a sum out of range
+kinds : Bool
+kinds =
+    same (kindNumber (kindBySums (7 ∷ 7 ∷ 7 ∷ [])) ∷ kindNumber (kindBySums (7 ∷ 7 ∷ 0 ∷ [])) ∷ kindNumber (kindBySums (7 ∷ 0 ∷ 7 ∷ [])) ∷ [])
+    (2 ∷ 2 ∷ 2 ∷ [])
+    && same (kindNumber (kindBySums (0 ∷ 7 ∷ 7 ∷ [])) ∷ kindNumber (kindBySums (0 ∷ 0 ∷ 7 ∷ [])) ∷ kindNumber (kindBySums (0 ∷ 0 ∷ 0 ∷ [])) ∷ [])
+    (3 ∷ 4 ∷ 1 ∷ [])
+
+hold : T (kinds && numbers && tested && words && orders && places && every (bench ++ short recorded ++ table ++ pitches ++ leftovers ++ opaques))
+unfolding kinds short isShort numbers numbersOf tested words orders places every bench table pitches leftovers opaques recorded verdictOf paints leaves holds marked needed
     painted firstOf differential wrapped kindBySums outOfRange tBases tDistance hBases hDistance planarBases planarChannel indexed
     rgbPixel rgba1Pixel etc1Pixel alphaStep alphaByte rgba8Pixel eacValue eacByte redPixel redGreenPixel sizeOf showsOf
     little bc1Pixel bc3Alpha bc3Pixel

@@ -6,6 +6,8 @@ use Prim.Native.Nat.{ℕ, zero, suc, _+_, _/_, _%_}
 use lib.Dec.{eqb}
 use lib.ListN.{length, replicate}
 use Rattle.rules.specs.declared.Format.{Format}
+use Rattle.rules.specs.declared.Kind.{Kind}
+use Rattle.rules.specs.declared.Kind.the-variants.{Individual, Differential, T, H, Planar}
 
 -- a picture of a format, a strict one, an opaque one, all three with a pitch, a block of a format, the alpha half alone, a channel alone,
 -- and a BC3 alpha half into a channel
@@ -81,3 +83,11 @@ same [] [] = true
 same [] (y ∷ ys) = false
 same (x ∷ xs) [] = false
 same (x ∷ xs) (y ∷ ys) = eqb x y && same xs ys
+
+-- kinds, as numbers in the order of their enum
+abbrev pub kindNumber : Kind → ℕ
+kindNumber Individual = 0
+kindNumber Differential = 1
+kindNumber T = 2
+kindNumber H = 3
+kindNumber Planar = 4

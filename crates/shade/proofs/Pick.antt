@@ -1,29 +1,43 @@
--- The bits of an index word, and what a turn of the pick reads.
+-- The number of a pixel by its bits, and what a pixel takes of eight colours.
 -- Assumes nothing.
 use mathlib.Core.Path.{_≡_, _∙_, ap}
 use mathlib.Core.Bool.{Bool, true, false, cond}
 use mathlib.Core.List.{List, [], _∷_}
 use Prim.Native.Nat.{ℕ, _+_, _*_, _/_, _%_, _<_}
 use native.Mathlib.Omega.{arith}
+use lib.Dec.{eqb, eqb→eq}
 use lib.ListN.{getD}
 use Rattle.rules.specs.Notation.{build, bit}
 use Rattle.rules.specs.Colour.{flipped, half, index}
 use Rattle.laws.proofs.Filled.{is-build, length-build, getD-build}
-use Rattle.shade.specs.Pick.{lowWord, highWord, halfAt, eight, taken}
+use Rattle.laws.proofs.Every.{below}
+use Rattle.shade.specs.Pick.{lowWord, highWord, secondHalf, eight, numberAt, taken}
 
--- what a turn reads is what the pixel takes
-pub takes : (d colours : List ℕ) (i h low high : ℕ) → i < 16 → h ≡ halfAt (flipped d) (i / 4) (i % 4) → low % 2 ≡ bit i (lowWord d)
-    → high % 2 ≡ bit i (highWord d) → getD colours (h * 4 + (high % 2 * 2 + low % 2)) 0 ≡ taken d colours (4 * (i % 4) + i / 4)
-unfolding taken
-takes d colours i h low high p eh el ek =
-    let x : (4 * (i % 4) + i / 4) % 4 ≡ i / 4 = omega arith in
-    let y : (4 * (i % 4) + i / 4) / 4 ≡ i % 4 = omega arith in
-    let n : 4 * (i / 4) + i % 4 ≡ i = omega arith in
-    rw (x, y, n, eh, el, ek) (ap (λ (m : ℕ). getD colours m 0) (omega arith))
+-- a bit of the word of the second half is the pixel's half
+pub half-bit : (flip : Bool) (n : ℕ) → n < 16 → bit n (secondHalf flip) ≡ cond flip (n % 4 / 2) (n / 4 / 2)
+half-bit true n h = eqb→eq _ _ (below (λ n. eqb (bit n 0xCCCC) (n % 4 / 2)) 16 tt n h)
+half-bit false n h = eqb→eq _ _ (below (λ n. eqb (bit n 0xFF00) (n / 4 / 2)) 16 tt n h)
+
+-- the three bits of pixel n are the number of the pixel at place k
+pub number : (d : List ℕ) (k n a b c : ℕ) → k < 16 → n ≡ k % 4 * 4 + k / 4
+    → a ≡ bit n (secondHalf (flipped d)) * 4
+    → b ≡ bit n (highWord d) * 2
+    → c ≡ bit n (lowWord d) * 1
+    → a + b + c ≡ numberAt d k
+number d k n a b c h e p q r =
+    let x : n / 4 ≡ k % 4 = omega arith in
+    let y : n % 4 ≡ k / 4 = omega arith in
+    let m : 4 * (k % 4) + k / 4 ≡ n = omega arith in
+    let o : bit n (secondHalf (flipped d)) ≡ half d (k % 4) (k / 4) = rw (← x, ← y) (half-bit (flipped d) n (omega arith)) in
+    rw m (omega (arith, o, p, q, r))
 
 small-half : (f : Bool) (x y : ℕ) → x < 4 → y < 4 → cond f (y / 2) (x / 2) < 2
 small-half true x y p q = omega arith
 small-half false x y p q = omega arith
+
+-- there are eight
+pub small-number : (d : List ℕ) (k : ℕ) → k < 16 → numberAt d k < 8
+small-number d k h = omega (arith, small-half (flipped d) (k % 4) (k / 4) (omega arith) (omega arith))
 
 -- one of eight, by its half and its index
 one : (colours : ℕ → List ℕ) (h i : ℕ) → h < 2 → i < 4 → getD (eight colours) (h * 4 + i) 0 ≡ getD (colours h) i 0

@@ -14,14 +14,18 @@ lowWord d = 256 * byte d 6 + byte d 7
 abbrev pub highWord : List ℕ → ℕ
 highWord d = 256 * byte d 4 + byte d 5
 
--- the half that column x of row y lies in
-abbrev pub halfAt : Bool → ℕ → ℕ → ℕ
-halfAt flip x y = cond flip (y / 2) (x / 2)
+-- the pixels i = 4x + y that lie in half 1, a bit each: rows 2 and 3, or columns 2 and 3
+abbrev pub secondHalf : Bool → ℕ
+secondHalf flip = cond flip 0xCCCC 0xFF00
 
 -- the four colours of half 0, and then those of half 1
 abbrev pub eight : (ℕ → List ℕ) → List ℕ
 eight colours = build 8 (λ n. getD (colours (n / 4)) (n % 4) 0)
 
--- what the pixel at place k, row by row, takes of eight colours
+-- which of eight colours the pixel at place k, row by row, takes
+abbrev pub numberAt : List ℕ → ℕ → ℕ
+numberAt d k = half d (k % 4) (k / 4) * 4 + index d (k % 4) (k / 4)
+
+-- what it takes of them
 unfoldable pub taken : List ℕ → List ℕ → ℕ → ℕ
-taken d colours k = getD colours (half d (k % 4) (k / 4) * 4 + index d (k % 4) (k / 4)) 0
+taken d colours k = getD colours (numberAt d k) 0

@@ -2,12 +2,12 @@
 // kind of ETC2 block but planar share. Colours are made first and picked then, since sixteen sums and clamps take twice as long.
 ghost use mathlib.Core.Path.{_≡_};
 ghost use mathlib.Core.List.{[], _∷_};
-ghost use Prim.Native.Nat.{_+_, _*_, _/_, _%_, _^_, _≤_, _<_};
+ghost use Prim.Native.Nat.{_*_, _≤_, _<_};
 ghost use lib.IntN.{pos, _+ℤ_};
 ghost use lib.ListN.{length, getD};
 ghost use lib.Signed.{mag};
-ghost use Rattle.rules.specs.Notation.{build, clamp, minus};
-ghost use Rattle.shade.specs.Pick.{highWord, lowWord, halfAt, taken};
+ghost use Rattle.rules.specs.Notation.{build, clamp, minus, bit};
+ghost use Rattle.shade.specs.Pick.{secondHalf, numberAt, taken};
 ghost use Rattle.shade.specs.Tone.{shadedWith, alphasWhere, toned, Steps};
 
 // A channel with a step, clamped to a byte. A step of -512 leaves nothing of it.
@@ -43,10 +43,11 @@ fn alphas_where(opaque: bool) -> [u32; 4]
 }
 
 // Four base colours, each with its step: the one way in which a half, T and H make their colours. Where a block is not opaque, index 2 is
-// transparent. That is told by its step and its alpha and not by a choice, so that the compiler makes four colours at once.
-pub fn four_colours(bases: [[u8; 3]; 4], steps: [i16; 4], opaque: bool) -> [u32; 4]
-    requires { ⌜ Steps opaque steps ⌝ }
-    ensures { λ r. ⌜ r ≡ build 4 (λ k. toned opaque k (getD bases k []) (getD steps k (pos 0))) ⌝ }
+// transparent. That is told by its step and its alpha and not by a choice, so that the compiler makes four colours at once. The steps are
+// lent, so that it loads four at once too: a row that is copied out of the table is taken apart.
+pub fn four_colours(bases: [[u8; 3]; 4], steps: &[i16; 4], opaque: bool) -> [u32; 4]
+    requires { ⌜ Steps opaque (now steps) ⌝ }
+    ensures { λ r. ⌜ r ≡ build 4 (λ k. toned opaque k (getD bases k []) (getD (now (steps .entry)) k (pos 0))) ⌝ }
 {
     let alphas = alphas_where(opaque);
     let mut colours = [0u32; 4];
@@ -65,37 +66,50 @@ pub fn joined(a: [u32; 4], b: [u32; 4]) -> [u32; 8]
     [a[0], a[1], a[2], a[3], b[0], b[1], b[2], b[3]]
 }
 
-// The index bits of a block: the high ones above the low ones.
-fn index_bits(d: &[u8]) -> u32
+// A number where a bit of a word is set, and 0 where it is not.
+fn where_set(word: u16, n: u16, value: u16) -> u16
+    requires { ⌜ (n < 16) × (value < 8) ⌝ }
+    ensures { λ r. ⌜ (r ≡ bit n word * value) × (r < 8) ⌝ }
+{
+    if (word >> n) % 2 == 1 { value } else { 0 }
+}
+
+// The pixels i = 4x + y of the second half, a bit each.
+fn second_half(flip: bool) -> u16
+    ensures { λ r. ⌜ r ≡ secondHalf flip ⌝ }
+{
+    if flip { 0xCCCC } else { 0xFF00 }
+}
+
+// Which of eight colours each pixel takes, row by row: four for its half, two for its high bit and one for its low bit. The bits of all
+// pixels are tested at once, since each turn is the same but for the bit's number.
+fn numbers(d: &[u8]) -> [u16; 16]
     requires { ⌜ 8 ≤ length (now d) ⌝ }
-    ensures { λ r. ⌜ (r ≡ highWord (now (d .entry)) * 2 ^ 16 + lowWord (now (d .entry))) × (lowWord (now (d .entry)) < 2 ^ 16) ⌝ }
+    ensures { λ r. ⌜ r ≡ build 16 (numberAt (now (d .entry))) ⌝ }
 {
-    color::two_bytes(d[4], d[5]) * 0x10000 + color::two_bytes(d[6], d[7])
+    let half = second_half(d[3] % 2 == 1);
+    let high = color::two_bytes(d[4], d[5]) as u16;
+    let low = color::two_bytes(d[6], d[7]) as u16;
+    let mut out = [0u16; 16];
+    let mut k: u16 = 0;
+    while k < 16 {
+        let n = k % 4 * 4 + k / 4;
+        out[k as usize] = where_set(half, n, 4) + where_set(high, n, 2) + where_set(low, n, 1);
+        k += 1;
+    }
+    out
 }
 
-// The half of pixel i = 4x + y.
-fn half_of(flip: bool, i: usize) -> usize
-    requires { ⌜ i < 16 ⌝ }
-    ensures { λ r. ⌜ (r ≡ halfAt flip (i / 4) (i % 4)) × (r < 2) ⌝ }
-{
-    if flip { i / 2 % 2 } else { i / 8 }
-}
-
-// The colour of each pixel, row by row, by its half, its high bit and its low bit.
+// The colour of each pixel, row by row.
 pub fn picked(d: &[u8], colours: [u32; 8]) -> [u32; 16]
     requires { ⌜ 8 ≤ length (now d) ⌝ }
     ensures { λ r. ⌜ r ≡ build 16 (taken (now (d .entry)) colours) ⌝ }
 {
-    let order = consts::write_order();
-    let flip = d[3] % 2 == 1;
-    let mut low = index_bits(d);
-    let mut high = low / 0x10000;
+    let number = numbers(d);
     let mut out = [0u32; 16];
     let mut i: usize = 0;
     while i < 16 {
-        out[order[i]] = colours[half_of(flip, i) * 4 + (high % 2 * 2 + low % 2) as usize];
-        low = low / 2;
-        high = high / 2;
+        out[i] = colours[number[i] as usize];
         i += 1;
     }
     out

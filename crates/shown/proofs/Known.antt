@@ -6,8 +6,9 @@ use mathlib.Core.List.{List, [], _∷_, _++_}
 use Prim.Native.Nat.{ℕ, zero, suc}
 use lib.Dec.{T, eqb, ltb}
 use Rattle.keys.specs.Entries.{nextOf}
-use Rattle.shown.specs.Texts.{bytes, shownByte}
-use Rattle.shown.specs.Pens.{nameIn, penAfter, nameSaid, valueSaid, penSaid, penWalked, keysText}
+use Rattle.texts.specs.Texts.{bytes, shownByte}
+use Rattle.pens.specs.Pens.{nameIn, penAfter}
+use Rattle.shown.specs.Keys.{nameSaid, valueSaid, penSaid, penWalked, keysText}
 
 -- characters of ASCII that show, and no quotation mark
 pub harmless : List ℕ → Bool

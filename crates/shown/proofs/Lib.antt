@@ -1,4 +1,2 @@
-pub mod Puts
-pub mod Digits
 pub mod Pens
 pub mod Known

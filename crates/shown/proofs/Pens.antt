@@ -7,10 +7,11 @@ use Prim.Native.Nat.{ℕ, _+_, _≤_, _<_}
 use native.Mathlib.Numerals.{add-one}
 use lib.ListN.{length, take, getD}
 use lib.Seq.{take-suc}
-use Rattle.shown.specs.Texts.{Puts}
-use Rattle.shown.specs.Pens.{penAfter, byteSaid, penSaid, penWalked}
-use Rattle.shown.specs.declared.Pen.{Pen}
-use Rattle.shown.proofs.Puts.{also, renamed}
+use Rattle.texts.specs.Texts.{Puts}
+use Rattle.pens.specs.Pens.{penAfter}
+use Rattle.shown.specs.Keys.{byteSaid, penSaid, penWalked}
+use Rattle.pens.specs.declared.Pen.{Pen}
+use Rattle.texts.proofs.Puts.{also, renamed}
 
 module _ (names json order : Bool) where
   -- bytes that come in two pieces lead where they lead at once

@@ -43,8 +43,7 @@ pub fn read_alpha(data: &[u8], image: &mut [u32]) -> Answer
     let Answer::Done = answer else {
         return answer;
     };
-    let stood = fill::first_sixteen(image);
-    fill::place_block(channel::a8_onto(data, stood), image);
+    channel::a8_over(data, image);
     Answer::Done
 }
 

@@ -1,8 +1,8 @@
 // What a file tells of itself, on standard output. What the text is follows from the file's bytes by functions whose contracts are
-// equations, of crates/facts and crates/shown; reading the bytes and writing the text is all that no contract speaks of.
+// equations, of crates/facts, crates/report and crates/shown; reading the bytes and writing the text is all that no contract speaks of.
 use keys::At;
 use libc::STDOUT_FILENO;
-use shown::Pen;
+use pens::Pen;
 use textures::Texture;
 ghost use mathlib.Core.Path.{_≡_};
 ghost use Prim.Native.Nat.{_<_, _≤_};
@@ -55,7 +55,7 @@ fn tell_piece(
 fn tell_keys(fd: i32, names: bool, json: bool, head: &[u8]) -> Pen {
     let end = levels::keys_end(head);
     let order = levels::order_of(head);
-    let mut pen = shown::begun();
+    let mut pen = pens::begun();
     if !crate::source::seek(fd, 64) {
         return lost(pen);
     }
@@ -76,7 +76,7 @@ fn tell_keys(fd: i32, names: bool, json: bool, head: &[u8]) -> Pen {
 fn told_of_keys(fd: i32, json: bool, head: &[u8]) -> bool {
     let mut text = io::buffer();
     let value = tell_keys(fd, false, json, head);
-    let n = shown::put_between(json, shown::is_told(value), &mut text);
+    let n = shown::put_between(json, pens::is_told(value), &mut text);
     io::write_all(STDOUT_FILENO, &text[..n]);
     let names = tell_keys(fd, true, json, head);
     let m = shown::put_behind(json, &mut text);
@@ -90,7 +90,7 @@ pub fn told(fd: i32, json: bool, t: Texture) -> bool {
     let mut head = [0u8; 64];
     let got = io::count(libc::pread(fd, &mut head, 0), &head);
     let mut text = io::buffer();
-    let n = facts::put_facts(json, facts::facts_of(&head[..got], t), &mut text);
+    let n = report::put_facts(json, facts::facts_of(&head[..got], t), &mut text);
     io::write_all(STDOUT_FILENO, &text[..n]);
     told_of_keys(fd, json, &head[..got])
 }

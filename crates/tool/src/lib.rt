@@ -11,7 +11,7 @@ use textures::Texture;
 
 // Says what a header tells against a picture, and the number of that.
 fn refused(header: Header) -> u64 {
-    let number = words::number_of(header);
+    let number = marks::number_of(header);
     words::refusal(number);
     number
 }

@@ -9,7 +9,6 @@ ghost use Prim.Native.Nat.{_<_, _≤_};
 ghost use lib.ListN.{length};
 ghost use Rattle.io.specs.Counts.{Counts};
 ghost use Rattle.rules.specs.Notation.{clamp};
-ghost use Rattle.tool.specs.Calls.{placeOf};
 
 // An opened file; where the descriptor is negative, the number of the refusal.
 pub struct Source {
@@ -145,23 +144,6 @@ fn bare(len: usize, more: bool) -> Header {
     textures::bare(format, width, height, len, more)
 }
 
-// Where the file's name stands among the arguments.
-fn place_of(what: Asked) -> usize
-    ensures { λ r. ⌜ r ≡ placeOf what ⌝ }
-{
-    match what {
-        Asked::Picture => 1,
-        Asked::Level => 3,
-        Asked::Raw => 5,
-        Asked::More => 5,
-        Asked::Check => 2,
-        Asked::Info => 2,
-        Asked::Json => 2,
-        Asked::Help => 2,
-        Asked::Nothing => 2,
-    }
-}
-
 // What the file holds: by its header, or for bare blocks by the arguments.
 fn told(what: Asked, fd: i32, len: usize) -> Header {
     match what {
@@ -175,7 +157,7 @@ fn told(what: Asked, fd: i32, len: usize) -> Header {
 // Opens the file that the arguments name, and reads its header or takes what the arguments say.
 pub fn named(what: Asked) -> Source {
     let mut path = io::buffer();
-    let n = os::arg(place_of(what), &mut path);
+    let n = os::arg(call::place_of(what), &mut path);
     let fd = os::open_read(&path[..n]);
     if fd < 0 {
         os::fail(&path[..n]);

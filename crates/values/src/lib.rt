@@ -8,6 +8,7 @@ ghost use lib.IntN.{pos, natAbs, _+ℤ_, _*ℤ_};
 ghost use lib.Signed.{mag, ltZ, nonNeg};
 ghost use Rattle.rules.specs.Channels.{signedBase, multiplier};
 ghost use Rattle.rules.specs.Whole.{least, most, between, middle, added, sixteen as sixteenOf};
+ghost use Rattle.values.specs.Spans.{Spans};
 
 // The signed base: a byte as two's complement, where -128 is read as -127.
 fn signed_byte(b: u8) -> i16
@@ -42,14 +43,14 @@ pub fn times_of(m: u8) -> u8
 }
 
 // The least of the values.
-pub fn least_of(signed: bool) -> i16
+fn least_of(signed: bool) -> i16
     ensures { λ r. ⌜ r ≡ least signed ⌝ }
 {
     if signed { -1023 } else { 0 }
 }
 
 // The most of them.
-pub fn most_of(signed: bool) -> i16
+fn most_of(signed: bool) -> i16
     ensures { λ r. ⌜ r ≡ most signed ⌝ }
 {
     if signed { 1023 } else { 2047 }
@@ -78,13 +79,39 @@ pub fn eac_whole(base: i16, m: u8, s: i16, low: i16, high: i16) -> i16
 }
 
 // What makes a value no less than 0.
-pub fn added_of(signed: bool) -> u16
-    ensures { λ r. ⌜ (r ≡ added signed) × (r < 2048) ⌝ }
+fn added_of(signed: bool) -> u16
+    ensures { λ r. ⌜ r ≡ added signed ⌝ }
 {
     if signed { 1023 } else { 0 }
 }
 
-// A value with that added.
+// The numbers in which signed and unsigned values differ.
+pub struct Span {
+    pub signed: bool,
+    // the least and the most of the values
+    pub low: i16,
+    pub high: i16,
+    // what makes a value no less than 0
+    pub up: u16,
+}
+
+// Those of signed or of unsigned values. A reader of many blocks makes them once, before its loop: eight lanes of each are then made
+// once too.
+pub fn span_of(signed: bool) -> Span
+    ensures { λ r. ⌜ (r .signed ≡ signed) × Spans r ⌝ }
+{
+    let low = least_of(signed);
+    let high = most_of(signed);
+    let up = added_of(signed);
+    Span {
+        signed: signed,
+        low: low,
+        high: high,
+        up: up,
+    }
+}
+
+// A value with as much added.
 fn raised(v: i16, up: u16) -> u16
     requires { ⌜ (mag v < 2048) × (up < 2048) × T (nonNeg (pos up +ℤ v)) ⌝ }
     ensures { λ r. ⌜ (pos r ≡ pos up +ℤ v) × (r < 4096) ⌝ }

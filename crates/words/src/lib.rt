@@ -2,11 +2,8 @@
 use guard::Viewer;
 use libc::STDERR_FILENO;
 use libc::STDOUT_FILENO;
-use textures::Header;
-ghost use mathlib.Core.Path.{_≡_};
+use marks::Mark;
 ghost use Prim.Native.Nat.{_<_};
-ghost use Rattle.textures.specs.Textures.{numberOf};
-ghost use Rattle.words.specs.Progress.{markOf};
 
 // The refusals of the tool that no header tells: a number stands here and beside its sentence, in `own_refusal`, and nowhere else but
 // in crates/lines, which stands on no words.
@@ -23,31 +20,6 @@ pub const NO_FILE: u64 = 30;
 pub const NO_PNG: u64 = 31;
 
 pub const NO_CALL: u64 = 32;
-
-// The number of what a header tells.
-pub fn number_of(header: Header) -> u64
-    ensures { λ r. ⌜ r ≡ numberOf header ⌝ }
-{
-    match header {
-        Header::Holds(_) => 0,
-        Header::TooLarge => 1,
-        Header::ShortData => 2,
-        Header::Cut => 20,
-        Header::NoTexture => 21,
-        Header::NoVersion => 22,
-        Header::NoFormat => 23,
-        Header::SizesDisagree => 24,
-        Header::LongLevel(_) => 24,
-        Header::NotFlat => 25,
-        Header::NoPixels => 26,
-        Header::WrongBase => 28,
-        Header::BrokenKeys => 29,
-        Header::LevelsMissing => 37,
-        Header::NoLevel => 38,
-        Header::NoNumber => 39,
-        Header::BytesLeft => 40,
-    }
-}
 
 // Writes a line to standard error.
 fn complain(words: &[u8]) {
@@ -128,38 +100,6 @@ pub fn answer(number: u64) {
     tell(b"\n");
 }
 
-// What is shown of how far the work is: nothing, a row of blocks over the last one that was shown, the last row with a line end, or
-// a line end alone.
-enum Mark {
-    Nothing,
-    Row,
-    Last,
-    End,
-}
-
-// What is shown after so many rows of blocks of a picture, of which the last went well or did not: of a large one every 64th row and
-// the last; where it did not go well, that the line ends that was shown before.
-fn mark_of(done: usize, rows: usize, well: bool) -> Mark
-    ensures { λ r. ⌜ r ≡ markOf done rows well ⌝ }
-{
-    if rows < 256 {
-        return Mark::Nothing;
-    }
-    if !well {
-        if done < 65 {
-            return Mark::Nothing;
-        }
-        return Mark::End;
-    }
-    if done == rows {
-        return Mark::Last;
-    }
-    if done % 64 == 0 {
-        return Mark::Row;
-    }
-    Mark::Nothing
-}
-
 // Shows a row, over what was shown before it in this line.
 fn show_row(done: usize, rows: usize) {
     io::write_all(STDERR_FILENO, b"\rrow of blocks ");
@@ -173,7 +113,7 @@ pub fn progress(done: usize, rows: usize, well: bool) {
     if libc::isatty(STDERR_FILENO) != 1 {
         return;
     }
-    match mark_of(done, rows, well) {
+    match marks::mark_of(done, rows, well) {
         Mark::Nothing => {}
         Mark::Row => show_row(done, rows),
         Mark::Last => {

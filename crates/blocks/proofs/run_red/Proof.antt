@@ -1,28 +1,34 @@
 -- `blocks::run_red` meets its contract: turn i paints block i.
 -- Assumes nothing.
+use mathlib.Core.Bool.{Bool}
+use mathlib.Core.Path.{subst}
 use Prim.Native.Nat.{_-_}
 use native.Mathlib.Omega.{arith}
 use denote.Ref.{now}
 use Rattle.rules.specs.Channels.{redPixel}
 use Rattle.place.proofs.Grid.{kept}
+use Rattle.blocks.specs.Run.{PaintsRow}
 use Rattle.blocks.proofs.Beside.{Turned, start, turn, ended}
 use borrow.Author.Needs.{needs}
 use Rattle.blocks.proofs.run_red.Statement.{statement}
 use Rattle.blocks.proofs.run_red.Tie as tie
 
 abbrev Inv-loop : tie.InvT-loop
-Inv-loop signed «data» n bx by pic image₀ table i₀ image i = Turned (redPixel signed) 8 «data» pic bx by n image₀ image i
+Inv-loop signed «data» n bx by pic image₀ table span i₀ image i = Turned (redPixel (span .signed)) 8 «data» pic bx by n image₀ image i
 
 abbrev μ-loop : tie.MeasureT-loop
-μ-loop signed «data» n bx by pic image₀ table i₀ image i = n - i
+μ-loop signed «data» n bx by pic image₀ table span i₀ image i = n - i
 
 alpha-steps-requires : tie.Need-alpha-steps-requires Inv-loop μ-loop
 alpha-steps-requires c κs = search needs
 
+span-of-requires : tie.Need-span-of-requires Inv-loop μ-loop
+span-of-requires c κs = search needs
+
 loop-holds : tie.Need-loop-holds Inv-loop μ-loop
 loop-holds c =
-    let a = c .before .before .before .args in
-    start (redPixel (a .signed)) 8 (now (a .«data»)) (a .pic) (a .bx) (a .by) (a .n) (now (a .image))
+    let a = c .before .before .before .before .args in
+    start (redPixel (c .span-of .result .signed)) 8 (now (a .«data»)) (a .pic) (a .bx) (a .by) (a .n) (now (a .image))
 
 mul-from : tie.Need-mul-from Inv-loop μ-loop
 mul-from c = search needs
@@ -48,7 +54,7 @@ add-place-whole c = search needs
 place-whole-requires : tie.Need-place-whole-requires Inv-loop μ-loop
 place-whole-requires c κs =
     let l = c .before .before .before .before .before in
-    let s = l .before .before .before .before in
+    let s = l .before .before .before .before .before in
     (omega (arith, s .pre .1 .narrow), s .pre .1 .low, kept (s .args .pic) _ _ (s .pre .1 .room) (l .loop .inv .1 .same))
 
 add-i : tie.Need-add-i Inv-loop μ-loop
@@ -61,9 +67,9 @@ loop-again : tie.Need-loop-again Inv-loop μ-loop
 loop-again c =
     let b = c .before .before .before .before in
     let l = b .before .before .before .before in
-    let s = l .before .before .before .before in
+    let s = l .before .before .before .before .before in
     let a = s .args in
-    turn (redPixel (a .signed)) 8 (now (a .«data»)) (a .pic) (a .bx) (a .by) (a .n) (l .loop .i) (b .eacr-block .result) (now (a .image)) (l .loop .image) _
+    turn (redPixel (l .before .span-of .result .signed)) 8 (now (a .«data»)) (a .pic) (a .bx) (a .by) (a .n) (l .loop .i) (b .eacr-block .result) (now (a .image)) (l .loop .image) _
     (b .before .before .before .loop-test .taken) (s .pre .1 .narrow) (l .loop .inv) (b .eacr-block .ensures) (c .before .before .place-whole .ensures)
 
 same-length : tie.Need-same-length Inv-loop μ-loop
@@ -72,8 +78,10 @@ same-length c = c .before .loop .inv .1 .same
 returns : tie.Need-returns Inv-loop μ-loop
 returns c =
     let l = c .before in
-    let a = l .before .before .before .before .args in
-    ended (redPixel (a .signed)) 8 (now (a .«data»)) (a .pic) (a .bx) (a .by) (a .n) (l .loop .i) (now (a .image)) (l .loop .image) (c .loop-test .left) (l .loop .inv)
+    let z = l .before .span-of in
+    let a = l .before .before .before .before .before .args in
+    subst (λ (t : Bool). PaintsRow (redPixel t) 8 (now (a .«data»)) (a .pic) (a .bx) (a .by) (a .n) (now (a .image)) (l .loop .image)) (z .ensures .0)
+    (ended (redPixel (z .result .signed)) 8 (now (a .«data»)) (a .pic) (a .bx) (a .by) (a .n) (l .loop .i) (now (a .image)) (l .loop .image) (c .loop-test .left) (l .loop .inv))
 
 pub run-red-spec : {M : Type 1} → statement M
 run-red-spec =
@@ -82,6 +90,7 @@ run-red-spec =
     Inv-loop
     μ-loop
     alpha-steps-requires
+    span-of-requires
     loop-holds
     mul-from
     add-end

@@ -13,12 +13,14 @@ code-steps-requires : tie.Need-code-steps-requires
 code-steps-requires c κs = search needs
 
 four-colours-requires : tie.Need-four-colours-requires
-four-colours-requires c κs = steps-opaque (c .code-steps .result) (λ k. rw (c .code-steps .ensures) (small-step (c .before .args .code) k (c .before .pre)))
+four-colours-requires c κs =
+    let s = c .before in
+    steps-opaque (s .code-steps .result) (λ k. rw (s .code-steps .ensures) (small-step (s .before .args .code) k (s .before .pre)))
 
 returns : tie.Need-returns
 returns c =
-    let a = c .before .before .args in
-    c .four-colours .ensures ∙ coloured (a .base) (stepsOf (a .code)) _ (c .before .code-steps .ensures)
+    let a = c .before .before .before .args in
+    c .four-colours .ensures ∙ coloured (a .base) (stepsOf (a .code)) _ (c .before .before .code-steps .ensures)
 
 pub colours-spec : {M : Type 1} → statement M
 colours-spec = tie.close (tie.spec code-steps-requires four-colours-requires returns)

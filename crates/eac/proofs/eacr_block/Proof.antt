@@ -14,19 +14,28 @@ use borrow.Author.Needs.{needs}
 use Rattle.eac.proofs.eacr_block.Statement.{statement}
 use Rattle.eac.proofs.eacr_block.Tie as tie
 
+shared-slice-read-middle-of : tie.Need-shared-slice-read-middle-of
+shared-slice-read-middle-of c = search needs
+
+middle-of-requires : tie.Need-middle-of-requires
+middle-of-requires c κs = search needs
+
 eight-bytes-requires : tie.Need-eight-bytes-requires
 eight-bytes-requires c κs = search needs
 
 eac-bytes-requires : tie.Need-eac-bytes-requires
 eac-bytes-requires c κs =
-    let s = c .before .before in
-    (s .pre .0, eights-are-bytes (s .args .signed) (s .args .d .now) (c .eight-bytes .result) (c .eight-bytes .ensures))
+    let s = c .before .before .before .before in
+    (s .pre .0, eights-are-bytes (s .args .span .signed) (s .args .d .now) (c .eight-bytes .result) (c .eight-bytes .ensures))
 
--- the bytes are the block's
-bytes : (c : tie.After-eac-bytes) → c .eac-bytes .result ≡ build 16 (byteAt (c .before .before .before .args .signed) (c .before .before .before .args .d .now))
+-- what the function was given, and the bytes of the block
+abbrev given : tie.After-eac-bytes → tie.Start
+given c = c .before .before .before .before .before
+
+bytes : (c : tie.After-eac-bytes) → c .eac-bytes .result ≡ build 16 (byteAt (given c .args .span .signed) (given c .args .d .now))
 bytes c =
-    let a = c .before .before .before .args in
-    bytes-of (a .signed) (a .d .now) (c .before .eight-bytes .result) (c .before .eight-bytes .ensures) (c .eac-bytes .result) (c .eac-bytes .ensures)
+    let a = given c .args in
+    bytes-of (a .span .signed) (a .d .now) (c .before .eight-bytes .result) (c .before .eight-bytes .ensures) (c .eac-bytes .result) (c .eac-bytes .ensures)
 
 red-green-requires : tie.Need-red-green-requires
 red-green-requires c κs =
@@ -39,4 +48,11 @@ returns c =
 
 pub eacr-block-spec : {M : Type 1} → statement M
 eacr-block-spec =
-    tie.close (tie.spec eight-bytes-requires eac-bytes-requires red-green-requires returns)
+    tie.close
+    (tie.spec
+    shared-slice-read-middle-of
+    middle-of-requires
+    eight-bytes-requires
+    eac-bytes-requires
+    red-green-requires
+    returns)

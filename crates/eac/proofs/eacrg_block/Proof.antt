@@ -9,7 +9,7 @@ use Rattle.rules.specs.Notation.{build}
 use Rattle.rules.specs.Pixel.{word}
 use Rattle.rules.specs.Channels.{redGreenPixel}
 use Rattle.laws.proofs.Parts.{rest}
-use Rattle.eac.proofs.Bytes.{eights-are-bytes, bytes-of, byteAt, byte-small}
+use Rattle.eac.proofs.Bytes.{middle-held, eights-are-bytes, bytes-of, byteAt, byte-small}
 use borrow.Author.Needs.{needs}
 use Rattle.eac.proofs.eacrg_block.Statement.{statement}
 use Rattle.eac.proofs.eacrg_block.Tie as tie
@@ -23,50 +23,72 @@ part-half-start c = search needs
 part-half-end : tie.Need-part-half-end
 part-half-end c = search needs
 
+shared-slice-read-middle-of : tie.Need-shared-slice-read-middle-of
+shared-slice-read-middle-of c = search needs
+
+middle-of-requires : tie.Need-middle-of-requires
+middle-of-requires c κs = search needs
+
+shared-slice-read-middle-of-2 : tie.Need-shared-slice-read-middle-of-2
+shared-slice-read-middle-of-2 c = search needs
+
+middle-of-requires-2 : tie.Need-middle-of-requires-2
+middle-of-requires-2 c κs = search needs
+
 eight-bytes-requires : tie.Need-eight-bytes-requires
 eight-bytes-requires c κs = search needs
 
+eight-bytes-requires-2 : tie.Need-eight-bytes-requires-2
+eight-bytes-requires-2 c κs =
+    let m = c .before in
+    let s = m .before .before .before .before .before .before in
+    ((search needs, s .pre .1, s .pre .2), middle-held (m .middle-of2 .result) (m .middle-of2 .ensures .0) (m .middle-of2 .ensures .1))
+
 eac-bytes-requires : tie.Need-eac-bytes-requires
 eac-bytes-requires c κs =
-    let s = c .before .before .before in
-    (omega (arith, s .pre .0), eights-are-bytes (s .args .signed) (s .args .d .now) (c .eight-bytes .result) (c .eight-bytes .ensures))
+    let e = c .before in
+    let s = e .before .before .before .before .before .before .before in
+    (omega (arith, s .pre .0), eights-are-bytes (s .args .span .signed) (s .args .d .now) (e .eight-bytes .result) (e .eight-bytes .ensures))
 
-eight-bytes-requires-2 : tie.Need-eight-bytes-requires-2
-eight-bytes-requires-2 c κs = search needs
+-- what the function was given, and its second half
+abbrev given : tie.After-eight-bytes2 → tie.Start
+given c = c .before .before .before .before .before .before .before .before
+
+abbrev half : tie.After-eight-bytes2 → List ℕ
+half c = take (length (given c .args .d .now) - 8) (drop 8 (given c .args .d .now))
 
 eac-bytes-requires-2 : tie.Need-eac-bytes-requires-2
 eac-bytes-requires-2 c κs =
-    let s = c .before .before .before .before .before in
-    (search needs, eights-are-bytes (s .args .signed) (take (length (s .args .d .now) - 8) (drop 8 (s .args .d .now))) (c .eight-bytes2 .result) (c .eight-bytes2 .ensures))
+    let e = c .before in
+    (search needs, eights-are-bytes (given e .args .span .signed) (half e) (e .eight-bytes2 .result) (e .eight-bytes2 .ensures))
 
--- what the function was given, and the bytes of its halves
-abbrev given : tie.After-eac-bytes2 → tie.Start
-given c = c .before .before .before .before .before .before
-
-red : (c : tie.After-eac-bytes2) → c .before .before .eac-bytes .result ≡ build 16 (byteAt (given c .args .signed) (given c .args .d .now))
+-- the bytes of the halves
+red : (c : tie.After-eac-bytes2)
+    → c .before .eac-bytes .result ≡ build 16 (byteAt (given (c .before .before) .args .span .signed) (given (c .before .before) .args .d .now))
 red c =
-    let e = c .before .before in
-    bytes-of (given c .args .signed) (given c .args .d .now) (e .before .eight-bytes .result) (e .before .eight-bytes .ensures) (e .eac-bytes .result) (e .eac-bytes .ensures)
+    let b = c .before in
+    let e = b .before .before in
+    let a = given (b .before) .args in
+    bytes-of (a .span .signed) (a .d .now) (e .eight-bytes .result) (e .eight-bytes .ensures) (b .eac-bytes .result) (b .eac-bytes .ensures)
 
-abbrev half : tie.After-eac-bytes2 → List ℕ
-half c = take (length (given c .args .d .now) - 8) (drop 8 (given c .args .d .now))
-
-green : (c : tie.After-eac-bytes2) → c .eac-bytes2 .result ≡ build 16 (byteAt (given c .args .signed) (half c))
+green : (c : tie.After-eac-bytes2) → c .eac-bytes2 .result ≡ build 16 (byteAt (given (c .before .before) .args .span .signed) (half (c .before .before)))
 green c =
-    bytes-of (given c .args .signed) (half c) (c .before .eight-bytes2 .result) (c .before .eight-bytes2 .ensures) (c .eac-bytes2 .result) (c .eac-bytes2 .ensures)
+    let e = c .before .before in
+    bytes-of (given e .args .span .signed) (half e) (e .eight-bytes2 .result) (e .eight-bytes2 .ensures) (c .eac-bytes2 .result) (c .eac-bytes2 .ensures)
 
 red-green-requires : tie.Need-red-green-requires
-red-green-requires c κs = λ k h. (byte-small _ _ (c .before .before .eac-bytes .result) k (red c) h, byte-small _ _ (c .eac-bytes2 .result) k (green c) h)
+red-green-requires c κs = λ k h. (byte-small _ _ (c .before .eac-bytes .result) k (red c) h, byte-small _ _ (c .eac-bytes2 .result) k (green c) h)
 
 returns : tie.Need-returns
 unfolding redGreenPixel
 returns c =
     let b = c .before in
-    let a = given b .args in
+    let a = given (b .before .before) .args in
+    let t = a .span .signed in
     c .red-green .ensures
     ∙ ap (λ (red : List ℕ). build 16 (λ k. word 255 (getD red k 0) (getD (b .eac-bytes2 .result) k 0) 0)) (red b)
-    ∙ ap (λ (green : List ℕ). build 16 (λ k. word 255 (byteAt (a .signed) (a .d .now) k) (getD green k 0) 0)) (green b)
-    ∙ ap (λ (half : List ℕ). build 16 (λ k. word 255 (byteAt (a .signed) (a .d .now) k) (byteAt (a .signed) half k) 0)) (rest 8 (a .d .now))
+    ∙ ap (λ (green : List ℕ). build 16 (λ k. word 255 (byteAt t (a .d .now) k) (getD green k 0) 0)) (green b)
+    ∙ ap (λ (half : List ℕ). build 16 (λ k. word 255 (byteAt t (a .d .now) k) (byteAt t half k) 0)) (rest 8 (a .d .now))
 
 pub eacrg-block-spec : {M : Type 1} → statement M
 eacrg-block-spec =
@@ -75,9 +97,13 @@ eacrg-block-spec =
     sub-half
     part-half-start
     part-half-end
+    shared-slice-read-middle-of
+    middle-of-requires
+    shared-slice-read-middle-of-2
+    middle-of-requires-2
     eight-bytes-requires
-    eac-bytes-requires
     eight-bytes-requires-2
+    eac-bytes-requires
     eac-bytes-requires-2
     red-green-requires
     returns)

@@ -1,157 +1,37 @@
--- Turn i stores the eighth of value i.
+-- The byte of each of the block's eight values.
 -- Assumes nothing.
-use mathlib.Core.Path.{_≡_, _∙_, refl, ap}
-use Prim.Native.Nat.{_-_}
-use native.Mathlib.Omega.{arith}
+use mathlib.Core.Path.{_∙_, ap}
 use borrow.Author.Needs.{needs}
 use lib.IntN.{pos}
-use mir.Syntax.{w16}
-use Rattle.rules.specs.Channels.{multiplier}
-use Rattle.laws.proofs.Filling.{Filling, inOrder, begun, stored-next, filled-all}
-use Rattle.laws.proofs.Signed.{held, held-small}
-use Rattle.eac.specs.Eights.{wholeOf, eighthOf}
-use Rattle.eac.proofs.Bytes.{step-held, step-small, in-order, whole-at, whole-small, whole-raised, small-eighth, eighth}
+use Rattle.laws.proofs.Filled.{build-same}
+use Rattle.eac.proofs.Bytes.{small-added, wholes-at, whole-small, whole-raised, eighth}
 use Rattle.eac.proofs.eight_bytes.Statement.{statement}
 use Rattle.eac.proofs.eight_bytes.Tie as tie
 
-abbrev Inv-loop : tie.InvT-loop
-Inv-loop d signed table steps base m low high up eight₀ i₀ eight i = Filling inOrder (λ j. pos (eighthOf signed d j)) (pos 0) 8 i eight
+eight-wholes-requires : tie.Need-eight-wholes-requires
+eight-wholes-requires c κs = search needs
 
-abbrev μ-loop : tie.MeasureT-loop
-μ-loop d signed table steps base m low high up eight₀ i₀ eight i = 8 - i
-
-shared-slice-read-row-of : tie.Need-shared-slice-read-row-of Inv-loop μ-loop
-shared-slice-read-row-of c = omega arith
-
-row-of-requires : tie.Need-row-of-requires Inv-loop μ-loop
-row-of-requires c κs = search needs
-
-steps-in-requires : tie.Need-steps-in-requires Inv-loop μ-loop
-steps-in-requires c κs = search needs
-
-shared-slice-read-middle-of : tie.Need-shared-slice-read-middle-of Inv-loop μ-loop
-shared-slice-read-middle-of c = omega arith
-
-middle-of-requires : tie.Need-middle-of-requires Inv-loop μ-loop
-middle-of-requires c κs = search needs
-
-shared-slice-read-multiplier-of : tie.Need-shared-slice-read-multiplier-of Inv-loop μ-loop
-shared-slice-read-multiplier-of c = omega arith
-
-multiplier-of-requires : tie.Need-multiplier-of-requires Inv-loop μ-loop
-multiplier-of-requires c κs = search needs
-
-times-of-requires : tie.Need-times-of-requires Inv-loop μ-loop
-times-of-requires c κs = search needs
-
-least-of-requires : tie.Need-least-of-requires Inv-loop μ-loop
-least-of-requires c κs = search needs
-
-most-of-requires : tie.Need-most-of-requires Inv-loop μ-loop
-most-of-requires c κs = search needs
-
-added-of-requires : tie.Need-added-of-requires Inv-loop μ-loop
-added-of-requires c κs = search needs
-
-loop-holds : tie.Need-loop-holds Inv-loop μ-loop
-loop-holds c = begun inOrder _ (pos 0) 8 _ refl
-
-mul-eac-whole : tie.Need-mul-eac-whole Inv-loop μ-loop
-mul-eac-whole c = omega arith
-
-array-copy-out-eac-whole : tie.Need-array-copy-out-eac-whole Inv-loop μ-loop
-array-copy-out-eac-whole c = omega arith
-
-eac-whole-requires : tie.Need-eac-whole-requires Inv-loop μ-loop
-eac-whole-requires c κs =
-    let o = c .before .before .before .before in
-    let t = o .before .before in
-    let z = t .before .before .before .middle-of in
-    let r = t .before .before .before .before .before in
-    let s = r .before .before .before .before in (
-      rw (held-small w16 (z .result) (omega arith)) (z .ensures .1),
-      omega arith,
-      step-small (s .args .d .now) (r .steps-in .result) (r .before .row-of .result) (c .before .before .loop .i) (r .steps-in .ensures) (r .before .row-of .ensures .0),
-      in-order (s .args .signed) (o .before .least-of .result) (o .most-of .result) (o .before .least-of .ensures) (o .most-of .ensures),
+eighths-requires : tie.Need-eighths-requires
+eighths-requires c κs =
+    let s = c .before .before in
+    let g = s .args in
+    let u = s .pre .0 .2 .raised in
+    let at = wholes-at (g .span .signed) (g .d .now) (c .eight-wholes .result) (c .eight-wholes .ensures) in (
+      small-added (g .span .signed) (g .span .up) u,
+      λ j h. (
+        whole-raised (g .span .signed) (g .d .now) _ j (g .span .up) (at j h) u,
+        whole-small (g .span .signed) (g .d .now) _ j (g .span .up) (at j h) u,
+      ),
     )
 
--- what the function was given
-abbrev given : tie.After-eac-whole Inv-loop μ-loop → tie.Start Inv-loop μ-loop
-given c = c .before .before .before .before .before .before .before .before .before .before .before .before .before .before .before .before
-
--- the value of the turn
-value : (c : tie.After-eac-whole Inv-loop μ-loop) → held w16 (c .eac-whole .result) ≡ wholeOf (given c .args .signed) (given c .args .d .now) (c .before .before .before .loop .i)
-value c =
-    let o = c .before .before .before .before .before in
-    let t = o .before .before in
-    let z = t .before .before .before .middle-of in
-    let r = t .before .before .before .before .before in
-    let d = given c .args .d .now in
-    whole-at (given c .args .signed) d (z .result) (o .before .least-of .result) (o .most-of .result) (c .eac-whole .result) _
-    (t .times-of .result) (c .before .before .before .loop .i) (z .ensures .0) (z .ensures .1) (t .times-of .ensures .0 ∙ ap multiplier (t .before .multiplier-of .ensures .0))
-    (o .before .least-of .ensures) (o .most-of .ensures)
-    (step-held d (r .steps-in .result) (r .before .row-of .result) (c .before .before .before .loop .i) (r .steps-in .ensures) (r .before .row-of .ensures .0))
-    (c .eac-whole .ensures)
-
-byte-of-requires : tie.Need-byte-of-requires Inv-loop μ-loop
-byte-of-requires c κs =
-    let u = c .before .before .before .before .added-of in
-    let g = given c .args in (
-      whole-small (g .signed) (g .d .now) _ (c .before .before .before .loop .i) (u .result) (value c) (u .ensures .0),
-      u .ensures .1,
-      whole-raised (g .signed) (g .d .now) _ (c .before .before .before .loop .i) (u .result) (value c) (u .ensures .0),
-    )
-
-mul-eight : tie.Need-mul-eight Inv-loop μ-loop
-mul-eight c = omega arith
-
-array-set-from-eight : tie.Need-array-set-from-eight Inv-loop μ-loop
-array-set-from-eight c = omega arith
-
-add-i : tie.Need-add-i Inv-loop μ-loop
-add-i c = omega arith
-
-loop-less : tie.Need-loop-less Inv-loop μ-loop
-loop-less c = omega arith
-
-loop-again : tie.Need-loop-again Inv-loop μ-loop
-loop-again c =
+returns : tie.Need-returns
+returns c =
     let w = c .before in
-    let l = w .before .before .before .loop in
-    let u = w .before .before .before .before .added-of in
-    let g = given w .args in
-    stored-next _ (pos 0) 8 (l .eight) (l .i) (l .inv) _ (omega arith)
-    (ap (held w16) (c .byte-of .ensures ∙ ap pos (eighth (g .signed) (g .d .now) _ (l .i) (u .result) (value w) (u .ensures .0)))
-    ∙ held-small w16 (pos (eighthOf (g .signed) (g .d .now) (l .i))) (omega (arith, small-eighth (g .signed) (g .d .now) (l .i))))
-
-returns : tie.Need-returns Inv-loop μ-loop
-returns c = filled-all _ (pos 0) 8 (c .before .loop .eight) (c .before .loop .i) (c .before .loop .inv) (omega arith)
+    let s = w .before .before in
+    let g = s .args in
+    c .eighths .ensures
+    ∙ build-same (pos 0) _ _ 8
+    (λ j h. ap pos (eighth (g .span .signed) (g .d .now) _ j (g .span .up) (wholes-at (g .span .signed) (g .d .now) (w .eight-wholes .result) (w .eight-wholes .ensures) j h) (s .pre .0 .2 .raised)))
 
 pub eight-bytes-spec : {M : Type 1} → statement M
-eight-bytes-spec =
-    tie.close
-    (tie.spec
-    Inv-loop
-    μ-loop
-    shared-slice-read-row-of
-    row-of-requires
-    steps-in-requires
-    shared-slice-read-middle-of
-    middle-of-requires
-    shared-slice-read-multiplier-of
-    multiplier-of-requires
-    times-of-requires
-    least-of-requires
-    most-of-requires
-    added-of-requires
-    loop-holds
-    mul-eac-whole
-    array-copy-out-eac-whole
-    eac-whole-requires
-    byte-of-requires
-    mul-eight
-    array-set-from-eight
-    add-i
-    loop-less
-    loop-again
-    returns)
+eight-bytes-spec = tie.close (tie.spec eight-wholes-requires eighths-requires returns)

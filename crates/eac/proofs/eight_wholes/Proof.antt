@@ -15,10 +15,10 @@ use Rattle.eac.proofs.eight_wholes.Statement.{statement}
 use Rattle.eac.proofs.eight_wholes.Tie as tie
 
 abbrev Inv-loop : tie.InvT-loop
-Inv-loop d signed table steps base m low high eight₀ i₀ eight i = Filling inOrder (λ j. wholeOf signed d j) (pos 0) 8 i eight
+Inv-loop d base span table steps m eight₀ i₀ eight i = Filling inOrder (wholeOf (span .signed) d) (pos 0) 8 i eight
 
 abbrev μ-loop : tie.MeasureT-loop
-μ-loop d signed table steps base m low high eight₀ i₀ eight i = 8 - i
+μ-loop d base span table steps m eight₀ i₀ eight i = 8 - i
 
 shared-slice-read-row-of : tie.Need-shared-slice-read-row-of Inv-loop μ-loop
 shared-slice-read-row-of c = omega arith
@@ -29,12 +29,6 @@ row-of-requires c κs = search needs
 steps-in-requires : tie.Need-steps-in-requires Inv-loop μ-loop
 steps-in-requires c κs = search needs
 
-shared-slice-read-middle-of : tie.Need-shared-slice-read-middle-of Inv-loop μ-loop
-shared-slice-read-middle-of c = omega arith
-
-middle-of-requires : tie.Need-middle-of-requires Inv-loop μ-loop
-middle-of-requires c κs = search needs
-
 shared-slice-read-multiplier-of : tie.Need-shared-slice-read-multiplier-of Inv-loop μ-loop
 shared-slice-read-multiplier-of c = omega arith
 
@@ -43,12 +37,6 @@ multiplier-of-requires c κs = search needs
 
 times-of-requires : tie.Need-times-of-requires Inv-loop μ-loop
 times-of-requires c κs = search needs
-
-least-of-requires : tie.Need-least-of-requires Inv-loop μ-loop
-least-of-requires c κs = search needs
-
-most-of-requires : tie.Need-most-of-requires Inv-loop μ-loop
-most-of-requires c κs = search needs
 
 loop-holds : tie.Need-loop-holds Inv-loop μ-loop
 loop-holds c = begun inOrder _ (pos 0) 8 _ refl
@@ -61,33 +49,34 @@ array-copy-out-eac-whole c = omega arith
 
 eac-whole-requires : tie.Need-eac-whole-requires Inv-loop μ-loop
 eac-whole-requires c κs =
-    let o = c .before .before .before in
-    let t = o .before .before in
-    let z = t .before .before .before .middle-of in
-    let r = t .before .before .before .before .before in
-    let s = r .before .before .before .before in (
-      rw (held-small w16 (z .result) (omega arith)) (z .ensures .1),
+    let l = c .before .before .before .before in
+    let r = l .before .before .before .before in
+    let s = r .before .before .before .before in
+    let a = s .args in (
+      rw (held-small w16 (a .base) (omega arith)) (s .pre .1 .1),
       omega arith,
-      step-small (s .args .d .now) (r .steps-in .result) (r .before .row-of .result) (c .before .before .loop .i) (r .steps-in .ensures) (r .before .row-of .ensures .0),
-      in-order (s .args .signed) (o .before .least-of .result) (o .most-of .result) (o .before .least-of .ensures) (o .most-of .ensures),
+      step-small (a .d .now) (r .steps-in .result) (r .before .row-of .result) (l .loop .i) (r .steps-in .ensures) (r .before .row-of .ensures .0),
+      in-order (a .span .signed) (a .span .low) (a .span .high) (s .pre .0 .2 .from) (s .pre .0 .2 .to),
     )
 
 -- what the function was given
 abbrev given : tie.After-eac-whole Inv-loop μ-loop → tie.Start Inv-loop μ-loop
-given c = c .before .before .before .before .before .before .before .before .before .before .before .before .before .before .before
+given c = c .before .before .before .before .before .before .before .before .before .before .before .before .before
 
 -- the value of the turn
-value : (c : tie.After-eac-whole Inv-loop μ-loop) → held w16 (c .eac-whole .result) ≡ wholeOf (given c .args .signed) (given c .args .d .now) (c .before .before .before .loop .i)
+value : (c : tie.After-eac-whole Inv-loop μ-loop)
+    → held w16 (c .eac-whole .result) ≡ wholeOf (given c .args .span .signed) (given c .args .d .now) (c .before .before .before .before .before .loop .i)
 value c =
-    let o = c .before .before .before .before in
-    let t = o .before .before in
-    let z = t .before .before .before .middle-of in
-    let r = t .before .before .before .before .before in
-    let d = given c .args .d .now in
-    whole-at (given c .args .signed) d (z .result) (o .before .least-of .result) (o .most-of .result) (c .eac-whole .result) _
-    (t .times-of .result) (c .before .before .before .loop .i) (z .ensures .0) (z .ensures .1) (t .times-of .ensures .0 ∙ ap multiplier (t .before .multiplier-of .ensures .0))
-    (o .before .least-of .ensures) (o .most-of .ensures)
-    (step-held d (r .steps-in .result) (r .before .row-of .result) (c .before .before .before .loop .i) (r .steps-in .ensures) (r .before .row-of .ensures .0))
+    let l = c .before .before .before .before .before in
+    let t = l .before in
+    let r = t .before .before .before in
+    let s = given c in
+    let a = s .args in
+    let d = a .d .now in
+    whole-at (a .span .signed) d (a .base) (a .span .low) (a .span .high) (c .eac-whole .result) _
+    (t .times-of .result) (l .loop .i) (s .pre .1 .0) (s .pre .1 .1) (t .times-of .ensures .0 ∙ ap multiplier (t .before .multiplier-of .ensures .0))
+    (s .pre .0 .2 .from) (s .pre .0 .2 .to)
+    (step-held d (r .steps-in .result) (r .before .row-of .result) (l .loop .i) (r .steps-in .ensures) (r .before .row-of .ensures .0))
     (c .eac-whole .ensures)
 
 mul-eight : tie.Need-mul-eight Inv-loop μ-loop
@@ -104,7 +93,7 @@ loop-less c = omega arith
 
 loop-again : tie.Need-loop-again Inv-loop μ-loop
 loop-again c =
-    let l = c .before .before .before .loop in
+    let l = c .before .before .before .before .before .loop in
     stored-next _ (pos 0) 8 (l .eight) (l .i) (l .inv) _ (omega arith) (value c)
 
 returns : tie.Need-returns Inv-loop μ-loop
@@ -119,13 +108,9 @@ eight-wholes-spec =
     shared-slice-read-row-of
     row-of-requires
     steps-in-requires
-    shared-slice-read-middle-of
-    middle-of-requires
     shared-slice-read-multiplier-of
     multiplier-of-requires
     times-of-requires
-    least-of-requires
-    most-of-requires
     loop-holds
     mul-eac-whole
     array-copy-out-eac-whole

@@ -1,7 +1,7 @@
 -- Turn i stores byte i.
 -- Assumes nothing.
 use mathlib.Core.Path.{_≡_, refl, ap}
-use Prim.Native.Nat.{_-_}
+use Prim.Native.Nat.{_-_, _<_}
 use native.Mathlib.Omega.{arith}
 use lib.IntN.{pos, natAbs}
 use lib.ListN.{getD}
@@ -31,12 +31,19 @@ array-copy-out-out c = omega arith
 byte : (c : tie.In-loop Inv-loop μ-loop) → held w16 (getD (c .before .before .args .t1) (c .before .loop .i) (pos 0)) ≡ getD (c .before .before .args .t1) (c .before .loop .i) (pos 0)
 byte c = held-small w16 _ (omega (arith, c .before .before .pre (c .before .loop .i) (omega arith) .1))
 
+-- and that it is one
+is-byte : (c : tie.In-loop Inv-loop μ-loop) → natAbs (getD (c .before .before .args .t1) (c .before .loop .i) (pos 0)) < 256
+is-byte c =
+    let p = c .before .before .pre (c .before .loop .i) (omega arith) in
+    as-natural (getD (c .before .before .args .t1) (c .before .loop .i) (pos 0)) 256 (p .0) (p .1) .1
+
 cast-out : tie.Need-cast-out Inv-loop μ-loop
 cast-out c =
-    let s = c .before .before .before in
-    let p = s .pre (c .before .before .loop .i) (omega arith) in
-    let n = as-natural (getD (s .args .t1) (c .before .before .loop .i) (pos 0)) 256 (p .0) (p .1) .1 in
-    rw (byte (c .before)) (p .0, record { fits = omega (arith, n) })
+    let l = c .before .before in
+    rw (byte (c .before)) (l .before .pre (l .loop .i) (omega arith) .0, record { fits = omega (arith, is-byte (c .before)) })
+
+cast-out-2 : tie.Need-cast-out-2 Inv-loop μ-loop
+cast-out-2 c = rw (byte (c .before)) (record { fits = omega (arith, is-byte (c .before)) })
 
 mul-out-2 : tie.Need-mul-out-2 Inv-loop μ-loop
 mul-out-2 c = omega arith
@@ -61,4 +68,4 @@ returns c = filled-all _ 0 16 (c .before .loop .out) (c .before .loop .i) (c .be
 pub widened-spec : {M : Type 1} → statement M
 widened-spec =
     tie.close
-    (tie.spec Inv-loop μ-loop loop-holds mul-out array-copy-out-out cast-out mul-out-2 array-write-out add-i loop-less loop-again returns)
+    (tie.spec Inv-loop μ-loop loop-holds mul-out array-copy-out-out cast-out cast-out-2 mul-out-2 array-write-out add-i loop-less loop-again returns)

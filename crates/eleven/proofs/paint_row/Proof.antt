@@ -13,10 +13,10 @@ use Rattle.eleven.proofs.paint_row.Statement.{statement}
 use Rattle.eleven.proofs.paint_row.Tie as tie
 
 abbrev Inv-loop : tie.InvT-loop
-Inv-loop green signed «data» by pic image₀ row table s first bx₀ image bx = Turned (lanes green) signed «data» pic by bx₀ image₀ image bx
+Inv-loop green span «data» by pic image₀ row table s first bx₀ image bx = Turned (lanes green) (span .signed) «data» pic by bx₀ image₀ image bx
 
 abbrev μ-loop : tie.MeasureT-loop
-μ-loop green signed «data» by pic image₀ row table s first bx₀ image bx = row - bx
+μ-loop green span «data» by pic image₀ row table s first bx₀ image bx = row - bx
 
 across-requires : tie.Need-across-requires Inv-loop μ-loop
 across-requires c κs = search needs
@@ -43,7 +43,7 @@ loop-holds : tie.Need-loop-holds Inv-loop μ-loop
 loop-holds c =
     let w = c .before .before in
     let a = w .before .before .before .before .before .before .before .args in
-    start (lanes (a .green)) (a .signed) (now (a .«data»)) (a .pic) (a .by) (w .paint-whole .result) _ (w .paint-whole .ensures .0)
+    start (lanes (a .green)) (a .span .signed) (now (a .«data»)) (a .pic) (a .by) (w .paint-whole .result) _ (w .paint-whole .ensures .0)
 
 -- how many blocks the row has, and what is known where the function begins
 abbrev row-of : tie.In-loop Inv-loop μ-loop → tie.After-across Inv-loop μ-loop
@@ -103,7 +103,7 @@ paint-block-requires c κs =
         size-of t .before .alpha-steps .ensures,
         subst (Ready (lanes (s .args .green)) (s .args .pic)) (sym (t .before .loop .inv .2 .same ∙ whole-of t .paint-whole .ensures .1 .same)) (s .pre .1),
       ),
-      (omega (arith, t .loop-test .taken, e, s .pre .1 .narrow), omega (arith, s .pre .0 .1, s .pre .0 .2)),
+      (omega (arith, t .loop-test .taken, e, s .pre .1 .narrow), omega (arith, s .pre .0 .1, s .pre .0 .2), s .pre .0 .3),
     )
 
 add-bx : tie.Need-add-bx Inv-loop μ-loop
@@ -118,7 +118,7 @@ loop-again c =
     let t = p .before .before .before .before in
     let a = start-of t .args in
     let l = t .before .loop in
-    turn (lanes (a .green)) (a .signed) (now (a .«data»)) (a .pic) (a .by) _ (l .bx) (row-of t .across .result) (size-of t .lanes-of .result * 8)
+    turn (lanes (a .green)) (a .span .signed) (now (a .«data»)) (a .pic) (a .by) _ (l .bx) (row-of t .across .result) (size-of t .lanes-of .result * 8)
     _ (l .image) _
     (row-of t .across .ensures) (size t) (t .loop-test .taken) (l .inv) (p .paint-block .ensures)
 
@@ -131,7 +131,7 @@ returns c =
     let w = l .before .before .before .before .before .before .before in
     let a = w .before .before .before .args in
     let p = l .before .before .before .paint-whole in
-    ended (lanes (a .green)) (a .signed) (now (a .«data»)) (a .pic) (a .by) (p .result) (l .loop .bx) (w .across .result) (now (a .image)) _ (l .loop .image)
+    ended (lanes (a .green)) (a .span .signed) (now (a .«data»)) (a .pic) (a .by) (p .result) (l .loop .bx) (w .across .result) (now (a .image)) _ (l .loop .image)
     (w .across .ensures) (c .loop-test .left) (p .ensures .1) (l .loop .inv)
 
 pub paint-row-spec : {M : Type 1} → statement M

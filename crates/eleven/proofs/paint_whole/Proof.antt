@@ -12,10 +12,10 @@ use Rattle.eleven.proofs.paint_whole.Statement.{statement}
 use Rattle.eleven.proofs.paint_whole.Tie as tie
 
 abbrev Inv-loop : tie.InvT-loop
-Inv-loop green signed «data» by pic image₀ row n table s first bx₀ image bx = (bx ≤ n) × Turned (lanes green) signed «data» pic by 0 image₀ image bx
+Inv-loop green span «data» by pic image₀ row n table s first bx₀ image bx = (bx ≤ n) × Turned (lanes green) (span .signed) «data» pic by 0 image₀ image bx
 
 abbrev μ-loop : tie.MeasureT-loop
-μ-loop green signed «data» by pic image₀ row n table s first bx₀ image bx = n - bx
+μ-loop green span «data» by pic image₀ row n table s first bx₀ image bx = n - bx
 
 across-requires : tie.Need-across-requires Inv-loop μ-loop
 across-requires c κs = search needs
@@ -43,7 +43,7 @@ mul-first c =
 loop-holds : tie.Need-loop-holds Inv-loop μ-loop
 loop-holds c =
     let a = c .before .before .before .before .before .before .args in
-    (omega arith, start (lanes (a .green)) (a .signed) (now (a .«data»)) (a .pic) (a .by) 0 (now (a .image)) (omega arith))
+    (omega arith, start (lanes (a .green)) (a .span .signed) (now (a .«data»)) (a .pic) (a .by) 0 (now (a .image)) (omega arith))
 
 -- how many blocks the row has, how many of them are whole, and what is known where the function begins
 abbrev row-of : tie.In-loop Inv-loop μ-loop → tie.After-across Inv-loop μ-loop
@@ -103,7 +103,7 @@ whole-block-requires c κs =
         t .before .before .before .alpha-steps .ensures,
         subst (Ready (lanes (s .args .green)) (s .args .pic)) (sym (t .before .loop .inv .1 .2 .same)) (s .pre .1),
       ),
-      (omega (arith, t .loop-test .taken, w .0), w .1 (omega (arith, t .loop-test .taken))),
+      (omega (arith, t .loop-test .taken, w .0), w .1 (omega (arith, t .loop-test .taken)), s .pre .0 .3),
     )
 
 add-bx : tie.Need-add-bx Inv-loop μ-loop
@@ -119,7 +119,7 @@ loop-again c =
     let a = start-of t .args in
     let l = t .before .loop in (
       omega (arith, t .loop-test .taken),
-      turn (lanes (a .green)) (a .signed) (now (a .«data»)) (a .pic) (a .by) 0 (l .bx) (row-of t .across .result) (t .before .before .lanes-of .result * 8)
+      turn (lanes (a .green)) (a .span .signed) (now (a .«data»)) (a .pic) (a .by) 0 (l .bx) (row-of t .across .result) (t .before .before .lanes-of .result * 8)
           (now (a .image)) (l .image) _
           (row-of t .across .ensures) (size t) (in-row t) (l .inv .1) (p .whole-block .ensures),
     )
@@ -132,8 +132,8 @@ returns c =
     let l = c .before in
     let a = l .before .before .before .before .before .before .before .args in
     let e : l .loop .bx ≡ l .before .before .before .whole-in .result = omega (arith, c .loop-test .left, l .loop .inv .0) in
-    from-first (lanes (a .green)) (a .signed) (now (a .«data»)) (a .pic) (a .by) _ (now (a .image)) (l .loop .image)
-    (subst (λ (m : ℕ). Turned (lanes (a .green)) (a .signed) (now (a .«data»)) (a .pic) (a .by) 0 (now (a .image)) (l .loop .image) m) e (l .loop .inv .1))
+    from-first (lanes (a .green)) (a .span .signed) (now (a .«data»)) (a .pic) (a .by) _ (now (a .image)) (l .loop .image)
+    (subst (λ (m : ℕ). Turned (lanes (a .green)) (a .span .signed) (now (a .«data»)) (a .pic) (a .by) 0 (now (a .image)) (l .loop .image) m) e (l .loop .inv .1))
 
 pub paint-whole-spec : {M : Type 1} → statement M
 paint-whole-spec =

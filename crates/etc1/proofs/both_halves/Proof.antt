@@ -46,7 +46,7 @@ returns : tie.Need-returns
 returns c =
     let a = c .before .before .before .before .before .before .before .before .before .before .before .args in
     c .joined .ensures
-    ∙ halves (λ h. shades (a .opaque) (getD (a .t1) h []) (ofHalf (a .first) (a .second) h)) _ _ (c .before .before .before .before .before .before .four-colours .ensures)
+    ∙ halves (λ h. shades (a .opaque) (getD (a .t1) h []) (ofHalf (a .first .now) (a .second .now) h)) _ _ (c .before .before .before .before .before .before .four-colours .ensures)
     (c .before .four-colours2 .ensures)
 
 pub both-halves-spec : {M : Type 1} → statement M

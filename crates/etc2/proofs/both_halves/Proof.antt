@@ -25,13 +25,7 @@ cast-first : tie.Need-cast-first
 cast-first c = search needs
 
 add-first : tie.Need-add-first
-add-first c = omega arith
-
-mul-first : tie.Need-mul-first
-mul-first c = omega arith
-
-element-copy-out-first : tie.Need-element-copy-out-first
-element-copy-out-first c = omega arith
+add-first c = search needs
 
 shared-slice-read-second : tie.Need-shared-slice-read-second
 shared-slice-read-second c = search needs
@@ -40,25 +34,31 @@ cast-second : tie.Need-cast-second
 cast-second c = search needs
 
 add-second : tie.Need-add-second
-add-second c = omega arith
-
-mul-second : tie.Need-mul-second
-mul-second c = omega arith
-
-element-copy-out-second : tie.Need-element-copy-out-second
-element-copy-out-second c = omega arith
+add-second c = search needs
 
 bases-of-requires : tie.Need-bases-of-requires
 bases-of-requires c κs = search needs
 
+mul-both-halves : tie.Need-mul-both-halves
+mul-both-halves c = search needs
+
+index-1-both-halves : tie.Need-index-1-both-halves
+index-1-both-halves c = search needs
+
+mul-both-halves-2 : tie.Need-mul-both-halves-2
+mul-both-halves-2 c = search needs
+
+index-1-both-halves-2 : tie.Need-index-1-both-halves-2
+index-1-both-halves-2 c = search needs
+
 -- the steps of the two halves
-abbrev given : tie.After-bases-of → tie.Start
+abbrev given : tie.After-both-halves-arg2 → tie.Start
 given c = c .before .before .before .before .before .before .before
 
-abbrev row : tie.After-bases-of → ℕ → List ℤ
+abbrev row : tie.After-both-halves-arg2 → ℕ → List ℤ
 row c h = getD (given c .args .table .now) (c .before .before .before .before .before .first-row .result + code (given c .args .d .now) h) []
 
-is-row : (c : tie.After-bases-of) (h : ℕ) → code (given c .args .d .now) h < 8 → row c h ≡ rowWhere (given c .args .opaque) (code (given c .args .d .now) h)
+is-row : (c : tie.After-both-halves-arg2) (h : ℕ) → code (given c .args .d .now) h < 8 → row c h ≡ rowWhere (given c .args .opaque) (code (given c .args .d .now) h)
 is-row c h m =
     let t = given c .args .table .now in
     let k = code (given c .args .d .now) h in
@@ -78,8 +78,8 @@ returns c =
     let a = given b .args in
     let d = a .d .now in
     c .both-halves .ensures
-    ∙ coloured (a .opaque) (b .bases-of .result) (code d) (row b 0) (row b 1) (is-row b 0 (omega arith)) (is-row b 1 (omega arith))
-    ∙ ap (λ (l : List (List ℕ)). eight (λ h. punched (a .opaque) (halfColours (getD l h []) (stepsWhere (a .opaque) (code d h))))) (b .bases-of .ensures)
+    ∙ coloured (a .opaque) (b .before .before .bases-of .result) (code d) (row b 0) (row b 1) (is-row b 0 (omega arith)) (is-row b 1 (omega arith))
+    ∙ ap (λ (l : List (List ℕ)). eight (λ h. punched (a .opaque) (halfColours (getD l h []) (stepsWhere (a .opaque) (code d h))))) (b .before .before .bases-of .ensures)
 
 pub both-halves-spec : {M : Type 1} → statement M
 both-halves-spec =
@@ -89,13 +89,13 @@ both-halves-spec =
     shared-slice-read-first
     cast-first
     add-first
-    mul-first
-    element-copy-out-first
     shared-slice-read-second
     cast-second
     add-second
-    mul-second
-    element-copy-out-second
     bases-of-requires
+    mul-both-halves
+    index-1-both-halves
+    mul-both-halves-2
+    index-1-both-halves-2
     both-halves-requires
     returns)

@@ -9,7 +9,8 @@ use denote.Ref.{now}
 use Rattle.header.proofs.Picks.{above, upTo}
 use Rattle.textures.specs.declared.Header.{Header}
 use Rattle.header.specs.Files.{greatestFirst}
-use Rattle.levels.specs.Levels.{isTyped, countOf, levelsSaid, pickedOf, chosenOf, ktxHeld}
+use Rattle.walks.specs.Walk.{levelsSaid, pickedOf, chosenOf}
+use Rattle.levels.specs.Levels.{isTyped, countOf, ktxHeld}
 use borrow.Author.Needs.{needs}
 use Rattle.levels.proofs.ktx_held.Statement.{statement}
 use Rattle.levels.proofs.ktx_held.Tie as tie

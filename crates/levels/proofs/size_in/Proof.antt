@@ -4,9 +4,10 @@ use mathlib.Core.Path.{_∙_, ap}
 use native.Mathlib.Omega.{arith}
 use borrow.Author.Tests.{lt-ltb, le-ltb}
 use Rattle.header.proofs.Picks.{above, upTo}
-use Rattle.levels.specs.Levels.{levelOf, sizeIn}
-use Rattle.levels.specs.declared.Level.{Level}
-use Rattle.levels.proofs.Walks.{alike}
+use Rattle.walks.specs.Walk.{levelOf}
+use Rattle.levels.specs.Levels.{sizeIn}
+use Rattle.walks.specs.declared.Level.{Level}
+use Rattle.walks.proofs.Walks.{alike}
 use borrow.Author.Needs.{needs}
 use Rattle.levels.proofs.size_in.Statement.{statement}
 use Rattle.levels.proofs.size_in.Tie as tie

@@ -37,21 +37,21 @@ distance-requires c κs = search needs
 h-steps-requires : tie.Need-h-steps-requires
 h-steps-requires c κs = search needs
 
-array-copy-out-t18 : tie.Need-array-copy-out-t18
-array-copy-out-t18 c = search needs
+array-copy-out-t19 : tie.Need-array-copy-out-t19
+array-copy-out-t19 c = search needs
 
-array-copy-out-t21 : tie.Need-array-copy-out-t21
-array-copy-out-t21 c = search needs
+array-copy-out-t22 : tie.Need-array-copy-out-t22
+array-copy-out-t22 c = search needs
 
-array-copy-out-t24 : tie.Need-array-copy-out-t24
-array-copy-out-t24 c = search needs
+array-copy-out-t25 : tie.Need-array-copy-out-t25
+array-copy-out-t25 c = search needs
 
-array-copy-out-t27 : tie.Need-array-copy-out-t27
-array-copy-out-t27 c = search needs
+array-copy-out-t28 : tie.Need-array-copy-out-t28
+array-copy-out-t28 c = search needs
 
 four-colours-requires : tie.Need-four-colours-requires
 four-colours-requires c κs =
-    let s = c .before .before .before .before in
+    let s = c .before .before .before .before .before in
     let o = s .before .before .before .before .before .before .before .before .before .before .args .opaque in
     rw (s .h-steps .ensures) (steps-h (s .before .distance .result) (s .before .distance .ensures .1) o)
 
@@ -60,12 +60,12 @@ joined-requires c κs = search needs
 
 returns : tie.Need-returns
 returns c =
-    let a = c .before .before .before .before .before .before .before .before .before .before .before .before .before .before .before .before .args in
+    let a = c .before .before .before .before .before .before .before .before .before .before .before .before .before .before .before .before .before .args in
     let d = a .d .now in
-    let f = c .before .before .before .before .before .before .before .before .before .before .h-fields in
-    let n = c .before .before .before .before .before .before .before .before .h-number in
-    let m = c .before .before .before .before .before .before .before .distance in
-    let s = c .before .before .before .before .before .before .h-steps in
+    let f = c .before .before .before .before .before .before .before .before .before .before .before .h-fields in
+    let n = c .before .before .before .before .before .before .before .before .before .h-number in
+    let m = c .before .before .before .before .before .before .before .before .distance in
+    let s = c .before .before .before .before .before .before .before .h-steps in
     let e = c .before .four-colours .ensures ∙ h-four (a .opaque) d (f .result) (s .result) (m .result) (f .ensures) (m .ensures .0 ∙ ap distanceAt (n .ensures .0)) (s .ensures) in
     c .joined .ensures ∙ halves (λ h. punched (a .opaque) (hColours (hBases d) (hDistance d))) _ _ e e
 
@@ -82,10 +82,10 @@ h-colours-spec =
     h-number-requires
     distance-requires
     h-steps-requires
-    array-copy-out-t18
-    array-copy-out-t21
-    array-copy-out-t24
-    array-copy-out-t27
+    array-copy-out-t19
+    array-copy-out-t22
+    array-copy-out-t25
+    array-copy-out-t28
     four-colours-requires
     joined-requires
     returns)

@@ -42,21 +42,21 @@ distance-requires c κs = search needs
 t-steps-requires : tie.Need-t-steps-requires
 t-steps-requires c κs = search needs
 
-array-copy-out-t23 : tie.Need-array-copy-out-t23
-array-copy-out-t23 c = search needs
+array-copy-out-t24 : tie.Need-array-copy-out-t24
+array-copy-out-t24 c = search needs
 
-array-copy-out-t26 : tie.Need-array-copy-out-t26
-array-copy-out-t26 c = search needs
+array-copy-out-t27 : tie.Need-array-copy-out-t27
+array-copy-out-t27 c = search needs
 
-array-copy-out-t29 : tie.Need-array-copy-out-t29
-array-copy-out-t29 c = search needs
+array-copy-out-t30 : tie.Need-array-copy-out-t30
+array-copy-out-t30 c = search needs
 
-array-copy-out-t32 : tie.Need-array-copy-out-t32
-array-copy-out-t32 c = search needs
+array-copy-out-t33 : tie.Need-array-copy-out-t33
+array-copy-out-t33 c = search needs
 
 four-colours-requires : tie.Need-four-colours-requires
 four-colours-requires c κs =
-    let s = c .before .before .before .before in
+    let s = c .before .before .before .before .before in
     let o = s .before .before .before .before .before .before .before .before .before .before .args .opaque in
     rw (s .t-steps .ensures) (steps-t (s .before .distance .result) (s .before .distance .ensures .1) o)
 
@@ -65,11 +65,11 @@ joined-requires c κs = search needs
 
 returns : tie.Need-returns
 returns c =
-    let a = c .before .before .before .before .before .before .before .before .before .before .before .before .before .before .before .before .args in
+    let a = c .before .before .before .before .before .before .before .before .before .before .before .before .before .before .before .before .before .args in
     let d = a .d .now in
-    let f = c .before .before .before .before .before .before .before .before .before .before .t-fields in
-    let m = c .before .before .before .before .before .before .before .distance in
-    let s = c .before .before .before .before .before .before .t-steps in
+    let f = c .before .before .before .before .before .before .before .before .before .before .before .t-fields in
+    let m = c .before .before .before .before .before .before .before .before .distance in
+    let s = c .before .before .before .before .before .before .before .t-steps in
     let e = c .before .four-colours .ensures ∙ t-four (a .opaque) d (f .result) (s .result) (m .result) (f .ensures) (m .ensures .0) (s .ensures) in
     c .joined .ensures ∙ halves (λ h. punched (a .opaque) (tColours (tBases d) (tDistance d))) _ _ e e
 
@@ -88,10 +88,10 @@ t-colours-spec =
     add-distance
     distance-requires
     t-steps-requires
-    array-copy-out-t23
-    array-copy-out-t26
-    array-copy-out-t29
-    array-copy-out-t32
+    array-copy-out-t24
+    array-copy-out-t27
+    array-copy-out-t30
+    array-copy-out-t33
     four-colours-requires
     joined-requires
     returns)

@@ -16,10 +16,10 @@ use Rattle.shade.proofs.four_colours.Statement.{statement}
 use Rattle.shade.proofs.four_colours.Tie as tie
 
 abbrev Inv-loop : tie.InvT-loop
-Inv-loop opaque bases steps alphas colours₀ i₀ colours i = Filling inOrder (λ k. toned opaque k (getD bases k []) (getD steps k (pos 0))) 0 4 i colours
+Inv-loop steps opaque bases alphas colours₀ i₀ colours i = Filling inOrder (λ k. toned opaque k (getD bases k []) (getD steps k (pos 0))) 0 4 i colours
 
 abbrev μ-loop : tie.MeasureT-loop
-μ-loop opaque bases steps alphas colours₀ i₀ colours i = 4 - i
+μ-loop steps opaque bases alphas colours₀ i₀ colours i = 4 - i
 
 alphas-where-requires : tie.Need-alphas-where-requires Inv-loop μ-loop
 alphas-where-requires c κs = search needs
@@ -36,8 +36,8 @@ array-copy-out-applicate-color c = omega arith
 mul-applicate-color-2 : tie.Need-mul-applicate-color-2 Inv-loop μ-loop
 mul-applicate-color-2 c = omega arith
 
-array-copy-out-applicate-color-2 : tie.Need-array-copy-out-applicate-color-2 Inv-loop μ-loop
-array-copy-out-applicate-color-2 c = omega arith
+element-copy-out-applicate-color : tie.Need-element-copy-out-applicate-color Inv-loop μ-loop
+element-copy-out-applicate-color c = omega arith
 
 mul-applicate-color-3 : tie.Need-mul-applicate-color-3 Inv-loop μ-loop
 mul-applicate-color-3 c = omega arith
@@ -46,7 +46,7 @@ array-read-applicate-color : tie.Need-array-read-applicate-color Inv-loop μ-loo
 array-read-applicate-color c = omega arith
 
 -- a small step is held as it is
-small : (c : tie.Start Inv-loop μ-loop) (k : ℕ) → held w16 (getD (c .args .t2) k (pos 0)) ≡ getD (c .args .t2) k (pos 0)
+small : (c : tie.Start Inv-loop μ-loop) (k : ℕ) → held w16 (getD (c .args .steps .now) k (pos 0)) ≡ getD (c .args .steps .now) k (pos 0)
 small c k = held-small w16 _ (omega (arith, c .pre .0 k))
 
 applicate-color-requires : tie.Need-applicate-color-requires Inv-loop μ-loop
@@ -77,7 +77,7 @@ loop-again c =
     let base = getD (s .args .t1) (l .i) [] in
     let made = c .applicate-color .ensures in
     stored-next _ 0 4 (l .colours) (l .i) (l .inv) _ (omega arith)
-    (tone (s .args .opaque) (l .i) _ base (s .args .t2) (omega arith) (s .pre .1)
+    (tone (s .args .opaque) (l .i) _ base (s .args .steps .now) (omega arith) (s .pre .1)
     (made .0 ∙ rw (w, e))
     (λ n z. made .1 (e ∙ n) (rw w z)))
 
@@ -97,7 +97,7 @@ four-colours-spec =
     mul-applicate-color
     array-copy-out-applicate-color
     mul-applicate-color-2
-    array-copy-out-applicate-color-2
+    element-copy-out-applicate-color
     mul-applicate-color-3
     array-read-applicate-color
     applicate-color-requires

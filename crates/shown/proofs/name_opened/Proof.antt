@@ -2,7 +2,7 @@
 -- Assumes nothing.
 use native.Mathlib.Omega.{arith}
 use borrow.Author.Tests.{lt-ltb, le-ltb}
-use Rattle.shown.proofs.Puts.{told, silent}
+use Rattle.texts.proofs.Puts.{told, silent}
 use borrow.Author.Needs.{needs}
 use Rattle.shown.proofs.name_opened.Statement.{statement}
 use Rattle.shown.proofs.name_opened.Tie as tie

@@ -2,7 +2,7 @@
 -- Assumes nothing.
 use native.Mathlib.Omega.{arith}
 use borrow.Author.Tests.{eq-eqb, ne-eqb}
-use Rattle.shown.proofs.Puts.{told}
+use Rattle.texts.proofs.Puts.{told}
 use borrow.Author.Needs.{needs}
 use Rattle.shown.proofs.name_told.Statement.{statement}
 use Rattle.shown.proofs.name_told.Tie as tie

@@ -1,7 +1,7 @@
 -- `shown::put_closing` meets its contract, by its test.
 -- Assumes nothing.
 use native.Mathlib.Omega.{arith}
-use Rattle.shown.proofs.Puts.{briefly}
+use Rattle.texts.proofs.Puts.{briefly}
 use borrow.Author.Needs.{needs}
 use Rattle.shown.proofs.put_closing.Statement.{statement}
 use Rattle.shown.proofs.put_closing.Tie as tie

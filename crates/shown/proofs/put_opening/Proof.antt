@@ -1,7 +1,7 @@
 -- `shown::put_opening` meets its contract, by its tests.
 -- Assumes nothing.
 use native.Mathlib.Omega.{arith}
-use Rattle.shown.proofs.Puts.{briefly}
+use Rattle.texts.proofs.Puts.{briefly}
 use borrow.Author.Needs.{needs}
 use Rattle.shown.proofs.put_opening.Statement.{statement}
 use Rattle.shown.proofs.put_opening.Tie as tie

@@ -1,7 +1,7 @@
 -- `shown::put_said` meets its contract, by what is asked.
 -- Assumes nothing.
 use native.Mathlib.Omega.{arith}
-use Rattle.shown.proofs.Puts.{told}
+use Rattle.texts.proofs.Puts.{told}
 use borrow.Author.Needs.{needs}
 use Rattle.shown.proofs.put_said.Statement.{statement}
 use Rattle.shown.proofs.put_said.Tie as tie

@@ -7,9 +7,9 @@ use native.Mathlib.Omega.{arith}
 use lib.ListN.{length, take}
 use lib.Seq.{sets, take-all, length-take-le}
 use denote.Ref.{now}
-use Rattle.shown.specs.Texts.{Puts}
-use Rattle.shown.specs.Pens.{penSaid, penWalked}
-use Rattle.shown.proofs.Puts.{lasting}
+use Rattle.texts.specs.Texts.{Puts}
+use Rattle.shown.specs.Keys.{penSaid, penWalked}
+use Rattle.texts.proofs.Puts.{lasting}
 use Rattle.shown.proofs.Pens.{led, said}
 use borrow.Author.Needs.{needs}
 use Rattle.shown.proofs.tell.Statement.{statement}
