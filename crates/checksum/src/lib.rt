@@ -1,6 +1,6 @@
 // The two checksums of a PNG: CRC-32 over its chunks, and Adler-32 over what its zlib stream holds.
 ghost use mathlib.Core.Path.{_≡_};
-ghost use Prim.Native.Nat.{ℕ, _+_, _<_, _≤_};
+ghost use Prim.Native.Nat.{ℕ, _+_, _*_, _<_, _≤_};
 ghost use lib.Bits.{bitXor};
 ghost use lib.ListN.{length};
 ghost use Rattle.checksum.specs.Sums.{Remainders, crcSteps, crcByte, crcMore, crc as crcSum, adlerMore};
@@ -380,7 +380,22 @@ pub fn crc(bytes: &[u8]) -> u32
     crc_more(0xFFFFFFFF, bytes) ^ 0xFFFFFFFF
 }
 
-// The two sums after a run of bytes. They are reduced once, behind the last byte, since a division costs more than many sums.
+// What four bytes add to the first sum.
+fn added(a: u8, b: u8, c: u8, d: u8) -> u64
+    ensures { λ r. ⌜ (r ≡ a + b + c + d) × (r ≤ 1020) ⌝ }
+{
+    a as u64 + b as u64 + c as u64 + d as u64
+}
+
+// What four bytes add to the second sum, beside four times the first: a byte is in each first sum from its own on.
+fn weighed(a: u8, b: u8, c: u8, d: u8) -> u64
+    ensures { λ r. ⌜ (r ≡ 4 * a + 3 * b + 2 * c + d) × (r ≤ 2550) ⌝ }
+{
+    4 * a as u64 + 3 * b as u64 + 2 * c as u64 + d as u64
+}
+
+// The two sums after a run of bytes. They are reduced once, behind the last byte, since a division costs more than many sums. Four bytes
+// are taken at once, since byte by byte each sum waits for the one before it.
 fn adler_run(sum: u32, run: &[u8]) -> u32
     requires { ⌜ (0 < length (now run)) × (length (now run) ≤ 4096) ⌝ }
     ensures { λ r. ⌜ r ≡ adlerMore sum (now (run .entry)) ⌝ }
@@ -388,6 +403,15 @@ fn adler_run(sum: u32, run: &[u8]) -> u32
     let mut first = (sum % 0x10000) as u64;
     let mut second = (sum / 0x10000) as u64;
     let mut i: usize = 0;
+    while 3 < run.len() - i {
+        let a = run[i];
+        let b = run[i + 1];
+        let c = run[i + 2];
+        let d = run[i + 3];
+        second += 4 * first + weighed(a, b, c, d);
+        first += added(a, b, c, d);
+        i += 4;
+    }
     while i < run.len() {
         first += run[i] as u64;
         second += first;
