@@ -1,7 +1,8 @@
 """Run by tools/try-unpack: how ./unpack is built and installed.
 
 A copy of the scripts beside one small crate stands for the checkout, and a script for the kit's `rt`, which writes down that it was
-called and hands out the program that was proved and built before. So what is tried is who builds when, and what is said.
+called and hands out the program that was proved and built before. So what is tried is who builds when, and what is said. Where the
+program is compiled for this machine, a file of one line stands for the module, and only a cc that is given it hands out the program.
 """
 import os
 import shutil
@@ -19,10 +20,38 @@ doc) echo "$KIT/docs/START-HERE.md" ;;
 check)
     echo "rt: numbers proved (0 s)"
     sleep "${SLOW:-0}"
-    [ -z "${WRONG-}" ] || { echo "numbers: error: $WRONG" && echo "rt: numbers NOT PROVED (exit 1, 0 s)" && exit 1; }
-    mkdir -p target/bin && cp "$KIT/program" target/bin/unpack && echo "rt: ok, 1 crates proved" ;;
+    if [ -n "${WRONG-}" ]; then
+        seq -f 'fn numbers::f%g: proved' 20
+        echo "numbers: error: $WRONG" && echo "rt: numbers proved, and its run FAILED (0 s)" && sleep "${SLOW:-0}" && exit 1
+    fi
+    mkdir -p target/bin && cp "$KIT/program" target/bin/unpack
+    clang=${RATTLE_HOME-$KIT}/on/$(uname -m)/toolchain/bin/clang
+    if [ -n "${RATTLE_HOME-}" ] && [ "$(id -u)" = 0 ]; then
+        setpriv --reuid=65534 --regid=65534 --clear-groups test -x "$clang" || { echo "nobody cannot reach $clang" && exit 1; }
+    fi
+    "$clang" "$KIT/module.bc" -o target/bin/object || exit 1
+    echo "rt: ok, 1 crates proved" ;;
 esac
 """
+CLANG = """#!/bin/sh
+while [ "$1" != -o ]; do from=$1 && shift; done
+cp "$from" "$2"
+"""
+CC = """#!/bin/sh
+while [ "$1" != -o ]; do shift; done
+[ "$(cat "$3")" = "the module" ] && [ -e "$4" ] && cp "$KIT/program" "$2"
+"""
+EMULATOR = """#!/bin/sh
+shift 3
+echo "emulated" >&2
+exec "$@"
+"""
+
+
+INSTALLED = (
+    "bin/unpack", "libexec/yalivucu/unpack", "libexec/yalivucu/version", "lib/libyalivucu.a", "include/yalivucu.h",
+    "lib/pkgconfig/yalivucu.pc", "share/man/man1/unpack.1",
+)
 
 
 class Checkout:
@@ -31,15 +60,20 @@ class Checkout:
     def __init__(self, room):
         self.top, self.kit = os.path.join(room, "checkout"), os.path.join(room, "kit")
         os.makedirs(os.path.join(self.top, "crates", "numbers", "src"))
-        os.makedirs(os.path.join(self.kit, "bin"))
+        self.bin = os.path.join(self.kit, "bin")
+        os.makedirs(self.bin)
         shutil.copy(os.path.join(TOP, "unpack"), self.top)
         shutil.copytree(os.path.join(TOP, "bindings"), os.path.join(self.top, "bindings"), ignore=shutil.ignore_patterns("target"))
         write(os.path.join(self.top, "crates.txt"), b"numbers:\nunpack: numbers\n")
         self.source = write(os.path.join(self.top, "crates", "numbers", "src", "lib.rt"), b"// nothing\n")
         shutil.copy(os.path.join(TOP, "target", "tool", "unpack"), os.path.join(self.kit, "program"))
-        rt = write(os.path.join(self.kit, "bin", "rt"), RT.encode())
-        os.chmod(rt, 0o755)
-        self.env = dict(os.environ, KIT=self.kit, PATH=os.path.join(self.kit, "bin") + ":" + os.environ["PATH"])
+        write(os.path.join(self.kit, "module.bc"), b"the module\n")
+        tools = os.path.join(self.kit, "on", os.uname().machine, "toolchain", "bin")
+        os.makedirs(tools)
+        for folder, name, text in ((self.bin, "rt", RT), (self.bin, "cc", CC), (tools, "clang", CLANG), (tools, "qemu-x86_64", EMULATOR)):
+            os.chmod(write(os.path.join(folder, name), text.encode()), 0o755)
+        self.env = dict(os.environ, KIT=self.kit, PATH=self.bin + ":" + os.environ["PATH"])
+        self.env.pop("CC", None)
         self.env.pop("YALIVUCU_BUILD", None)
 
     def calls(self):
@@ -50,9 +84,10 @@ class Checkout:
         return sum(line.startswith(b"check") for line in lines)
 
     def start(self, *words, **env):
-        tool = env.pop("tool", os.path.join(self.top, "unpack"))
+        tool, umask = env.pop("tool", os.path.join(self.top, "unpack")), env.pop("umask", -1)
         run = [tool] + (["--info", example("old.pkm")] if words == () else list(words[0]))
-        return subprocess.Popen(run, stdout=subprocess.PIPE, stderr=subprocess.PIPE, env=dict(self.env, **env), text=True, start_new_session=True)
+        more = {"env": dict(self.env, **env), "text": True, "start_new_session": True, "umask": umask}
+        return subprocess.Popen(run, stdout=subprocess.PIPE, stderr=subprocess.PIPE, **more)
 
     def run(self, *words, **env):
         run = self.start(*words, **env)
@@ -61,7 +96,7 @@ class Checkout:
 
 
 def unbuilt(checkout):
-    for words, number in ((["--help"], 0), (["--version"], 0), ([], 32), (["--what"], 32), (["one"], 32)):
+    for words, number in ((["--help"], 0), (["--version"], 0), ([], 32), (["--what"], 32), (["one"], 32), (["--into", ".", "-"], 32)):
         note(checkout.run(words)[0] == number, "%s in a fresh checkout" % words)
     note(checkout.calls() == 0 and not os.path.exists(os.path.join(checkout.top, "target")), "help, version, a wrong call: nothing is built")
     note(os.uname().machine in checkout.run(["--version"])[1], "--version says for which machine")
@@ -86,21 +121,47 @@ def touched(checkout):
     os.utime(checkout.source, (later, later))
     note(checkout.run()[0] == 0 and checkout.calls() == 1, "a touched source: proved again")
     note(checkout.run()[2] == "" and checkout.calls() == 0, "a touched source: once")
+    for what, name, when in (
+        ("a source of the future", checkout.source, later + 1e9),
+        ("a source of the past", checkout.source, 1e9),
+        ("the C that is linked", os.path.join(checkout.top, "bindings", "os.c"), later),
+    ):
+        os.utime(name, (when, when))
+        note(checkout.run()[0] == 0 and checkout.calls() == 1, what + ": proved again")
+        note(checkout.run()[2] == "" and checkout.calls() == 0, what + ": once")
+
+
+def kinds(checkout):
+    """--version is of the program that stands there, whatever would be built now; a native one takes the place of another."""
+    version = lambda **env: checkout.run(["--version"], **env)[1]
+    if os.uname().machine == "x86_64":
+        note(checkout.run()[0] == 0 and "compiled" not in version(), "--version: the program of rt")
+        run = subprocess.run(["sh", os.path.join(checkout.top, "bindings", "program"), "--native"], capture_output=True, env=checkout.env)
+        note(run.returncode == 0 and checkout.calls() == 2 and "compiled for x86_64" in version(), "--version: compiled for this machine")
+        return
+    none = {"CC": os.path.join(checkout.kit, "none")}
+    status, _, sentence = checkout.run(**none)
+    note(status == 0 and "emulated" in sentence and "under an emulator" in version(), "without a cc: an emulator, and --version says so")
+    status, _, sentence = checkout.run(umask=0o077)
+    note(status == 0 and checkout.calls() == 2 and "emulated" not in sentence, "with a cc: a native program takes its place: " + sentence)
+    note("compiled for" in version(**none) and checkout.run(**none)[2] == "", "without the cc that was: the native program stays")
 
 
 def elsewhere(checkout, room):
     link = os.path.join(room, "bin", "un")
     os.mkdir(os.path.dirname(link))
-    os.symlink(os.path.join(checkout.top, "unpack"), link)
-    note(checkout.run(tool=link)[0] == 0, "through a symbolic link")
+    os.symlink(os.path.join("..", "second"), link)
+    os.symlink(os.path.join(checkout.top, "unpack"), os.path.join(room, "second"))
+    note(checkout.run(tool=link)[0] == 0, "through a symbolic link to a symbolic link")
     path = os.path.dirname(link) + ":" + checkout.env["PATH"]
     run = subprocess.run("cd / && un --info '%s'" % example("old.pkm"), shell=True, capture_output=True, env=dict(checkout.env, PATH=path))
     note(run.returncode == 0, "through a symbolic link on the path")
 
 
 def failures(checkout):
-    status, _, sentence = checkout.run(WRONG="the sums differ")
+    status, _, sentence = checkout.run(WRONG="the sums differ", SLOW="2")
     note(status == 64 and "the sums differ" in sentence and "target/tool/log" in sentence, "a failed build: its cause and its log: " + sentence)
+    note("its run FAILED" in sentence and "proved 1 of 2" in sentence and "proved 2 of 2" not in sentence, "a program that is proved and fails: " + sentence)
     status, _, sentence = checkout.run(TMPDIR="/nonexistent")
     note(status == 64 and "no temporary folder" in sentence, "no temporary folder: " + sentence)
     status, _, sentence = checkout.run(PATH=os.defpath)
@@ -117,6 +178,23 @@ def stopped(checkout):
     note(run.returncode == -signal.SIGTERM, "SIGTERM while it builds: %d" % run.returncode)
     status, _, sentence = checkout.run()
     note(status == 0 and "waiting" not in sentence, "SIGTERM while it builds: rt ends too, and the next run builds")
+    os.remove(os.path.join(checkout.top, "target", "tool", "unpack"))
+    for number in (signal.SIGTERM, signal.SIGINT):
+        checkout.calls()
+        builder = checkout.start(SLOW="100")
+        while checkout.calls() == 0:
+            time.sleep(0.05)
+        waiter = checkout.start()
+        note("waiting" in waiter.stderr.readline(), "a second run waits")
+        os.killpg(waiter.pid, number)
+        try:
+            waiter.communicate(timeout=20)
+        except subprocess.TimeoutExpired:
+            pass
+        note(waiter.returncode == -number, "signal %d while it waits for another build: %s" % (number, waiter.returncode))
+        os.kill(builder.pid, signal.SIGTERM)
+        builder.communicate(timeout=30)
+        waiter.communicate(timeout=30)
 
 
 def read_only(checkout, room):
@@ -144,6 +222,13 @@ def read_only(checkout, room):
     note(sorted(os.walk(checkout.top)) == before, "a read-only checkout: nothing is written to it")
     run = subprocess.run(words, capture_output=True, env=dict(env, YALIVUCU_BUILD=build), text=True)
     note(run.returncode == 0 and run.stderr == "", "a folder to build in: it is built once")
+    sources = os.path.dirname(checkout.source)
+    os.chmod(sources, 0o755)
+    os.rename(checkout.source, os.path.join(sources, "other.rt"))
+    os.chmod(sources, 0o555)
+    run = subprocess.run(words, capture_output=True, env=dict(env, YALIVUCU_BUILD=build), text=True)
+    note(run.returncode == 0 and "proving" in run.stderr, "a folder to build in: after a change it is built anew: " + run.stderr)
+    note(os.listdir(os.path.join(build, "crates", "numbers", "src")) == ["other.rt"], "a folder to build in: no file of before is left")
     for path, folders, files in os.walk(checkout.top):
         os.chmod(path, 0o755)
     mine = os.path.join(room, "mine")
@@ -153,14 +238,42 @@ def read_only(checkout, room):
     note(status == 64 and content(os.path.join(mine, "crates", "own")) == b"somebody's", "a folder with other files is not built in: " + sentence)
 
 
+def unfit(checkout, room):
+    """What may not be installed, or be replaced by it."""
+    words = ["sh", os.path.join(checkout.top, "bindings", "install"), os.path.join(room, "prefix"), write(os.path.join(room, "lib.a"), b"an archive")]
+    for name in ("include", "docs"):
+        shutil.copytree(os.path.join(TOP, name), os.path.join(checkout.top, name))
+    for name in INSTALLED:
+        os.makedirs(os.path.dirname(os.path.join(room, "prefix", name)), exist_ok=True)
+        write(os.path.join(room, "prefix", name + ".new"), b"somebody's")
+    if os.uname().machine != "x86_64":
+        run = subprocess.run(words, capture_output=True, env=dict(checkout.env, CC=os.path.join(checkout.kit, "none")), text=True)
+        note(run.returncode == 1 and "emulator" in run.stderr, "install without a cc: " + run.stderr)
+        note(not os.path.exists(os.path.join(room, "prefix", "bin", "unpack")), "install without a cc: no tool that needs the kit")
+    note(subprocess.run(words, capture_output=True, env=checkout.env).returncode == 0, "install over another's files")
+    for name in INSTALLED:
+        note(content(os.path.join(room, "prefix", name + ".new")) == b"somebody's", "install: %s.new is kept" % name)
+
+
 def installed(checkout, room):
     prefix, archive = os.path.join(room, "prefix"), write(os.path.join(room, "lib.a"), b"an archive")
     shutil.copytree(os.path.join(TOP, "include"), os.path.join(checkout.top, "include"))
     shutil.copytree(os.path.join(TOP, "docs"), os.path.join(checkout.top, "docs"))
-    run = subprocess.run(["sh", os.path.join(checkout.top, "bindings", "install"), prefix, archive], capture_output=True, env=checkout.env, text=True)
-    note(run.returncode == 0, "install: " + run.stderr)
-    for name in ("bin/unpack", "libexec/yalivucu/unpack", "lib/libyalivucu.a", "include/yalivucu.h", "lib/pkgconfig/yalivucu.pc", "share/man/man1/unpack.1"):
+    other = os.path.join(room, "other")
+    os.makedirs(os.path.join(other, "bindings"))
+    run = subprocess.run(
+        ["sh", "bindings/install", prefix, archive], capture_output=True, text=True, cwd=checkout.top, umask=0o077,
+        env=dict(checkout.env, CDPATH=other),
+    )
+    note(run.returncode == 0, "install, with a CDPATH: " + run.stderr)
+    for name in INSTALLED:
         note(os.path.isfile(os.path.join(prefix, name)), "install: " + name)
+        note(room.encode() not in content(os.path.join(prefix, name)), "install: %s may be moved" % name)
+    for path, folders, files in os.walk(prefix):
+        note(os.stat(path).st_mode & 0o777 == 0o755, "install, umask 077: others may enter " + path)
+        for name in files:
+            mode = os.stat(os.path.join(path, name)).st_mode & 0o777
+            note(mode == (0o755 if name == "unpack" else 0o644), "install, umask 077: %s has mode %o" % (name, mode))
     moved = os.path.join(room, "moved")
     os.rename(prefix, moved)
     os.rename(checkout.top, checkout.top + ".gone")
@@ -202,13 +315,13 @@ def clean():
 
 def cases():
     unpack("--info", example("old.pkm"))
-    for case in (unbuilt, at_once, failures, stopped):
+    for case in (unbuilt, at_once, kinds, failures, stopped):
         with tempfile.TemporaryDirectory() as room:
             checkout = Checkout(room)
             case(checkout)
             if case is at_once:
                 touched(checkout)
-    for case in (elsewhere, read_only, installed):
+    for case in (elsewhere, read_only, unfit, installed):
         with tempfile.TemporaryDirectory() as room:
             case(Checkout(room), room)
     clean()

@@ -5,11 +5,12 @@ import resource
 import shutil
 import signal
 import stat
+import struct
 import subprocess
 import tempfile
 import time
 
-from try_common import TOOL, content, example, large, note, unpack, write
+from try_common import KTX, TOOL, content, example, large, note, unpack, write
 
 OLD, KINDS, GLOW = example("old.pkm"), example("kinds.ktx"), example("glow.ktx")
 
@@ -108,6 +109,61 @@ def names(room):
     note(unpack("-", "-x.png", cwd=room, stdin=open(first, "rb"))[0] == 0 and "-x.png" in listing(room), "a name that begins with -")
 
 
+def alone(room, commands):
+    """Runs commands where a file system of our own may be mounted, which nobody else sees."""
+    run = subprocess.run(["unshare", "-rm", "sh", "-c", commands], capture_output=True, cwd=room)
+    if b"mount" in run.stderr or b"unshare" in run.stderr:
+        run = subprocess.run(["unshare", "-m", "sh", "-c", commands], capture_output=True, cwd=room)
+    return run.stdout.split(), run.stderr
+
+
+def systems(room):
+    """/dev/stdout leads to an ordinary file where standard output is one; it is a link in another /dev here, over the machine's."""
+    devices = "mount -t tmpfs none /dev && ln -s /proc/self/fd /dev/fd && ln -s /proc/self/fd/1 /dev/stdout && : >/dev/null"
+    for name in ("/dev/stdout", "/dev/fd/1", "/dev/new.png"):
+        commands = "%s && { '%s' --force '%s' %s >out; echo $? $(readlink /dev/stdout) $(ls -A /dev); }" % (devices, TOOL, OLD, name)
+        said, sentence = alone(room, commands)
+        note(said == [b"35", b"/proc/self/fd/1", b"fd", b"null", b"stdout"], "OUT is %s, --force: %s %s" % (name, said, sentence))
+    note(listing(room) == ["out"] and content(os.path.join(room, "out")) == b"", "/dev/stdout: nothing is written")
+
+
+def unlinked(room):
+    """A file system without links to files, by an ln that fails; and a name that cannot be given, by such an mv."""
+    out, tools = os.path.join(room, "out.png"), os.path.join(room, "tools")
+    os.mkdir(tools)
+    env = dict(os.environ, PATH=tools + ":" + os.environ["PATH"])
+    os.chmod(write(os.path.join(tools, "ln"), b"#!/bin/sh\nexit 1\n"), 0o755)
+    note(unpack(OLD, out, env=env)[0] == 0 and content(out) == content(example("old.png")), "no links to files: the PNG gets its name")
+    note(unpack(KINDS, out, env=env)[0] == 33 and content(out) == content(example("old.png")), "no links to files: a name that is taken")
+    os.remove(out)
+    os.chmod(write(os.path.join(tools, "mv"), b"#!/bin/sh\necho 'mv: a cause' >&2\nexit 1\n"), 0o755)
+    status, _, sentence = unpack(OLD, out, env=env)
+    note(status == 31 and "a cause" in sentence and listing(room) == ["tools"], "no links, and no rename: nothing is left: %s" % listing(room))
+    slow(room, env, "mv", b"#!/bin/sh\n: >\"$HERE/reached\"\nsleep 1\nPATH=/usr/bin:/bin exec mv \"$@\"\n")
+    note(content(out) == content(example("old.png")), "no links, and a signal: the PNG is whole")
+
+
+def slow(room, env, name, text):
+    """SIGINT to all of a run while a command of it, which is made slow, works: nothing but the PNG is left."""
+    here = tempfile.mkdtemp(dir=os.path.dirname(room))
+    os.chmod(write(os.path.join(room, "tools", name), text), 0o755)
+    run = subprocess.Popen([TOOL, OLD, "out.png"], cwd=room, env=dict(env, HERE=here), stdout=subprocess.DEVNULL, start_new_session=True)
+    while not os.path.exists(os.path.join(here, "reached")) and run.poll() is None:
+        time.sleep(0.01)
+    os.killpg(run.pid, signal.SIGINT)
+    note(run.wait(60) == -signal.SIGINT, "SIGINT while %s works: %d" % (name, run.returncode))
+    time.sleep(1.5)
+    note(set(listing(room)) <= {"out.png", "tools"}, "SIGINT while %s works: %s is left" % (name, listing(room)))
+
+
+def unnamed(room):
+    """A signal before the script knows the name of its folder."""
+    os.mkdir(os.path.join(room, "tools"))
+    env = dict(os.environ, PATH=os.path.join(room, "tools") + ":" + os.environ["PATH"])
+    text = b"#!/bin/sh\nmade=$(PATH=/usr/bin:/bin mktemp \"$@\")\n: >\"$HERE/reached\"\nsleep 1\necho \"$made\"\n"
+    slow(room, env, "mktemp", text)
+
+
 def several(room):
     """--into: names kept, .png added; on after a refusal."""
     into = os.path.join(room, "into")
@@ -127,6 +183,10 @@ def several(room):
         note(status == 33 and "glow.ktx" in sentence, "--into %s: two files of one name (%d)" % (words, status))
         note(content(os.path.join(into, "glow.ktx.png")) == content(example("glow.png")), "--into %s: the first of one name stays" % words)
     note(unpack("--into", into, "-")[0] == 32, "--into: standard input has no name")
+    own = write(os.path.join(twin, "glow.ktx.png"), content(KINDS))
+    status, _, sentence = unpack("--force", "--into", twin, GLOW, own)
+    note(status == 34 and content(own) == content(KINDS), "--into --force: another FILE is kept (%d %s)" % (status, sentence))
+    note(content(own + ".png") == content(example("kinds.png")), "--into --force: that FILE is unpacked, too")
 
 
 def started(words, room, **more):
@@ -150,10 +210,11 @@ def alive(group):
 
 
 def signals(room, big):
-    for name in ("INT", "TERM", "HUP"):
+    for name in ("INT", "TERM", "HUP", "QUIT"):
         number = getattr(signal, "SIG" + name)
         for words, source in (([big, "out.png"], subprocess.DEVNULL), (["-", "out.png"], subprocess.PIPE)):
-            run = started(words, room, stdin=source, cwd=room, start_new_session=True)
+            quiet = lambda: resource.setrlimit(resource.RLIMIT_CORE, (0, 0))
+            run = started(words, room, stdin=source, cwd=room, start_new_session=True, preexec_fn=quiet)
             os.kill(run.pid, number)
             run.wait(60)
             note(run.returncode == -number, "SIG%s, %s: %d" % (name, words[0][-8:], run.returncode))
@@ -166,17 +227,30 @@ def signals(room, big):
             run.communicate()
 
 
+def unread(room):
+    """Nobody reads standard error: the folder goes all the same, whether the program or the script refuses."""
+    bad = write(os.path.join(room, "bad"), content(KINDS)[:63])
+    out = os.path.join(room, "out.png")
+    for words in ([bad, out], ["--into", room, bad, bad], ["--level", "5", OLD, out]):
+        reader, writer = os.pipe()
+        os.close(reader)
+        subprocess.run([TOOL] + words, stderr=writer, timeout=60)
+        os.close(writer)
+        note(listing(room) == ["bad"], "%s: nobody reads why: %s is left" % (words, listing(room)))
+
+
 def limits(room, big):
     limit = lambda: resource.setrlimit(resource.RLIMIT_FSIZE, (65536, 65536))
     status, _, sentence = unpack(big, os.path.join(room, "out.png"), preexec_fn=limit)
     note(status == 31 and "larger than files may be" in sentence, "a limit on the size of files: %d %s" % (status, sentence))
+    with open(big, "rb") as file:
+        status, _, sentence = unpack("-", os.path.join(room, "out.png"), preexec_fn=limit, stdin=file)
+    note(status == 30 and "larger than files may be" in sentence, "a limit on the size of files, standard input: %d %s" % (status, sentence))
     note(listing(room) == [], "a limit on the size of files: nothing is left")
-    full = "mount -t tmpfs -o size=256k none . && cd . && '%s' '%s' out.png; echo $? $(ls -A)" % (TOOL, big)
-    run = subprocess.run(["unshare", "-rm", "sh", "-c", full], capture_output=True, cwd=room)
-    if b"mount" in run.stderr or b"unshare" in run.stderr:
-        run = subprocess.run(["unshare", "-m", "sh", "-c", full], capture_output=True, cwd=room)
-    note(run.stdout.split() == [b"31"], "a full disk: %s" % run.stdout)
-    note(b"No space left" in run.stderr, "a full disk: the cause is named: %s" % run.stderr)
+    for size, words in (("256k", "'%s'" % big), ("40m", "- <'%s'" % big)):
+        said, sentence = alone(room, "mount -t tmpfs -o size=%s none . && cd . && '%s' %s out.png; echo $? $(ls -A)" % (size, TOOL, words))
+        note(said == [b"31"], "a full disk: %s" % said)
+        note(b"No space left" in sentence, "a full disk: the cause is named: %s" % sentence)
     for words in (["--info", OLD], ["--check", OLD], ["--help"], ["--version"], [OLD, "-"], [OLD, os.path.join(room, "new.png")]):
         with open("/dev/full", "wb") as full:
             run = subprocess.run([TOOL] + words, stdout=full, stderr=subprocess.PIPE)
@@ -192,10 +266,14 @@ def moved(room):
     run.communicate(content(GLOW))
     note(run.returncode == 0 and listing(there) == ["out.png"] and listing(room) == ["there"], "OUT's folder moves: %s" % listing(room))
     note(content(os.path.join(there, "out.png")) == content(example("glow.png")), "OUT's folder moves: the picture")
+    run = started(["-", "new.png"], there, stdin=subprocess.PIPE, cwd=there)
+    os.rename(there, here)
+    said = run.communicate(content(GLOW))[1]
+    note(run.returncode == 0 and listing(here) == ["new.png", "out.png"], "the folder in which it runs moves: %d %s" % (run.returncode, said))
 
 
 def inputs(room):
-    """What is no ordinary file, and standard input."""
+    """What is no ordinary file, also as standard input."""
     pipe = os.path.join(room, "pipe")
     os.mkfifo(pipe)
     out = os.path.join(room, "out.png")
@@ -213,6 +291,12 @@ def inputs(room):
     note(run.returncode == 36 and b"terminal" in run.stderr, "no PNG to a terminal")
     os.close(master)
     os.close(terminal)
+    note(listing(room) == ["pipe"], "nothing is left of what is no ordinary file")
+
+
+def streams(room):
+    """Standard input is read as far as its header asks for, and a file that it brings is the same as one with a name."""
+    out = os.path.join(room, "out.png")
     for name in ("old", "kinds", "glow"):
         data = content(OLD if name == "old" else example(name + ".ktx"))
         png = content(example(name + ".png"))
@@ -225,12 +309,29 @@ def inputs(room):
     note(run.returncode == 2 and run.stdout == b"", "a short standard input: nothing is written")
     run = subprocess.run("yes | '%s' - -" % TOOL, shell=True, capture_output=True, timeout=60)
     note(run.returncode == 21 and run.stdout == b"", "an endless standard input: %d" % run.returncode)
-    note(listing(room) == ["pipe"], "nothing is left of standard input")
+    wide = KTX + struct.pack("<14I", 0x04030201, 0, 1, 0, 0x9278, 0x1908, 16385, 4, 0, 0, 1, 1, 0, 65552) + bytes(65552)
+    status, _, sentence = unpack("-", out, input=wide)
+    note(status == 1 and sentence.count("\n") == 1, "standard input that is too wide: %d %s" % (status, sentence))
+    limit = "ulimit -f 1024; { cat '%s'; yes; } | '%s' - -" % (GLOW, TOOL)
+    run = subprocess.run(limit, shell=True, capture_output=True, timeout=60)
+    note(run.stdout == content(example("glow.png")), "a file with an endless stream behind it: no more is kept than it needs: %s" % run.stderr)
+    whole = b"PKM 10" + struct.pack(">5H", 0, 360, 364, 360, 364) + bytes(65520)
+    for data, number in ((whole[:-1], 2), (whole, 0), (whole + b"\0", 6)):
+        status = unpack("--check", "-", input=data)[0]
+        note(status == number, "--check of %d bytes of standard input: %d" % (len(data), status))
+    for size in (65535, 65536, 65537, 131072, 131073):
+        data = write(os.path.join(room, "bare"), bytes(size))
+        words = ["--raw", "etc1", "128", "256"]
+        note(unpack(*words, data, out)[0] == unpack("--force", *words, "-", out, input=content(data))[0], "%d bare bytes of standard input" % size)
+        os.remove(data)
+        if os.path.exists(out):
+            os.remove(out)
+    note(listing(room) == [], "nothing is left of standard input")
 
 
 def cases():
     with tempfile.TemporaryDirectory() as top:
         big = write(os.path.join(top, "big.ktx"), large(4096))
-        for case in (unfinished, modes, two_at_once, names, several, signals, limits, moved, inputs):
+        for case in (unfinished, modes, two_at_once, names, systems, unlinked, unnamed, several, signals, unread, limits, moved, inputs, streams):
             room = tempfile.mkdtemp(dir=top)
             case(room, big) if case in (two_at_once, signals, limits) else case(room)

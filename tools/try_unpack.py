@@ -3,7 +3,8 @@
 For each example: the PNG is read by PIL, by netpbm's pngtopam and by this script's own few lines over zlib, and all three have
 the same pixels. For each bad file: the exit status is the number of the refusal, a sentence goes to standard error, and nothing
 is left behind. tools/try_levels.py has levels, keys and bare blocks, tools/try_info.py what a file tells of itself, tools/try_files.py
-what must not happen to files, and tools/try_build.py how the program is built and installed. Its last line is 'N passed, M failed'.
+what must not happen to files, tools/try_build.py how the program is built and installed, and tools/try_native.py what one that was
+compiled for this machine does. Its last line is 'N passed, M failed'.
 """
 import os
 import struct
@@ -18,6 +19,7 @@ import try_build
 import try_files
 import try_info
 import try_levels
+import try_native
 from try_common import COUNT, TOP, note, unpack
 
 
@@ -204,6 +206,7 @@ def main():
     try_info.cases()
     try_files.cases()
     try_build.cases()
+    try_native.cases()
     print("%d passed, %d failed" % (COUNT[True], COUNT[False]))
     sys.exit(1 if COUNT[False] else 0)
 

@@ -2,11 +2,12 @@
 -- Assumes nothing.
 use mathlib.Core.Path.{_≡_, _∙_, refl, sym, ap, ap₂}
 use mathlib.Core.List.{List, [], _∷_}
-use Prim.Native.Nat.{ℕ, _+_, _*_, _/_, _%_, _<_}
+use Prim.Native.Nat.{ℕ, _+_, _*_, _/_, _%_, _<_, _≤_}
 use native.Mathlib.Omega.{arith}
 use native.Mathlib.Nat.{mod-add-mod, add-mod-mod, mod-mod}
-use lib.ListN.{length}
+use lib.ListN.{length, drop, getD}
 use Rattle.checksum.specs.Sums.{adlerFirst, adlerByte, folded}
+use Rattle.checksum.proofs.Fold.{further}
 
 -- two sums, reduced and in one number
 abbrev pub reduced : ℕ → ℕ → ℕ
@@ -42,3 +43,45 @@ begun s [] h = absurd (omega arith)
 begun s (x ∷ l) h =
     ap (λ (z : ℕ). folded adlerByte z l)
     (summed (s % 0x10000) (s / 0x10000) x ∙ sym (byte-more s (s % 0x10000) (s / 0x10000) x refl refl))
+
+-- what the bytes from place i on make of the two sums
+abbrev pub left : List ℕ → ℕ → ℕ → ℕ → ℕ
+left l i first second = folded adlerByte (reduced first second) (drop i l)
+
+-- a byte further on; j is the place behind it, however that is written
+pub byte-on : (l : List ℕ) (i j first second : ℕ) → i < length l → j ≡ i + 1
+    → left l j (first + getD l i 0) (second + (first + getD l i 0)) ≡ left l i first second
+byte-on l i j first second h e =
+    let x = getD l i 0 in
+    ap (λ (n : ℕ). left l n (first + x) (second + (first + x))) e
+    ∙ further adlerByte l i (reduced first second) (reduced (first + x) (second + (first + x))) h (sym (summed first second x))
+
+-- the second sum, after four bytes at once, is what it is after them one by one
+pub second-four : (first second a b c d : ℕ)
+    → second + (4 * first + (4 * a + 3 * b + 2 * c + d))
+    ≡ second + (first + a) + (first + a + b) + (first + a + b + c) + (first + a + b + c + d)
+second-four first second a b c d = omega arith
+
+-- four bytes further on
+pub four-on : (l : List ℕ) (i first second p q : ℕ) → i + 4 ≤ length l
+    → p ≡ getD l i 0 + getD l (i + 1) 0 + getD l (i + 2) 0 + getD l (i + 3) 0
+    → q ≡ 4 * getD l i 0 + 3 * getD l (i + 1) 0 + 2 * getD l (i + 2) 0 + getD l (i + 3) 0
+    → left l (i + 4) (first + p) (second + (4 * first + q)) ≡ left l i first second
+four-on l i first second p q h ep eq =
+    let a = getD l i 0 in
+    let b = getD l (i + 1) 0 in
+    let c = getD l (i + 2) 0 in
+    let d = getD l (i + 3) 0 in
+    let f1 = first + a in
+    let f2 = f1 + b in
+    let f3 = f2 + c in
+    let s1 = second + f1 in
+    let s2 = s1 + f2 in
+    let s3 = s2 + f3 in
+    let f : first + p ≡ f3 + d = omega arith in
+    let s : second + (4 * first + q) ≡ s3 + (f3 + d) = ap (λ (z : ℕ). second + (4 * first + z)) eq ∙ second-four first second a b c d in
+    ap₂ (left l (i + 4)) f s
+    ∙ byte-on l (i + 3) (i + 4) f3 s3 (omega arith) (omega arith)
+    ∙ byte-on l (i + 2) (i + 3) f2 s2 (omega arith) (omega arith)
+    ∙ byte-on l (i + 1) (i + 2) f1 s1 (omega arith) (omega arith)
+    ∙ byte-on l i (i + 1) first second (omega arith) refl

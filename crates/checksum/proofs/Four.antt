@@ -1,4 +1,5 @@
--- Four bytes of steps at once: the steps of two numbers joined are those of each, joined, so a number's are those of its bytes.
+-- Words of four bytes at once: the steps of two numbers joined are those of each, joined, so a word's are those of its bytes, and two
+-- words' those of each.
 -- Assumes nothing.
 use mathlib.Core.Path.{_≡_, _∙_, refl, sym, ap, ap₂}
 use mathlib.Core.Bool.{cond}
@@ -6,7 +7,7 @@ use mathlib.Core.List.{List}
 use Prim.Native.Nat.{ℕ, zero, suc, _+_, _*_, _/_, _%_, _<_, _≤_}
 use native.Mathlib.Omega.{arith}
 use native.Mathlib.Numerals.{add-one}
-use lib.Bits.{bitXor, differ, xor-comm, xor-shifted, xor-zero-r, xor-lt}
+use lib.Bits.{bitXor, differ, xor-comm, xor-shifted, xor-zero-r}
 use lib.Dec.{eqb}
 use lib.ListN.{length, getD, drop}
 use Rattle.numbers.specs.Numbers.{little}
@@ -44,7 +45,7 @@ joined zero a b = refl
 joined (suc n) a b = ap (crcSteps n) (step-joined a b) ∙ joined n (crcStep a) (crcStep b)
 
 -- some steps and then others
-pub steps-then : (m n x : ℕ) → crcSteps (m + n) x ≡ crcSteps n (crcSteps m x)
+steps-then : (m n x : ℕ) → crcSteps (m + n) x ≡ crcSteps n (crcSteps m x)
 steps-then zero n x =
     let none : zero + n ≡ n = omega arith in
     ap (λ (j : ℕ). crcSteps j x) none
@@ -53,20 +54,29 @@ steps-then (suc m) n x =
     ap (λ (j : ℕ). crcSteps j x) one ∙ steps-then m n (crcStep x)
 
 -- the low byte by itself, and the rest in eight steps less
-pub peeled : (n x : ℕ) → crcSteps (8 + n) x ≡ bitXor (crcSteps (8 + n) (x % 256)) (crcSteps n (x / 256))
-peeled n x =
-    steps-then 8 n x
+peeled : (m n x : ℕ) → m ≡ 8 + n → crcSteps m x ≡ bitXor (crcSteps m (x % 256)) (crcSteps n (x / 256))
+peeled m n x e =
+    ap (λ (j : ℕ). crcSteps j x) e
+    ∙ steps-then 8 n x
     ∙ ap (crcSteps n) (eight x)
     ∙ joined n (crcSteps 8 (x % 256)) (x / 256)
     ∙ ap (λ (z : ℕ). bitXor z (crcSteps n (x / 256))) (sym (steps-then 8 n (x % 256)))
+    ∙ ap (λ (j : ℕ). bitXor (crcSteps j (x % 256)) (crcSteps n (x / 256))) (sym e)
 
--- four bytes, each by its own table
-pub by-tables : (x : ℕ) → crcSteps 32 x
-    ≡ bitXor (crcSteps 32 (x % 256)) (bitXor (crcSteps 24 (x / 256 % 256)) (bitXor (crcSteps 16 (x / 256 / 256 % 256)) (crcSteps 8 (x / 256 / 256 / 256))))
-by-tables x =
-    peeled 24 x
-    ∙ ap (bitXor (crcSteps 32 (x % 256)))
-    (peeled 16 (x / 256) ∙ ap (bitXor (crcSteps 24 (x / 256 % 256))) (peeled 8 (x / 256 / 256)))
+-- the four bytes of a word, each by its own table, with n steps more for what comes behind the word
+pub by-tables : (n x : ℕ) → crcSteps (32 + n) x
+    ≡ bitXor (crcSteps (32 + n) (x % 256))
+    (bitXor (crcSteps (24 + n) (x / 256 % 256)) (bitXor (crcSteps (16 + n) (x / 256 / 256 % 256)) (crcSteps (8 + n) (x / 256 / 256 / 256))))
+by-tables n x =
+    let y = x / 256 in
+    let z = y / 256 in
+    peeled (32 + n) (24 + n) x (omega arith)
+    ∙ ap (bitXor (crcSteps (32 + n) (x % 256)))
+    (peeled (24 + n) (16 + n) y (omega arith) ∙ ap (bitXor (crcSteps (24 + n) (y % 256))) (peeled (16 + n) (8 + n) z (omega arith)))
+
+-- a word that joins what m steps made of another: each by itself, the first through the steps of both
+pub two-words : (m n x y : ℕ) → crcSteps n (bitXor (crcSteps m x) y) ≡ bitXor (crcSteps (m + n) x) (crcSteps n y)
+two-words m n x y = joined n (crcSteps m x) y ∙ ap (λ (z : ℕ). bitXor z (crcSteps n y)) (sym (steps-then m n x))
 
 -- eight steps more, by the table of eight
 pub eight-more : (n k : ℕ) → crcSteps (n + 8) k ≡ bitXor (crcSteps 8 (crcSteps n k % 256)) (crcSteps n k / 256)
@@ -83,7 +93,7 @@ first s b r h =
     ∙ xor-comm r (crcSteps 8 (bitXor s b))
 
 -- four bytes at once are four bytes, one after another
-pub at-once : (s a b c d : ℕ) → a < 256 → b < 256 → c < 256 → d < 256
+at-once : (s a b c d : ℕ) → a < 256 → b < 256 → c < 256 → d < 256
     → crcSteps 32 (bitXor s (a + 256 * (b + 256 * (c + 256 * (d + 256 * 0))))) ≡ crcByte (crcByte (crcByte (crcByte s a) b) c) d
 at-once s a b c d ha hb hc hd =
     let s1 = crcByte s a in
@@ -102,7 +112,7 @@ at-once s a b c d ha hb hc hd =
     ∙ xor-zero-r (crcByte s3 d)
 
 -- what is left to fold, four bytes further on
-pub four-further : (l : List ℕ) (i s t : ℕ) → i + 4 ≤ length l → ((k : ℕ) → getD l k 0 < 256) → t ≡ crcSteps 32 (bitXor s (little 4 i l))
+four-further : (l : List ℕ) (i s t : ℕ) → i + 4 ≤ length l → ((k : ℕ) → getD l k 0 < 256) → t ≡ crcSteps 32 (bitXor s (little 4 i l))
     → folded crcByte t (drop (i + 4) l) ≡ folded crcByte s (drop i l)
 unfolding little
 four-further l i s t h known e =
@@ -123,9 +133,16 @@ four-further l i s t h known e =
     ∙ further crcByte l j1 s1 s2 (omega arith) refl
     ∙ further crcByte l i s s1 (omega arith) refl
 
-quarters : (x : ℕ) → x < 0x100000000 → x / 256 / 256 / 256 < 256
-quarters x h = omega arith
+-- the same, eight bytes further on: two words, one after another
+pub eight-further : (l : List ℕ) (i s t v w : ℕ) → i + 8 ≤ length l → ((k : ℕ) → getD l k 0 < 256) → v ≡ little 4 i l → w ≡ little 4 (i + 4) l
+    → t ≡ crcSteps 32 (bitXor (crcSteps 32 (bitXor s v)) w) → folded crcByte t (drop (i + 8) l) ≡ folded crcByte s (drop i l)
+eight-further l i s t v w h known ev ew e =
+    let m = crcSteps 32 (bitXor s v) in
+    let g : i + 8 ≡ i + 4 + 4 = omega arith in
+    ap (λ (k : ℕ). folded crcByte t (drop k l)) g
+    ∙ four-further l (i + 4) m t (omega arith) known (e ∙ ap (λ (z : ℕ). crcSteps 32 (bitXor m z)) ew)
+    ∙ four-further l i s m (omega arith) known (ap (λ (z : ℕ). crcSteps 32 (bitXor s z)) ev)
 
--- the highest byte of a remainder that four bytes have joined
-pub highest : (s f : ℕ) → s < 0x100000000 → f < 0x100000000 → bitXor s f / 256 / 256 / 256 < 256
-highest s f h i = quarters (bitXor s f) (xor-lt 32 s f h i)
+-- the highest byte of a word
+pub highest : (x : ℕ) → x < 0x100000000 → x / 256 / 256 / 256 < 256
+highest x h = omega arith

@@ -1,6 +1,6 @@
 // The two checksums of a PNG: CRC-32 over its chunks, and Adler-32 over what its zlib stream holds.
 ghost use mathlib.Core.Path.{_≡_};
-ghost use Prim.Native.Nat.{ℕ, _+_, _<_, _≤_};
+ghost use Prim.Native.Nat.{ℕ, _+_, _*_, _<_, _≤_};
 ghost use lib.Bits.{bitXor};
 ghost use lib.ListN.{length};
 ghost use Rattle.checksum.specs.Sums.{Remainders, crcSteps, crcByte, crcMore, crc as crcSum, adlerMore};
@@ -292,43 +292,64 @@ fn crc_byte(table: &[u32; 256], sum: u32, b: u8) -> u32
     table[low] ^ (mixed / 256)
 }
 
-// The remainder after four bytes more, which are one number, the least first: by the tables of 8, 16, 24 and 32 steps.
-fn crc_four(
+// A word of four bytes, the least first, by four tables: each byte has its own, of eight steps more than that of the byte above it.
+// Which tables is for the caller to say: a word with another word behind it is taken through the steps of both.
+fn by_four(ta: &[u32; 256], tb: &[u32; 256], tc: &[u32; 256], td: &[u32; 256], word: u32) -> u32
+    ensures { λ r. ⌜ ((n : ℕ) → Remainders (8 + n) (now (ta .entry)) → Remainders (16 + n) (now (tb .entry))
+        → Remainders (24 + n) (now (tc .entry)) → Remainders (32 + n) (now (td .entry)) → r ≡ crcSteps (32 + n) word) ⌝ }
+{
+    let a = (word % 256) as usize;
+    let b = (word / 256 % 256) as usize;
+    let c = (word / 256 / 256 % 256) as usize;
+    let d = (word / 256 / 256 / 256) as usize;
+    td[a] ^ (tc[b] ^ (tb[c] ^ ta[d]))
+}
+
+// The remainder after eight bytes more, which are two words: neither waits for what the other comes to.
+fn crc_eight(
     t8: &[u32; 256],
     t16: &[u32; 256],
     t24: &[u32; 256],
     t32: &[u32; 256],
+    t40: &[u32; 256],
+    t48: &[u32; 256],
+    t56: &[u32; 256],
+    t64: &[u32; 256],
     sum: u32,
-    four: u32,
+    low: u32,
+    high: u32,
 ) -> u32
-    requires { ⌜ Remainders 8 (now t8) × Remainders 16 (now t16) × Remainders 24 (now t24) × Remainders 32 (now t32) ⌝ }
-    ensures { λ r. ⌜ r ≡ crcSteps 32 (bitXor sum four) ⌝ }
+    requires { ⌜ Remainders 8 (now t8) × Remainders 16 (now t16) × Remainders 24 (now t24) × Remainders 32 (now t32)
+        × Remainders 40 (now t40) × Remainders 48 (now t48) × Remainders 56 (now t56) × Remainders 64 (now t64) ⌝ }
+    ensures { λ r. ⌜ r ≡ crcSteps 32 (bitXor (crcSteps 32 (bitXor sum low)) high) ⌝ }
 {
-    let mixed = sum ^ four;
-    let a = (mixed % 256) as usize;
-    let b = (mixed / 256 % 256) as usize;
-    let c = (mixed / 256 / 256 % 256) as usize;
-    let d = (mixed / 256 / 256 / 256) as usize;
-    t32[a] ^ (t24[b] ^ (t16[c] ^ t8[d]))
+    by_four(t40, t48, t56, t64, sum ^ low) ^ by_four(t8, t16, t24, t32, high)
 }
 
-// The remainder after some bytes more, by the tables: four at a time, and the last ones one by one.
+// The remainder after some bytes more, by the tables: eight at a time, and the last ones one by one.
 fn crc_by(
     t8: &[u32; 256],
     t16: &[u32; 256],
     t24: &[u32; 256],
     t32: &[u32; 256],
+    t40: &[u32; 256],
+    t48: &[u32; 256],
+    t56: &[u32; 256],
+    t64: &[u32; 256],
     sum: u32,
     bytes: &[u8],
 ) -> u32
-    requires { ⌜ Remainders 8 (now t8) × Remainders 16 (now t16) × Remainders 24 (now t24) × Remainders 32 (now t32) ⌝ }
+    requires { ⌜ Remainders 8 (now t8) × Remainders 16 (now t16) × Remainders 24 (now t24) × Remainders 32 (now t32)
+        × Remainders 40 (now t40) × Remainders 48 (now t48) × Remainders 56 (now t56) × Remainders 64 (now t64) ⌝ }
     ensures { λ r. ⌜ r ≡ crcMore sum (now (bytes .entry)) ⌝ }
 {
     let mut now_at = sum;
     let mut i: usize = 0;
-    while 3 < bytes.len() - i {
-        now_at = crc_four(t8, t16, t24, t32, now_at, numbers::little4(bytes, i) as u32);
-        i += 4;
+    while 7 < bytes.len() - i {
+        let low = numbers::little4(bytes, i) as u32;
+        let high = numbers::little4(bytes, i + 4) as u32;
+        now_at = crc_eight(t8, t16, t24, t32, t40, t48, t56, t64, now_at, low, high);
+        i += 8;
     }
     while i < bytes.len() {
         now_at = crc_byte(t8, now_at, bytes[i]);
@@ -345,7 +366,11 @@ pub fn crc_more(sum: u32, bytes: &[u8]) -> u32
     let t16 = longer(&t8, &t8);
     let t24 = longer(&t8, &t16);
     let t32 = longer(&t8, &t24);
-    crc_by(&t8, &t16, &t24, &t32, sum, bytes)
+    let t40 = longer(&t8, &t32);
+    let t48 = longer(&t8, &t40);
+    let t56 = longer(&t8, &t48);
+    let t64 = longer(&t8, &t56);
+    crc_by(&t8, &t16, &t24, &t32, &t40, &t48, &t56, &t64, sum, bytes)
 }
 
 // The CRC-32 of some bytes.
@@ -355,7 +380,22 @@ pub fn crc(bytes: &[u8]) -> u32
     crc_more(0xFFFFFFFF, bytes) ^ 0xFFFFFFFF
 }
 
-// The two sums after a run of bytes. They are reduced once, behind the last byte, since a division costs more than many sums.
+// What four bytes add to the first sum.
+fn added(a: u8, b: u8, c: u8, d: u8) -> u64
+    ensures { λ r. ⌜ (r ≡ a + b + c + d) × (r ≤ 1020) ⌝ }
+{
+    a as u64 + b as u64 + c as u64 + d as u64
+}
+
+// What four bytes add to the second sum, beside four times the first: a byte is in each first sum from its own on.
+fn weighed(a: u8, b: u8, c: u8, d: u8) -> u64
+    ensures { λ r. ⌜ (r ≡ 4 * a + 3 * b + 2 * c + d) × (r ≤ 2550) ⌝ }
+{
+    4 * a as u64 + 3 * b as u64 + 2 * c as u64 + d as u64
+}
+
+// The two sums after a run of bytes. They are reduced once, behind the last byte, since a division costs more than many sums. Four bytes
+// are taken at once, since byte by byte each sum waits for the one before it.
 fn adler_run(sum: u32, run: &[u8]) -> u32
     requires { ⌜ (0 < length (now run)) × (length (now run) ≤ 4096) ⌝ }
     ensures { λ r. ⌜ r ≡ adlerMore sum (now (run .entry)) ⌝ }
@@ -363,6 +403,15 @@ fn adler_run(sum: u32, run: &[u8]) -> u32
     let mut first = (sum % 0x10000) as u64;
     let mut second = (sum / 0x10000) as u64;
     let mut i: usize = 0;
+    while 3 < run.len() - i {
+        let a = run[i];
+        let b = run[i + 1];
+        let c = run[i + 2];
+        let d = run[i + 3];
+        second += 4 * first + weighed(a, b, c, d);
+        first += added(a, b, c, d);
+        i += 4;
+    }
     while i < run.len() {
         first += run[i] as u64;
         second += first;

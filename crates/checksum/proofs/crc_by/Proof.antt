@@ -1,29 +1,28 @@
 -- `checksum::crc_by` meets its contract: what is left to fold, from the state so far, comes to the same at each turn.
 -- Assumes nothing.
-use mathlib.Core.Path.{_≡_, _∙_, refl, sym, ap}
-use Prim.Native.Nat.{ℕ, _≤_, _-_}
+use mathlib.Core.Path.{_≡_, _∙_, refl, sym}
+use Prim.Native.Nat.{ℕ, _<_, _≤_, _-_}
 use native.Mathlib.Omega.{arith}
-use lib.Bits.{bitXor}
-use lib.ListN.{length, drop}
+use lib.ListN.{length, getD, drop}
 use denote.Ref.{now}
-use Rattle.checksum.specs.Sums.{crcSteps, crcByte, folded}
+use Rattle.checksum.specs.Sums.{crcByte, folded}
 use Rattle.checksum.proofs.Fold.{further, over}
-use Rattle.checksum.proofs.Four.{four-further}
+use Rattle.checksum.proofs.Four.{eight-further}
 use borrow.Author.Needs.{needs}
 use Rattle.checksum.proofs.crc_by.Statement.{statement}
 use Rattle.checksum.proofs.crc_by.Tie as tie
 
 abbrev Inv-loop : tie.InvT-loop
-Inv-loop t8 t16 t24 t32 sum bytes now-at₀ i₀ now-at i = (i ≤ length bytes) × (folded crcByte now-at (drop i bytes) ≡ folded crcByte sum bytes)
+Inv-loop t8 t16 t24 t32 t40 t48 t56 t64 sum bytes now-at₀ i₀ now-at i = (i ≤ length bytes) × (folded crcByte now-at (drop i bytes) ≡ folded crcByte sum bytes)
 
 abbrev μ-loop : tie.MeasureT-loop
-μ-loop t8 t16 t24 t32 sum bytes now-at₀ i₀ now-at i = length bytes - i
+μ-loop t8 t16 t24 t32 t40 t48 t56 t64 sum bytes now-at₀ i₀ now-at i = length bytes - i
 
 abbrev Inv-loop2 : tie.InvT-loop2
-Inv-loop2 t8 t16 t24 t32 sum bytes now-at₀ i₀ now-at i = (i ≤ length bytes) × (folded crcByte now-at (drop i bytes) ≡ folded crcByte sum bytes)
+Inv-loop2 t8 t16 t24 t32 t40 t48 t56 t64 sum bytes now-at₀ i₀ now-at i = (i ≤ length bytes) × (folded crcByte now-at (drop i bytes) ≡ folded crcByte sum bytes)
 
 abbrev μ-loop2 : tie.MeasureT-loop2
-μ-loop2 t8 t16 t24 t32 sum bytes now-at₀ i₀ now-at i = length bytes - i
+μ-loop2 t8 t16 t24 t32 t40 t48 t56 t64 sum bytes now-at₀ i₀ now-at i = length bytes - i
 
 loop-holds : tie.Need-loop-holds Inv-loop μ-loop Inv-loop2 μ-loop2
 loop-holds c = (omega arith, refl)
@@ -34,11 +33,20 @@ sub-loop c = search needs
 little4-requires : tie.Need-little4-requires Inv-loop μ-loop Inv-loop2 μ-loop2
 little4-requires c κs = search needs
 
-cast-crc-four : tie.Need-cast-crc-four Inv-loop μ-loop Inv-loop2 μ-loop2
-cast-crc-four c = search needs
+cast-low : tie.Need-cast-low Inv-loop μ-loop Inv-loop2 μ-loop2
+cast-low c = search needs
 
-crc-four-requires : tie.Need-crc-four-requires Inv-loop μ-loop Inv-loop2 μ-loop2
-crc-four-requires c κs = c .before .before .before .before .pre
+add-little4 : tie.Need-add-little4 Inv-loop μ-loop Inv-loop2 μ-loop2
+add-little4 c = search needs
+
+little4-requires-2 : tie.Need-little4-requires-2 Inv-loop μ-loop Inv-loop2 μ-loop2
+little4-requires-2 c κs = search needs
+
+cast-high : tie.Need-cast-high Inv-loop μ-loop Inv-loop2 μ-loop2
+cast-high c = search needs
+
+crc-eight-requires : tie.Need-crc-eight-requires Inv-loop μ-loop Inv-loop2 μ-loop2
+crc-eight-requires c κs = c .before .before .before .before .before .pre
 
 add-i : tie.Need-add-i Inv-loop μ-loop Inv-loop2 μ-loop2
 add-i c = search needs
@@ -48,11 +56,13 @@ loop-less c = search needs
 
 loop-again : tie.Need-loop-again Inv-loop μ-loop Inv-loop2 μ-loop2
 loop-again c =
-    let l = c .before .before .before .loop in
-    let k = c .before .before .before .before in
+    let l = c .before .before .before .before .loop in
+    let k = c .before .before .before .before .before in
     let d = now (k .before .args .bytes) in
-    let e = c .crc-four .ensures ∙ ap (λ (z : ℕ). crcSteps 32 (bitXor (l .now-at) z)) (c .before .little4 .ensures .0) in
-    (omega arith, four-further d (l .i) (l .now-at) (c .crc-four .result) (omega arith) (λ j. omega (arith, k .shared-slice-known .given j)) e ∙ l .inv .1)
+    let known : (j : ℕ) → getD d j 0 < 256 = λ j. omega (arith, k .shared-slice-known .given j) in
+    let low = c .before .before .little4 .ensures .0 in
+    let high = c .before .little42 .ensures .0 in
+    (omega arith, eight-further d (l .i) (l .now-at) (c .crc-eight .result) _ _ (omega arith) known low high (c .crc-eight .ensures) ∙ l .inv .1)
 
 loop2-holds : tie.Need-loop2-holds Inv-loop μ-loop Inv-loop2 μ-loop2
 loop2-holds c = c .before .loop .inv
@@ -91,8 +101,11 @@ crc-by-spec =
     loop-holds
     sub-loop
     little4-requires
-    cast-crc-four
-    crc-four-requires
+    cast-low
+    add-little4
+    little4-requires-2
+    cast-high
+    crc-eight-requires
     add-i
     loop-less
     loop-again

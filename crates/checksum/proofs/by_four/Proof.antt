@@ -1,15 +1,15 @@
--- `checksum::crc_four` meets its contract: each byte by its own table.
+-- `checksum::by_four` meets its contract: each byte by its own table.
 -- Assumes nothing.
 use mathlib.Core.Path.{_∙_, sym, ap₂}
-use Prim.Native.Nat.{_/_, _%_}
+use Prim.Native.Nat.{ℕ, _/_, _%_}
 use native.Mathlib.Omega.{arith}
 use native.Mathlib.Nat.{mod-lt}
 use lib.Bits.{bitXor}
 use Rattle.checksum.specs.Sums.{Remainders}
 use Rattle.checksum.proofs.Four.{by-tables, highest}
 use borrow.Author.Needs.{needs}
-use Rattle.checksum.proofs.crc_four.Statement.{statement}
-use Rattle.checksum.proofs.crc_four.Tie as tie
+use Rattle.checksum.proofs.by_four.Statement.{statement}
+use Rattle.checksum.proofs.by_four.Tie as tie
 
 cast-a : tie.Need-cast-a
 cast-a c = search needs
@@ -21,7 +21,7 @@ cast-c : tie.Need-cast-c
 cast-c c = search needs
 
 cast-d : tie.Need-cast-d
-cast-d c = omega (arith, highest (c .args .sum) (c .args .four) (omega arith) (omega arith))
+cast-d c = omega (arith, highest (c .args .word) (omega arith))
 
 mul-result : tie.Need-mul-result
 mul-result c = search needs
@@ -44,28 +44,27 @@ element-copy-out-result-3 c = search needs
 mul-result-4 : tie.Need-mul-result-4
 mul-result-4 c =
     let a = c .before .before .before .args in
-    omega (arith, highest (a .sum) (a .four) (omega arith) (omega arith))
+    omega (arith, highest (a .word) (omega arith))
 
 element-copy-out-result-4 : tie.Need-element-copy-out-result-4
 element-copy-out-result-4 c =
     let a = c .before .before .before .args in
-    highest (a .sum) (a .four) (omega arith) (omega arith)
+    highest (a .word) (omega arith)
 
 returns : tie.Need-returns
 unfolding Remainders
 returns c =
-    let s = c .before .before .before .before in
-    let x = bitXor (s .args .sum) (s .args .four) in
+    let x = c .before .before .before .before .args .word in
     let y = x / 256 in
     let z = y / 256 in
-    ap₂ bitXor (s .pre .3 (x % 256) (mod-lt x (omega arith)))
-    (ap₂ bitXor (s .pre .2 (y % 256) (mod-lt y (omega arith)))
-    (ap₂ bitXor (s .pre .1 (z % 256) (mod-lt z (omega arith)))
-    (s .pre .0 (z / 256) (highest (s .args .sum) (s .args .four) (omega arith) (omega arith)))))
-    ∙ sym (by-tables x)
+    λ (n : ℕ) ha hb hc hd.
+    ap₂ bitXor (hd (x % 256) (mod-lt x (omega arith)))
+    (ap₂ bitXor (hc (y % 256) (mod-lt y (omega arith)))
+    (ap₂ bitXor (hb (z % 256) (mod-lt z (omega arith))) (ha (z / 256) (highest x (omega arith)))))
+    ∙ sym (by-tables n x)
 
-pub crc-four-spec : {M : Type 1} → statement M
-crc-four-spec =
+pub by-four-spec : {M : Type 1} → statement M
+by-four-spec =
     tie.close
     (tie.spec
     cast-a
