@@ -139,7 +139,7 @@ def unlinked(room):
     os.chmod(write(os.path.join(tools, "mv"), b"#!/bin/sh\necho 'mv: a cause' >&2\nexit 1\n"), 0o755)
     status, _, sentence = unpack(OLD, out, env=env)
     note(status == 31 and "a cause" in sentence and listing(room) == ["tools"], "no links, and no rename: nothing is left: %s" % listing(room))
-    slow(room, env, "mv", b"#!/bin/sh\n: >\"$HERE/reached\"\nsleep 1\nPATH=/usr/bin:/bin exec mv \"$@\"\n")
+    slow(room, env, "mv", b"#!/bin/sh\n: >\"$HERE/reached\"\nsleep 1\ncommand -p mv \"$@\"\n")
     note(content(out) == content(example("old.png")), "no links, and a signal: the PNG is whole")
 
 
@@ -160,7 +160,7 @@ def unnamed(room):
     """A signal before the script knows the name of its folder."""
     os.mkdir(os.path.join(room, "tools"))
     env = dict(os.environ, PATH=os.path.join(room, "tools") + ":" + os.environ["PATH"])
-    text = b"#!/bin/sh\nmade=$(PATH=/usr/bin:/bin mktemp \"$@\")\n: >\"$HERE/reached\"\nsleep 1\necho \"$made\"\n"
+    text = b"#!/bin/sh\nmade=$(command -p mktemp \"$@\")\n: >\"$HERE/reached\"\nsleep 1\necho \"$made\"\n"
     slow(room, env, "mktemp", text)
 
 
