@@ -3,7 +3,6 @@
 use mathlib.Core.Bool.{Bool, true, false, cond}
 use mathlib.Core.List.{List, [], _∷_, _++_}
 use Prim.Native.Nat.{ℕ}
-use Prim.Native.String.{String}
 use Rattle.texts.specs.Texts.{bytes, decimal}
 use Rattle.labels.specs.Labels.{formatName, orderName, yesOrNo}
 use Rattle.facts.specs.declared.Container.{Container}

@@ -3,7 +3,7 @@
 use keys::At;
 use pens::Pen;
 ghost use mathlib.Core.Bool.{cond, not, _&&_};
-ghost use mathlib.Core.List.{_∷_, []};
+ghost use mathlib.Core.List.{[]};
 ghost use Prim.Native.Nat.{_+_, _*_, _≤_};
 ghost use lib.Dec.{eqb, ltb};
 ghost use lib.ListN.{length};

@@ -6,7 +6,7 @@ use Prim.Native.Nat.{ℕ, _+_, _≤_, _<_}
 use native.Mathlib.Omega.{arith}
 use native.Mathlib.Numerals.{add-one}
 use lib.ListN.{length, take, getD, set, length-take, length-append}
-use lib.Seq.{sets, length-sets, take-suc}
+use lib.Seq.{sets, take-suc}
 use Rattle.numbers.proofs.Stores.{join, next, kept}
 use Rattle.texts.specs.Texts.{Puts}
 
