@@ -33,6 +33,8 @@ pub enum Half {
     Opaque,
     Alpha,
     Channel,
+    /// The same without the base -128, which the crate reads as it is.
+    SignedChannel,
     /// Two colours in any order.
     Desktop,
     /// Two alphas in any order.
@@ -62,6 +64,7 @@ pub fn random(count: usize, halves: &[Half], random: &mut Random) -> Vec<u8> {
         match half {
             Half::InRange if !block[..3].iter().all(|byte| in_range(*byte)) => block[3] &= !2,
             Half::DesktopFour => (block[1], block[3]) = (block[1] | 0x80, block[3] & 0x7f),
+            Half::SignedChannel => block[0] = signed_base(block[0]),
             _ => (),
         }
     }
@@ -91,6 +94,7 @@ pub fn natural(count: usize, halves: &[Half], random: &mut Random) -> Vec<u8> {
                 Half::Opaque => punched(kind, true, random),
                 Half::Alpha => alpha(share < 25, random),
                 Half::Channel => alpha(false, random),
+                Half::SignedChannel => signed(random),
                 Half::Desktop => desktop(share >= 10, random),
                 Half::DesktopAlpha => desktop_alpha(share < 25, random),
                 Half::DesktopFour => desktop(true, random),
@@ -177,6 +181,22 @@ fn alpha(flat: bool, random: &mut Random) -> [u8; 8] {
     let multiplier = if flat { 0 } else { 1 + random.below(15) as u8 };
     block[1] = multiplier << 4 | block[1] & 15;
     block
+}
+
+/// A channel of signed values.
+fn signed(random: &mut Random) -> [u8; 8] {
+    let mut block = alpha(false, random);
+    block[0] = signed_base(block[0]);
+    block
+}
+
+/// A base that library and crate read alike.
+fn signed_base(base: u8) -> u8 {
+    if base == 0x80 {
+        0x81
+    } else {
+        base
+    }
 }
 
 /// Four colours near each other, or three.

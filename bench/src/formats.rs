@@ -20,7 +20,7 @@ pub struct Format {
 /// BC1 has the shape of x86-64's vector code; on Arm the crate's own is quick, and less is gained.
 const BC1: f64 = if cfg!(target_arch = "x86_64") { 0.70 } else { 0.90 };
 
-pub const FORMATS: [Format; 13] = [
+pub const FORMATS: [Format; 15] = [
     Format {
         name: "ETC1",
         halves: &[Half::Colour],
@@ -90,11 +90,27 @@ pub const FORMATS: [Format; 13] = [
         limit: 0.33,
     },
     Format {
+        name: "EAC R signed",
+        halves: &[Half::SignedChannel],
+        library: yalivucu::decode_eacr_signed,
+        pitched: Some(yalivucu::decode_eacr_signed_pitched),
+        given: given::decode_eacr_signed,
+        limit: 0.33,
+    },
+    Format {
         name: "EAC RG",
         halves: &[Half::Channel, Half::Channel],
         library: yalivucu::decode_eacrg,
         pitched: Some(yalivucu::decode_eacrg_pitched),
         given: given::decode_eacrg,
+        limit: 0.33,
+    },
+    Format {
+        name: "EAC RG signed",
+        halves: &[Half::SignedChannel, Half::SignedChannel],
+        library: yalivucu::decode_eacrg_signed,
+        pitched: Some(yalivucu::decode_eacrg_signed_pitched),
+        given: given::decode_eacrg_signed,
         limit: 0.33,
     },
     Format {
@@ -147,7 +163,7 @@ impl Format {
         let mut theirs = ours.clone();
         (self.given)(data, width, height, &mut theirs).expect("the crate refused");
         let told: Vec<u8> = match self.halves[0] {
-            Half::Channel => data.chunks(8).flat_map(backwards).collect(),
+            Half::Channel | Half::SignedChannel => data.chunks(8).flat_map(backwards).collect(),
             _ => data.to_vec(),
         };
         (self.library)(&told, width, height, &mut ours).expect("the library refused");
