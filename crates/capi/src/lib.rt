@@ -1,6 +1,10 @@
 // The public readers of crates/etc under C names, for `rt staticlib`: a slice is a pointer and a length, and the answer is document 01's
 // number of it. Each owes what the reader that it calls owes, and has no requires; that a C caller's pointers are what the types say,
 // nothing can check. include/yalivucu.h tells a C programmer the same in words.
+mod degrees_lent;
+mod pieces_lent;
+mod told;
+
 use rules::Answer;
 use rules::Format;
 use rules::Picture;
@@ -18,10 +22,10 @@ ghost use Rattle.rules.specs.Sheets.{ReadsSheet};
 ghost use Rattle.rules.specs.Pieces.{Ends};
 ghost use Rattle.rules.specs.Checking.{Checks};
 ghost use Rattle.rules.specs.Baking.{Bakes};
-ghost use Rattle.pieces_lent.specs.Lent.{stateIn, StartLent, PieceLent};
-ghost use Rattle.degrees_lent.specs.Lent.{legendAt, DegreesTold};
+ghost use Rattle.capi.specs.pieces_lent.Lent.{stateIn, StartLent, PieceLent};
+ghost use Rattle.capi.specs.degrees_lent.Lent.{legendAt, DegreesTold};
 ghost use Rattle.capi.specs.Census.{CountsInto};
-ghost use Rattle.told.specs.Told.{Told, blockOr};
+ghost use Rattle.capi.specs.told.Told.{Told, blockOr};
 ghost use Rattle.capi.specs.Told.{HeadTold, WriterTold, BakingTold};
 
 // Reads an ETC1 picture.

@@ -12,7 +12,7 @@ use Rattle.rules.specs.Modes.{etc1Pixel}
 use Rattle.rules.specs.Counting.{each}
 use Rattle.rules.specs.Checking.{near, pixel, like, checkVerdict}
 use Rattle.laws.proofs.Filled.{getD-build}
-use Rattle.baking.proofs.Each.{each-same}
+use Rattle.bake.proofs.baking.Each.{each-same}
 
 -- the test of sixteen pixels that are a block's is the test of the block
 pub of-block : (t : ℕ) (d pixels l : List ℕ) → pixels ≡ tile etc1Pixel d → each (λ k. near t (getD pixels k 0) (getD l k 0)) 16 ≡ like t d l

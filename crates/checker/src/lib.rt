@@ -1,4 +1,5 @@
 // The checker of ETC1 blocks that an outside baker sends.
+use bake::distance;
 use rules::Baking;
 use rules::Format;
 use rules::Kind;

@@ -25,7 +25,7 @@ use Rattle.rules.specs.declared.Picture.{Picture}
 use Rattle.laws.proofs.Guards.{Sound, finds-none, strict-sound, opaque-sound}
 use Rattle.laws.proofs.Judged.{numbered, all-pass, goes-on}
 use Rattle.laws.proofs.Unique.{answer}
-use Rattle.place.proofs.Grid.{some-needed, none-needed}
+use Rattle.pixel.proofs.place.Grid.{some-needed, none-needed}
 use Rattle.checks.specs.Passed.{Passed}
 use Rattle.checks.proofs.Checks.{passed, passed-by, passed-exactly}
 use Rattle.picture.proofs.Guard.{agree}

@@ -25,8 +25,8 @@ use Rattle.rules.specs.declared.Picture.{Picture}
 use Rattle.laws.proofs.Paint.{getD-painted}
 use Rattle.laws.proofs.Judged.{all-pass}
 use Rattle.laws.proofs.Unique.{answer}
-use Rattle.place.specs.Tile.{Room}
-use Rattle.place.proofs.Grid.{column-at, row-at, inside-at, none-needed, beyond, in-gap, roomy}
+use Rattle.pixel.specs.place.Tile.{Room}
+use Rattle.pixel.proofs.place.Grid.{column-at, row-at, inside-at, none-needed, beyond, in-gap, roomy}
 use Rattle.checks.proofs.Checks.{passed-by}
 use Rattle.laws.proofs.Reach.{some-bytes}
 use Rattle.claims.proofs.Outcomes.{Same, same-outcome, an-acceptance-paints, the-length-stays, the-rest-stays}

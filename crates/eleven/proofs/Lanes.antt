@@ -17,8 +17,8 @@ use Rattle.rules.specs.Whole.{eacWhole, sixteen, wholePixel}
 use Rattle.laws.specs.Painted.{Painted}
 use Rattle.laws.proofs.Paint.{said, also}
 use Rattle.laws.proofs.Filled.{getD-build}
-use Rattle.place.specs.Tile.{InTile, Room, numberIn}
-use Rattle.place.proofs.Grid.{rem-at, div-at, column-in, row-in, inside-at, only, within}
+use Rattle.pixel.specs.place.Tile.{InTile, Room, numberIn}
+use Rattle.pixel.proofs.place.Grid.{rem-at, div-at, column-in, row-in, inside-at, only, within}
 use Rattle.eleven.specs.Lanes.{twice, paired, PaintsBlock}
 
 -- the sixteen values of a channel

@@ -14,7 +14,7 @@ use Rattle.rules.specs.Whole.{wholePixel, wholeAt, wholePicture}
 use Rattle.laws.proofs.Paint.{none}
 use Rattle.laws.proofs.Parts.{part}
 use Rattle.laws.proofs.Signed.{times-le}
-use Rattle.place.proofs.Grid.{before}
+use Rattle.pixel.proofs.place.Grid.{before}
 use Rattle.blocks.proofs.Blocks.{next-in, all-in, room}
 use Rattle.blocks.proofs.Runs.{two-runs-in}
 use Rattle.eleven.specs.Lanes.{PaintsBlock, PaintsBlocks}

@@ -9,7 +9,7 @@ use Rattle.rules.specs.Answers.{limit}
 use Rattle.rules.specs.declared.Picture.{Picture}
 use Rattle.rules.specs.Whole.{wholePixel, wholeAt}
 use Rattle.laws.specs.Painted.{Painted}
-use Rattle.place.specs.Tile.{InTile}
+use Rattle.pixel.specs.place.Tile.{InTile}
 use Rattle.blocks.specs.Run.{InRun}
 
 -- red, or red and green

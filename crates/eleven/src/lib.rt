@@ -1,8 +1,11 @@
 // All eleven bits of EAC R and RG, as 16-bit numbers in a lent image: the checks, then every block in its place. A picture with two numbers
 // to a pixel is a picture of numbers, twice as wide with twice the pitch, in which a block has two tiles beside each other.
+use eac::values;
+use eac::values::Span;
+use pixel::lanes;
 use rules::Answer;
 use rules::Picture;
-use values::Span;
+use tables::consts;
 ghost use mathlib.Core.Path.{_≡_};
 ghost use Prim.Native.Nat.{_+_, _*_, _/_, _<_, _≤_};
 ghost use lib.ListN.{length};
@@ -12,7 +15,7 @@ ghost use Rattle.rules.specs.Answers.{limit};
 ghost use Rattle.rules.specs.Channels.{alphaSteps};
 ghost use Rattle.rules.specs.Whole.{wholePicture, ReadsWhole};
 ghost use Rattle.checks.specs.Passed.{Passed};
-ghost use Rattle.values.specs.Spans.{Spans};
+ghost use Rattle.eac.specs.values.Spans.{Spans};
 ghost use Rattle.eleven.specs.Lanes.{lanes, twice, paired, Ready, PaintsBlock, PaintsBlocks};
 
 // How many numbers a pixel has: red, and green where there is one.

@@ -9,6 +9,7 @@
 // sheets, 7 a record cut short, 8 no head, 9 another kind, 10 not exactly the blocks; 11 a block whose opaque bit is clear, with its
 // number (opaque only); of degrees, 13 the legend, 14 the digits, 15 the measurement; 16 a base channel above 15 or a flip above 1 (baker
 // only). A refusal changes nothing. 18 is no refusal: the checker does not accept the block.
+use bake::baker;
 use rules::Answer;
 use rules::Baking;
 use rules::Format;
@@ -22,6 +23,7 @@ use rules::Sheet;
 use rules::Started;
 use rules::Taken;
 use rules::Written;
+use sheet::write;
 use single::Joined;
 ghost use mathlib.Core.Path.{_≡_};
 ghost use mathlib.Core.Bool.{true, false};
@@ -510,7 +512,7 @@ pub fn write_sheet(
 ) -> Written
     ensures { λ r. ⌜ WritesSheet format (sized width height) (now (blocks .entry)) (now (out .entry)) r (now (out .exit)) ⌝ }
 {
-    sheet_write::write_sheet(format, width, height, blocks, out)
+    write::write_sheet(format, width, height, blocks, out)
 }
 
 // Starts to read a picture of any format whose bytes arrive in pieces.

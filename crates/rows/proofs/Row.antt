@@ -14,7 +14,7 @@ use Rattle.rules.specs.declared.Format.{Format}
 use Rattle.rules.specs.declared.Answer.{Answer}
 use Rattle.rules.specs.declared.Answer.the-variants.{Done}
 use Rattle.checks.proofs.Checks.{passed}
-use Rattle.place.proofs.Plain.{needed-plain}
+use Rattle.pixel.proofs.place.Plain.{needed-plain}
 use Rattle.strips.specs.Rows.{high, rowBytes, rowPixels}
 use Rattle.strips.proofs.Whole.{row-painted}
 use Rattle.rows.specs.Rows.{ReadsRow}

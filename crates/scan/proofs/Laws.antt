@@ -17,7 +17,7 @@ use Rattle.rules.specs.Guards.{Guard}
 use Rattle.rules.specs.declared.Answer.{Answer}
 use Rattle.rules.specs.declared.Answer.the-variants.{Done, ShortData}
 use Rattle.laws.proofs.Guards.{finds, finds-none}
-use Rattle.place.proofs.Grid.{wide}
+use Rattle.pixel.proofs.place.Grid.{wide}
 use Rattle.guard.specs.Viewers.{guardOf}
 use Rattle.guard.specs.declared.Viewer.{Viewer}
 use Rattle.guard.specs.declared.Viewer.the-variants as viewer

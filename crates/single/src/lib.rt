@@ -1,5 +1,8 @@
 // Single blocks: the checks, then sixteen pixels into the elements 0 to 15. One reader serves the formats; the alpha half and
 // a single channel, which join what stood there, have one each.
+use bc::bc3;
+use etc_alpha::channel;
+use pixel::fill;
 use rules::Answer;
 use rules::Format;
 ghost use mathlib.Core.Path.{_≡_};

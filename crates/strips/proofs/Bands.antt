@@ -19,7 +19,7 @@ use Rattle.rules.specs.declared.Picture.{Picture}
 use Rattle.laws.proofs.Filled.{build-same}
 use Rattle.laws.proofs.First.{first, only, first-alike}
 use Rattle.laws.proofs.Paint.{length-painted, getD-painted}
-use Rattle.place.proofs.Grid.{covered, column-in, row-in}
+use Rattle.pixel.proofs.place.Grid.{covered, column-in, row-in}
 use Rattle.strips.specs.Bands.{bytesIn, elementsIn, top, below, firstBad, firstInBands}
 
 -- ---- the bytes of a block

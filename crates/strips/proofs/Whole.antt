@@ -19,8 +19,8 @@ use Rattle.rules.specs.Places.{sized, inside, across, bytesOf, pixelAt, painted
 use Rattle.rules.specs.declared.Picture.{Picture}
 use Rattle.laws.proofs.Filled.{is-build, length-build, getD-build}
 use Rattle.laws.proofs.Paint.{length-painted, getD-painted}
-use Rattle.place.proofs.Grid.{wide}
-use Rattle.place.proofs.Plain.{inside-plain}
+use Rattle.pixel.proofs.place.Grid.{wide}
+use Rattle.pixel.proofs.place.Plain.{inside-plain}
 use Rattle.strips.specs.Rows.{high, rowOf, rowBytes, rowPixels, joined}
 use Rattle.strips.specs.Bands.{bytesIn, below}
 use Rattle.strips.proofs.Bands.{in-front, behind, pixel-top, pixel-below}

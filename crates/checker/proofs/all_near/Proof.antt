@@ -11,12 +11,12 @@ use borrow.Author.Tests.{not-true, not-false}
 use borrow.Author.Needs.{needs}
 use Rattle.rules.specs.Counting.{each}
 use Rattle.rules.specs.Checking.{near}
-use Rattle.baking.proofs.Each.{each-next, each-not}
+use Rattle.bake.proofs.baking.Each.{each-next, each-not}
 use Rattle.checker.proofs.all_near.Statement.{statement}
 use Rattle.checker.proofs.all_near.Tie as tie
 use Rattle.checker.proofs.all_near.Reads as reads
 use Rattle.checker.proofs.all_near.Lts as lts
-use Rattle.distance.proofs.near.Reads as near-reads
+use Rattle.bake.proofs.distance.near.Reads as near-reads
 
 -- the test of one pixel
 abbrev test : ℕ → List ℕ → List ℕ → ℕ → Bool

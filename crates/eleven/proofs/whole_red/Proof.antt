@@ -2,7 +2,7 @@
 -- Assumes nothing.
 use native.Mathlib.Omega.{arith}
 use denote.Ref.{now}
-use Rattle.place.proofs.Grid.{roomy}
+use Rattle.pixel.proofs.place.Grid.{roomy}
 use Rattle.eleven.proofs.Lanes.{one-tile}
 use borrow.Author.Needs.{needs}
 use Rattle.eleven.proofs.whole_red.Statement.{statement}

@@ -8,8 +8,8 @@ use lib.ListN.{length}
 use denote.Ref.{now}
 use Rattle.rules.specs.Notation.{build}
 use Rattle.laws.proofs.Parts.{rest}
-use Rattle.place.specs.Tile.{Room}
-use Rattle.place.proofs.Grid.{kept}
+use Rattle.pixel.specs.place.Tile.{Room}
+use Rattle.pixel.proofs.place.Grid.{kept}
 use Rattle.eac.proofs.Bytes.{middle-held}
 use Rattle.eleven.specs.Lanes.{twice}
 use Rattle.eleven.proofs.Lanes.{valueAt, room-twice, both-tiles}

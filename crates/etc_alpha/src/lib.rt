@@ -1,0 +1,3 @@
+// TODO: what etc_alpha is.
+pub mod channel;
+pub mod picks;

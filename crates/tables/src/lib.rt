@@ -1,0 +1,3 @@
+// TODO: what tables is.
+pub mod consts;
+pub mod products;
