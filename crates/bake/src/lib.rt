@@ -1,4 +1,4 @@
-// TODO: what bake is.
+// The bake house: the checker of ETC1 blocks uses `distance`, and the baker of individual ETC1 blocks is `baker::bake`.
 pub mod baker;
 pub mod baking;
 mod codes;

@@ -1,4 +1,4 @@
-// The public readers of crates/etc under C names, for `rt staticlib`: a slice is a pointer and a length, and the answer is document 01's
+// The public readers of crates/readers under C names, for `rt staticlib`: a slice is a pointer and a length, and the answer is document 01's
 // number of it. Each owes what the reader that it calls owes, and has no requires; that a C caller's pointers are what the types say,
 // nothing can check. include/yalivucu.h tells a C programmer the same in words.
 mod degrees_lent;
@@ -621,7 +621,7 @@ pub extern "C" fn yalivucu_decode_eacrg11_signed_pitched(
 pub extern "C" fn yalivucu_decode_etc1_block(data: &[u8], out: &mut [u32]) -> u32
     ensures { λ r. ⌜ Told (λ a. ReadsBlock Format.Etc1 (now («data» .entry)) (now (out .entry)) a (now (out .exit))) r ⌝ }
 {
-    etc::number(etc::decode_etc1_block(data, out))
+    readers::number(readers::decode_etc1_block(data, out))
 }
 
 // Reads an ETC2 RGB block of 8 bytes into the elements 0 to 15.
@@ -629,7 +629,7 @@ pub extern "C" fn yalivucu_decode_etc1_block(data: &[u8], out: &mut [u32]) -> u3
 pub extern "C" fn yalivucu_decode_etc2_rgb_block(data: &[u8], out: &mut [u32]) -> u32
     ensures { λ r. ⌜ Told (λ a. ReadsBlock Format.Etc2Rgb (now («data» .entry)) (now (out .entry)) a (now (out .exit))) r ⌝ }
 {
-    etc::number(etc::decode_etc2_rgb_block(data, out))
+    readers::number(readers::decode_etc2_rgb_block(data, out))
 }
 
 // Reads an ETC2 RGBA1 block of 8 bytes into the elements 0 to 15.
@@ -637,7 +637,7 @@ pub extern "C" fn yalivucu_decode_etc2_rgb_block(data: &[u8], out: &mut [u32]) -
 pub extern "C" fn yalivucu_decode_etc2_rgba1_block(data: &[u8], out: &mut [u32]) -> u32
     ensures { λ r. ⌜ Told (λ a. ReadsBlock Format.Etc2Rgba1 (now («data» .entry)) (now (out .entry)) a (now (out .exit))) r ⌝ }
 {
-    etc::number(etc::decode_etc2_rgba1_block(data, out))
+    readers::number(readers::decode_etc2_rgba1_block(data, out))
 }
 
 // Reads an ETC2 RGBA8 block of 16 bytes into the elements 0 to 15.
@@ -645,7 +645,7 @@ pub extern "C" fn yalivucu_decode_etc2_rgba1_block(data: &[u8], out: &mut [u32])
 pub extern "C" fn yalivucu_decode_etc2_rgba8_block(data: &[u8], out: &mut [u32]) -> u32
     ensures { λ r. ⌜ Told (λ a. ReadsBlock Format.Etc2Rgba8 (now («data» .entry)) (now (out .entry)) a (now (out .exit))) r ⌝ }
 {
-    etc::number(etc::decode_etc2_rgba8_block(data, out))
+    readers::number(readers::decode_etc2_rgba8_block(data, out))
 }
 
 // Reads an EAC R block of 8 bytes into the elements 0 to 15.
@@ -653,7 +653,7 @@ pub extern "C" fn yalivucu_decode_etc2_rgba8_block(data: &[u8], out: &mut [u32])
 pub extern "C" fn yalivucu_decode_eacr_block(data: &[u8], out: &mut [u32]) -> u32
     ensures { λ r. ⌜ Told (λ a. ReadsBlock Format.EacR (now («data» .entry)) (now (out .entry)) a (now (out .exit))) r ⌝ }
 {
-    etc::number(etc::decode_eacr_block(data, out))
+    readers::number(readers::decode_eacr_block(data, out))
 }
 
 // Reads a signed EAC R block of 8 bytes into the elements 0 to 15.
@@ -661,7 +661,7 @@ pub extern "C" fn yalivucu_decode_eacr_block(data: &[u8], out: &mut [u32]) -> u3
 pub extern "C" fn yalivucu_decode_eacr_signed_block(data: &[u8], out: &mut [u32]) -> u32
     ensures { λ r. ⌜ Told (λ a. ReadsBlock Format.EacRSigned (now («data» .entry)) (now (out .entry)) a (now (out .exit))) r ⌝ }
 {
-    etc::number(etc::decode_eacr_signed_block(data, out))
+    readers::number(readers::decode_eacr_signed_block(data, out))
 }
 
 // Reads an EAC RG block of 16 bytes into the elements 0 to 15.
@@ -669,7 +669,7 @@ pub extern "C" fn yalivucu_decode_eacr_signed_block(data: &[u8], out: &mut [u32]
 pub extern "C" fn yalivucu_decode_eacrg_block(data: &[u8], out: &mut [u32]) -> u32
     ensures { λ r. ⌜ Told (λ a. ReadsBlock Format.EacRg (now («data» .entry)) (now (out .entry)) a (now (out .exit))) r ⌝ }
 {
-    etc::number(etc::decode_eacrg_block(data, out))
+    readers::number(readers::decode_eacrg_block(data, out))
 }
 
 // Reads a signed EAC RG block of 16 bytes into the elements 0 to 15.
@@ -677,7 +677,7 @@ pub extern "C" fn yalivucu_decode_eacrg_block(data: &[u8], out: &mut [u32]) -> u
 pub extern "C" fn yalivucu_decode_eacrg_signed_block(data: &[u8], out: &mut [u32]) -> u32
     ensures { λ r. ⌜ Told (λ a. ReadsBlock Format.EacRgSigned (now («data» .entry)) (now (out .entry)) a (now (out .exit))) r ⌝ }
 {
-    etc::number(etc::decode_eacrg_signed_block(data, out))
+    readers::number(readers::decode_eacrg_signed_block(data, out))
 }
 
 // Reads a BC1 block of 8 bytes without alpha into the elements 0 to 15.
@@ -685,7 +685,7 @@ pub extern "C" fn yalivucu_decode_eacrg_signed_block(data: &[u8], out: &mut [u32
 pub extern "C" fn yalivucu_decode_bc1_block(data: &[u8], out: &mut [u32]) -> u32
     ensures { λ r. ⌜ Told (λ a. ReadsBlock Format.Bc1 (now («data» .entry)) (now (out .entry)) a (now (out .exit))) r ⌝ }
 {
-    etc::number(etc::decode_bc1_block(data, out))
+    readers::number(readers::decode_bc1_block(data, out))
 }
 
 // Reads a BC1 block of 8 bytes with one bit of alpha into the elements 0 to 15.
@@ -693,7 +693,7 @@ pub extern "C" fn yalivucu_decode_bc1_block(data: &[u8], out: &mut [u32]) -> u32
 pub extern "C" fn yalivucu_decode_bc1a_block(data: &[u8], out: &mut [u32]) -> u32
     ensures { λ r. ⌜ Told (λ a. ReadsBlock Format.Bc1Alpha (now («data» .entry)) (now (out .entry)) a (now (out .exit))) r ⌝ }
 {
-    etc::number(etc::decode_bc1a_block(data, out))
+    readers::number(readers::decode_bc1a_block(data, out))
 }
 
 // Reads a BC3 block of 16 bytes into the elements 0 to 15.
@@ -701,7 +701,7 @@ pub extern "C" fn yalivucu_decode_bc1a_block(data: &[u8], out: &mut [u32]) -> u3
 pub extern "C" fn yalivucu_decode_bc3_block(data: &[u8], out: &mut [u32]) -> u32
     ensures { λ r. ⌜ Told (λ a. ReadsBlock Format.Bc3 (now («data» .entry)) (now (out .entry)) a (now (out .exit))) r ⌝ }
 {
-    etc::number(etc::decode_bc3_block(data, out))
+    readers::number(readers::decode_bc3_block(data, out))
 }
 
 // Reads a BC7 block of 16 bytes into the elements 0 to 15.
@@ -709,7 +709,7 @@ pub extern "C" fn yalivucu_decode_bc3_block(data: &[u8], out: &mut [u32]) -> u32
 pub extern "C" fn yalivucu_decode_bc7_block(data: &[u8], out: &mut [u32]) -> u32
     ensures { λ r. ⌜ Told (λ a. ReadsBlock Format.Bc7 (now («data» .entry)) (now (out .entry)) a (now (out .exit))) r ⌝ }
 {
-    etc::number(etc::decode_bc7_block(data, out))
+    readers::number(readers::decode_bc7_block(data, out))
 }
 
 // Reads an alpha half of 8 bytes into the top bytes of the elements 0 to 15, and keeps the rest of them.
@@ -717,7 +717,7 @@ pub extern "C" fn yalivucu_decode_bc7_block(data: &[u8], out: &mut [u32]) -> u32
 pub extern "C" fn yalivucu_decode_etc2_a8_block(data: &[u8], out: &mut [u32]) -> u32
     ensures { λ r. ⌜ Told (λ a. ReadsAlpha (now («data» .entry)) (now (out .entry)) a (now (out .exit))) r ⌝ }
 {
-    etc::number(etc::decode_etc2_a8_block(data, out))
+    readers::number(readers::decode_etc2_a8_block(data, out))
 }
 
 // Reads an EAC block of 8 bytes and ORs its bytes into channel 0 blue, 1 green, 2 red or 3 alpha of the elements 0 to 15.
@@ -725,7 +725,7 @@ pub extern "C" fn yalivucu_decode_etc2_a8_block(data: &[u8], out: &mut [u32]) ->
 pub extern "C" fn yalivucu_decode_eac_block(data: &[u8], channel: usize, out: &mut [u32]) -> u32
     ensures { λ r. ⌜ Told (λ a. ReadsChannel false (now («data» .entry)) channel (now (out .entry)) a (now (out .exit))) r ⌝ }
 {
-    etc::number(etc::decode_eac_block(data, channel, out))
+    readers::number(readers::decode_eac_block(data, channel, out))
 }
 
 // Reads a signed EAC block of 8 bytes and ORs its bytes into channel 0 blue, 1 green, 2 red or 3 alpha of the elements 0 to 15.
@@ -737,7 +737,7 @@ pub extern "C" fn yalivucu_decode_eac_signed_block(
 ) -> u32
     ensures { λ r. ⌜ Told (λ a. ReadsChannel true (now («data» .entry)) channel (now (out .entry)) a (now (out .exit))) r ⌝ }
 {
-    etc::number(etc::decode_eac_signed_block(data, channel, out))
+    readers::number(readers::decode_eac_signed_block(data, channel, out))
 }
 
 // Reads the alpha half of a BC3 block, 8 bytes, into channel 0 blue, 1 green, 2 red or 3 alpha of the elements 0 to 15, in place of the
@@ -746,7 +746,7 @@ pub extern "C" fn yalivucu_decode_eac_signed_block(
 pub extern "C" fn yalivucu_decode_bc3_alpha(data: &[u8], channel: usize, out: &mut [u32]) -> u32
     ensures { λ r. ⌜ Told (λ a. ReplacesChannel (now («data» .entry)) channel (now (out .entry)) a (now (out .exit))) r ⌝ }
 {
-    etc::number(etc::decode_bc3_alpha(data, channel, out))
+    readers::number(readers::decode_bc3_alpha(data, channel, out))
 }
 
 // Counts the blocks of each kind of an ETC2 RGB picture: individual, differential, T, H, planar.
@@ -760,7 +760,7 @@ pub extern "C" fn yalivucu_census_etc2_rgb(
     ensures { λ r. ⌜ Told (λ a. CountsInto rgbTests (now («data» .entry)) (sized width height)
         (now (counts .entry)) a (now (counts .exit))) r ⌝ }
 {
-    match etc::census_etc2_rgb(data, width, height) {
+    match readers::census_etc2_rgb(data, width, height) {
         RgbCensus::TooLarge => 1,
         RgbCensus::ShortData => 2,
         RgbCensus::Counted(c) => {
@@ -781,7 +781,7 @@ pub extern "C" fn yalivucu_census_etc2_rgba1(
     ensures { λ r. ⌜ Told (λ a. CountsInto rgba1Tests (now («data» .entry)) (sized width height)
         (now (counts .entry)) a (now (counts .exit))) r ⌝ }
 {
-    match etc::census_etc2_rgba1(data, width, height) {
+    match readers::census_etc2_rgba1(data, width, height) {
         Rgba1Census::TooLarge => 1,
         Rgba1Census::ShortData => 2,
         Rgba1Census::Counted(c) => {
@@ -820,7 +820,7 @@ pub extern "C" fn yalivucu_sheet_head(
         (now (width .exit))
         (now (height .exit)) ⌝ }
 {
-    let told = etc::sheet_head(sheet);
+    let told = readers::sheet_head(sheet);
     match told {
         Sheet::Holds(head) => {
             *format = head.format;
@@ -828,7 +828,7 @@ pub extern "C" fn yalivucu_sheet_head(
             *height = head.height;
             0
         }
-        Sheet::Refused(answer) => etc::number(answer),
+        Sheet::Refused(answer) => readers::number(answer),
     }
 }
 
@@ -837,7 +837,7 @@ pub extern "C" fn yalivucu_sheet_head(
 pub extern "C" fn yalivucu_read_sheet(sheet: &[u8], image: &mut [u32]) -> u32
     ensures { λ r. ⌜ Told (λ a. ReadsSheet (now (sheet .entry)) (now (image .entry)) a (now (image .exit))) r ⌝ }
 {
-    etc::number(etc::read_sheet(sheet, image))
+    readers::number(readers::read_sheet(sheet, image))
 }
 
 // Writes a sheet. With answer 0 alone, the number of its bytes is written.
@@ -860,10 +860,10 @@ pub extern "C" fn yalivucu_write_sheet(
         (now (room .exit))
         (now (written .exit)) ⌝ }
 {
-    let wrote = etc::write_sheet(format, width, height, blocks, room);
+    let wrote = readers::write_sheet(format, width, height, blocks, room);
     let answer = wrote.answer;
     let Answer::Done = answer else {
-        return etc::number(answer);
+        return readers::number(answer);
     };
     *written = wrote.bytes;
     0
@@ -889,7 +889,7 @@ pub extern "C" fn yalivucu_start_etc1(
         height: height,
         pitch: pitch,
     };
-    etc::number(pieces_lent::start(Format::Etc1, pic, image, numbers, kept))
+    readers::number(pieces_lent::start(Format::Etc1, pic, image, numbers, kept))
 }
 
 // Starts to read an ETC2 RGB picture in pieces; the caller keeps the state, in the two arrays.
@@ -912,7 +912,7 @@ pub extern "C" fn yalivucu_start_etc2_rgb(
         height: height,
         pitch: pitch,
     };
-    etc::number(pieces_lent::start(Format::Etc2Rgb, pic, image, numbers, kept))
+    readers::number(pieces_lent::start(Format::Etc2Rgb, pic, image, numbers, kept))
 }
 
 // Starts to read an ETC2 RGBA1 picture in pieces; the caller keeps the state, in the two arrays.
@@ -935,7 +935,7 @@ pub extern "C" fn yalivucu_start_etc2_rgba1(
         height: height,
         pitch: pitch,
     };
-    etc::number(pieces_lent::start(Format::Etc2Rgba1, pic, image, numbers, kept))
+    readers::number(pieces_lent::start(Format::Etc2Rgba1, pic, image, numbers, kept))
 }
 
 // Starts to read an ETC2 RGBA8 picture in pieces; the caller keeps the state, in the two arrays.
@@ -958,7 +958,7 @@ pub extern "C" fn yalivucu_start_etc2_rgba8(
         height: height,
         pitch: pitch,
     };
-    etc::number(pieces_lent::start(Format::Etc2Rgba8, pic, image, numbers, kept))
+    readers::number(pieces_lent::start(Format::Etc2Rgba8, pic, image, numbers, kept))
 }
 
 // Starts to read an EAC R picture in pieces; the caller keeps the state, in the two arrays.
@@ -981,7 +981,7 @@ pub extern "C" fn yalivucu_start_eacr(
         height: height,
         pitch: pitch,
     };
-    etc::number(pieces_lent::start(Format::EacR, pic, image, numbers, kept))
+    readers::number(pieces_lent::start(Format::EacR, pic, image, numbers, kept))
 }
 
 // Starts to read a signed EAC R picture in pieces; the caller keeps the state, in the two arrays.
@@ -1004,7 +1004,7 @@ pub extern "C" fn yalivucu_start_eacr_signed(
         height: height,
         pitch: pitch,
     };
-    etc::number(pieces_lent::start(Format::EacRSigned, pic, image, numbers, kept))
+    readers::number(pieces_lent::start(Format::EacRSigned, pic, image, numbers, kept))
 }
 
 // Starts to read an EAC RG picture in pieces; the caller keeps the state, in the two arrays.
@@ -1027,7 +1027,7 @@ pub extern "C" fn yalivucu_start_eacrg(
         height: height,
         pitch: pitch,
     };
-    etc::number(pieces_lent::start(Format::EacRg, pic, image, numbers, kept))
+    readers::number(pieces_lent::start(Format::EacRg, pic, image, numbers, kept))
 }
 
 // Starts to read a signed EAC RG picture in pieces; the caller keeps the state, in the two arrays.
@@ -1050,7 +1050,7 @@ pub extern "C" fn yalivucu_start_eacrg_signed(
         height: height,
         pitch: pitch,
     };
-    etc::number(pieces_lent::start(Format::EacRgSigned, pic, image, numbers, kept))
+    readers::number(pieces_lent::start(Format::EacRgSigned, pic, image, numbers, kept))
 }
 
 // Starts to read a BC1 picture without alpha in pieces; the caller keeps the state, in the two arrays.
@@ -1073,7 +1073,7 @@ pub extern "C" fn yalivucu_start_bc1(
         height: height,
         pitch: pitch,
     };
-    etc::number(pieces_lent::start(Format::Bc1, pic, image, numbers, kept))
+    readers::number(pieces_lent::start(Format::Bc1, pic, image, numbers, kept))
 }
 
 // Starts to read a BC1 picture with one bit of alpha in pieces; the caller keeps the state, in the two arrays.
@@ -1096,7 +1096,7 @@ pub extern "C" fn yalivucu_start_bc1a(
         height: height,
         pitch: pitch,
     };
-    etc::number(pieces_lent::start(Format::Bc1Alpha, pic, image, numbers, kept))
+    readers::number(pieces_lent::start(Format::Bc1Alpha, pic, image, numbers, kept))
 }
 
 // Starts to read a BC3 picture in pieces; the caller keeps the state, in the two arrays.
@@ -1119,7 +1119,7 @@ pub extern "C" fn yalivucu_start_bc3(
         height: height,
         pitch: pitch,
     };
-    etc::number(pieces_lent::start(Format::Bc3, pic, image, numbers, kept))
+    readers::number(pieces_lent::start(Format::Bc3, pic, image, numbers, kept))
 }
 
 // Starts to read a BC7 picture in pieces; the caller keeps the state, in the two arrays.
@@ -1141,7 +1141,7 @@ pub extern "C" fn yalivucu_start_bc7(
         height: height,
         pitch: pitch,
     };
-    etc::number(pieces_lent::start(Format::Bc7, pic, image, numbers, kept))
+    readers::number(pieces_lent::start(Format::Bc7, pic, image, numbers, kept))
 }
 
 // Takes a piece of a picture that was started.
@@ -1159,7 +1159,7 @@ pub extern "C" fn yalivucu_take_piece(
         a (now (numbers .exit)) (now (kept .exit)) (now (painted .exit)) (now (unused .exit)) (now (image .exit)))
         r ⌝ }
 {
-    etc::number(pieces_lent::take_piece(numbers, kept, bytes, image, painted, unused))
+    readers::number(pieces_lent::take_piece(numbers, kept, bytes, image, painted, unused))
 }
 
 // Ends a picture that was started.
@@ -1167,7 +1167,7 @@ pub extern "C" fn yalivucu_take_piece(
 pub extern "C" fn yalivucu_end_pieces(numbers: &[usize; 5], kept: &[u8; 15]) -> u32
     ensures { λ r. ⌜ Told (λ a. Ends (stateIn (now (numbers .entry)) (now (kept .entry))) a) r ⌝ }
 {
-    etc::number(pieces_lent::end(numbers, kept))
+    readers::number(pieces_lent::end(numbers, kept))
 }
 
 // The reading at a pixel, by a legend of kind 0 level, 1 line or 2 bend; any other kind is refused with 13. With answer 0 alone, its three
@@ -1220,7 +1220,7 @@ pub extern "C" fn yalivucu_read_degrees(
 pub extern "C" fn yalivucu_check_etc1_block(block: &[u8], tile: &[u32], tolerance: u32) -> u32
     ensures { λ r. ⌜ BakingTold (λ a. Checks tolerance (now (block .entry)) (now (tile .entry)) a) r ⌝ }
 {
-    etc::baking_number(etc::check_etc1_block(block, tile, tolerance))
+    readers::baking_number(readers::check_etc1_block(block, tile, tolerance))
 }
 
 // Bakes an individual ETC1 block.
@@ -1236,5 +1236,5 @@ pub extern "C" fn yalivucu_bake_etc1_block(
         (λ a. Bakes (now (first .entry)) (now (second .entry)) flip (now (tile .entry)) a (now (block .entry)) (now (block .exit)))
         r ⌝ }
 {
-    etc::baking_number(etc::bake_etc1_block(*first, *second, flip, tile, block))
+    readers::baking_number(readers::bake_etc1_block(*first, *second, flip, tile, block))
 }

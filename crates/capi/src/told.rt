@@ -6,7 +6,7 @@ ghost use mathlib.Core.Path.{_≡_};
 ghost use Rattle.rules.specs.Places.{pitched};
 ghost use Rattle.rules.specs.Readers.{ReadsPicture, ReadsStrict, ReadsOpaque};
 ghost use Rattle.rules.specs.Whole.{ReadsWhole};
-ghost use Rattle.eleven.specs.Lanes.{lanes};
+ghost use Rattle.whole.specs.Lanes.{lanes};
 ghost use Rattle.capi.specs.told.Told.{Told, answerNumber, blockOr};
 
 // Reads a picture of any format and pitch.
@@ -27,7 +27,7 @@ pub fn read(
         height: height,
         pitch: pitch,
     };
-    spoken::number(picture::read(f, data, pic, image))
+    answer_numbers::number(picture::read(f, data, pic, image))
 }
 
 // Reads whole values of EAC, of red, or of red and green, with any pitch.
@@ -49,18 +49,18 @@ pub fn read_whole(
         height,
         pitch,
     };
-    spoken::number(eleven::read(green, signed, data, pic, image))
+    answer_numbers::number(whole::read(green, signed, data, pic, image))
 }
 
 // The number of an answer. The block that it names is written, and an answer that names none writes none.
 fn handed(answer: Answer, block: &mut usize) -> u32
     ensures { λ r. ⌜ (r ≡ answerNumber answer) × (now (block .exit) ≡ blockOr answer (now (block .entry))) ⌝ }
 {
-    if spoken::names(answer) {
-        *block = spoken::block_or(answer, 0);
-        return spoken::number(answer);
+    if answer_numbers::names(answer) {
+        *block = answer_numbers::block_or(answer, 0);
+        return answer_numbers::number(answer);
     }
-    spoken::number(answer)
+    answer_numbers::number(answer)
 }
 
 // The strict reader of a picture with any pitch, and the block that it names.

@@ -27,8 +27,8 @@ use Rattle.laws.proofs.Unique.{no-second-outcome}
 use Rattle.pixel.proofs.place.Grid.{rem-at, div-at, inside-at, within, beyond, in-gap}
 use Rattle.checks.proofs.Checks.{passed-by}
 use Rattle.eac.proofs.values.Whole.{bytes-stay}
-use Rattle.eleven.specs.Lanes.{lanes}
-use Rattle.eleven.proofs.Checked.{same-verdict, ready}
+use Rattle.whole.specs.Lanes.{lanes}
+use Rattle.whole.proofs.Checked.{same-verdict, ready}
 use Rattle.claims.proofs.Outcomes.{Same, an-acceptance-paints, the-rest-stays}
 use Rattle.claims.proofs.Alike.{OnlyInTileBy, beside-by}
 use Rattle.claims.proofs.Pictures.{holds, pixel-of}

@@ -23,8 +23,8 @@ use Rattle.guard.specs.declared.Viewer.{Viewer}
 use Rattle.guard.specs.declared.Viewer.the-variants as viewer
 use Rattle.guard.proofs.Scan.{sound}
 use Rattle.textures.specs.Textures.{fileLimit}
-use Rattle.strips.specs.Rows.{scanned, scannedRow}
-use Rattle.strips.proofs.Scanned.{after-row, settled}
+use Rattle.bands.specs.Rows.{scanned, scannedRow}
+use Rattle.bands.proofs.Scanned.{after-row, settled}
 use Rattle.textures.specs.declared.Texture.{Texture}
 use Rattle.scan.specs.Scan.{isAsked, viewerOf, leftOver, numberOf, ScansRow, Scans, Looked, Judges}
 

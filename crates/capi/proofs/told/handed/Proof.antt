@@ -7,7 +7,7 @@ use Prim.Native.Nat.{ℕ}
 use lib.ListN.{getD}
 use denote.Ref.{now}
 use Rattle.rules.specs.Answers.{said}
-use Rattle.spoken.specs.Value.{hasValue}
+use Rattle.answer_numbers.specs.Value.{hasValue}
 use borrow.Author.Needs.{needs}
 use Rattle.capi.proofs.told.handed.Statement.{statement}
 use Rattle.capi.proofs.told.handed.Tie as tie
