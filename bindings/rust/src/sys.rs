@@ -7,6 +7,32 @@ pub type Guarded = unsafe extern "C" fn(*const u8, usize, usize, usize, usize, *
 pub type Start = unsafe extern "C" fn(usize, usize, usize, *const u32, usize, *mut [usize; 5], *mut [u8; 15]) -> u32;
 pub type Block = unsafe extern "C" fn(*const u8, usize, *mut u32, usize) -> u32;
 pub type Channel = unsafe extern "C" fn(*const u8, usize, usize, *mut u32, usize) -> u32;
+pub type Check = unsafe extern "C" fn(*const u8, usize, usize, usize, *mut u64) -> u32;
+
+/// `struct yalivucu_file`.
+#[repr(C)]
+#[derive(Default)]
+pub struct File {
+    pub container: u64,
+    pub format: u64,
+    pub srgb: u64,
+    pub width: u64,
+    pub height: u64,
+    pub levels: u64,
+    pub big_endian: u64,
+    pub orientation: u64,
+    pub left_over: u64,
+}
+
+/// `struct yalivucu_level`.
+#[repr(C)]
+#[derive(Default)]
+pub struct Level {
+    pub width: u64,
+    pub height: u64,
+    pub start: u64,
+    pub length: u64,
+}
 
 macro_rules! declared {
     ($($name:ident)*) => {$(
@@ -36,6 +62,11 @@ macro_rules! declared_start {
 macro_rules! declared_census {
     ($($name:ident)*) => {$(
         pub fn $name(data: *const u8, data_len: usize, width: usize, height: usize, counts: *mut usize, counts_len: usize) -> u32;
+    )*};
+}
+macro_rules! declared_check {
+    ($($name:ident)*) => {$(
+        pub fn $name(data: *const u8, data_len: usize, width: usize, height: usize, block: *mut u64) -> u32;
     )*};
 }
 
@@ -98,6 +129,10 @@ extern "C" {
         yalivucu_census_etc2_rgb
         yalivucu_census_etc2_rgba1
     }
+    declared_check! {
+        yalivucu_check_strict
+        yalivucu_check_opaque
+    }
     pub fn yalivucu_decode_etc1_strict_pitched(
         data: *const u8,
         data_len: usize,
@@ -118,6 +153,8 @@ extern "C" {
         image_len: usize,
         block: *mut usize,
     ) -> u32;
+    pub fn yalivucu_open_file(data: *const u8, data_len: usize, file: *mut File) -> u32;
+    pub fn yalivucu_file_level(data: *const u8, data_len: usize, level: usize, out: *mut Level) -> u32;
     pub fn yalivucu_sheet_head(
         sheet: *const u8,
         sheet_len: usize,
