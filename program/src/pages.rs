@@ -55,7 +55,8 @@ fn entry(argument: &Arg) -> String {
     if !values.is_empty() {
         help += &format!(" ({})", values.join(", "));
     }
-    format!(".TP\n.B {}\n{}\n", text(&argument.to_string()), text(&help))
+    let short = argument.get_short().map(|short| format!("-{short}, ")).unwrap_or_default();
+    format!(".TP\n.B {}\n{}\n", text(&format!("{short}{argument}")), text(&help))
 }
 
 /// Text in which nothing is a command of man's.
