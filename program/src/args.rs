@@ -11,8 +11,8 @@ use yalivucu::typed::Legend;
 
 /// Unpacks, checks and measures ETC1, ETC2, EAC and BC textures
 ///
-/// What decides a pixel, a refusal or a verdict is a proved library. A file is a PKM, KTX 1, KTX 2 or DDS file or a sheet;
-/// - is standard input or standard output. Results go to standard output, refusals with their numbers to standard error.
+/// What decides a pixel, a refusal or a verdict is a proved library. A file is a PKM, KTX 1, KTX 2 or DDS file or a sheet, and
+/// the name - is standard input or standard output. Results go to standard output, refusals with their numbers to standard error.
 /// The exit status is 0 where everything was done, 1 where something was refused or an answer was no, and 2 after a
 /// wrong call. A refusal leaves every file as it was.
 #[derive(Parser, Debug)]
@@ -88,15 +88,21 @@ fn bare(name: &str, size: &str) -> Result<(&'static Kind, usize, usize), End> {
     let kind = formats::named(name).ok_or_else(|| {
         let known: Vec<&str> = TABLE.iter().map(|kind| kind.name).collect();
         let name = crate::names::shown(name);
-        End::WrongCall(format!("--raw: '{name}' is no format; it is one of {}", known.join(", ")))
+        End::WrongCall(format!(
+            "--raw: '{name}' is no format; it is one of {}",
+            known.join(", ")
+        ))
     })?;
     let sides = size.split_once('x').and_then(|(width, height)| {
-        let side = |text: &str| text.bytes().all(|byte| byte.is_ascii_digit()).then(|| text.parse().ok())?;
+        let side = |text: &str| {
+            text.bytes()
+                .all(|byte| byte.is_ascii_digit())
+                .then(|| text.parse().ok())?
+        };
         Some((side(width)?, side(height)?))
     });
     let size = crate::names::shown(size);
-    let (width, height) =
-        sides.ok_or_else(|| End::WrongCall(format!("--raw: '{size}' is no size such as 64x32")))?;
+    let (width, height) = sides.ok_or_else(|| End::WrongCall(format!("--raw: '{size}' is no size such as 64x32")))?;
     Ok((kind, width, height))
 }
 
@@ -204,10 +210,10 @@ pub struct Degrees {
     #[arg(value_name = "FILE")]
     pub file: OsString,
     /// Points, each x,y,measured
-    #[arg(value_name = "POINT", allow_hyphen_values = true)]
+    #[arg(value_name = "POINT")]
     pub points: Vec<String>,
     /// What the red of a pixel means in degrees: level:DEGREES, line:LOW:STEP or bend:LOW:STEP:SECOND
-    #[arg(long, value_parser = legend, allow_hyphen_values = true)]
+    #[arg(long, value_parser = legend)]
     pub legend: Legend,
     /// The digit that the legend is for
     #[arg(long, value_enum)]

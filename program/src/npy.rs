@@ -31,10 +31,15 @@ fn header(strips: &Strips) -> Vec<u8> {
 /// Writes a picture's numbers, row by row.
 pub fn write<W: Write>(mut out: W, strips: &Strips, threads: usize, mut tick: impl FnMut(usize)) -> Result<(), Why> {
     out.write_all(&header(strips))?;
-    work::in_order(strips.count(), threads, |strip| strips.read(strip), |strip, samples| -> Result<(), Why> {
-        out.write_all(&samples.map_err(Why::Refusal)?)?;
-        tick(strip + 1);
-        Ok(())
-    })?;
+    work::in_order(
+        strips.count(),
+        threads,
+        |strip| strips.read(strip),
+        |strip, samples| -> Result<(), Why> {
+            out.write_all(&samples.map_err(Why::Refusal)?)?;
+            tick(strip + 1);
+            Ok(())
+        },
+    )?;
     Ok(out.flush()?)
 }

@@ -28,7 +28,7 @@ impl Folder {
         let handle = File::open(path)?;
         let real = fs::canonicalize(path)?;
         if !handle.metadata()?.is_dir() {
-            return Err(io::Error::new(io::ErrorKind::Other, "it is no folder"));
+            return Err(io::Error::other("it is no folder"));
         }
         let held = PathBuf::from(format!("/proc/self/fd/{}", handle.as_raw_fd()));
         let path = if held.is_dir() { held } else { real };
@@ -111,10 +111,7 @@ fn may_write(path: &Path, given: &Path, rules: &Rules) -> Result<(), Failure> {
 /// The refusal of a name that is taken.
 pub fn exists(given: &Path) -> Failure {
     let name = shown(given);
-    Failure::new(
-        number::OUT_EXISTS,
-        format_args!("{name} exists; --force replaces it."),
-    )
+    Failure::new(number::OUT_EXISTS, format_args!("{name} exists; --force replaces it."))
 }
 
 impl Pending {

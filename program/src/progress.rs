@@ -29,7 +29,8 @@ impl Progress {
 
     /// One more is done.
     pub fn tick(&self) {
-        self.bar.set_position(self.done.fetch_add(1, Ordering::Relaxed) as u64 + 1);
+        self.bar
+            .set_position(self.done.fetch_add(1, Ordering::Relaxed) as u64 + 1);
     }
 
     /// Says something while the bar makes room for it.

@@ -65,7 +65,11 @@ impl<'a> Strips<'a> {
     /// The rows of blocks of a strip, counted from the top of what is written.
     fn rows_of_blocks(&self, strip: usize) -> Range<usize> {
         let all = self.texture.height.div_ceil(4);
-        let strip = if self.is_turned { self.count() - 1 - strip } else { strip };
+        let strip = if self.is_turned {
+            self.count() - 1 - strip
+        } else {
+            strip
+        };
         strip * self.rows..((strip + 1) * self.rows).min(all)
     }
 
@@ -104,7 +108,11 @@ impl<'a> Strips<'a> {
         let own = self.texture.kind.channels.count();
         if self.texture.kind.values == Values::ElevenSigned {
             let mut values = vec![0i16; count];
-            let reader = if has_green { typed::decode_eacrg11_signed } else { typed::decode_eacr11_signed };
+            let reader = if has_green {
+                typed::decode_eacrg11_signed
+            } else {
+                typed::decode_eacr11_signed
+            };
             reader(data, picture, &mut values)?;
             return Ok(match self.sample {
                 Sample::Number => values.iter().flat_map(|value| value.to_le_bytes()).collect(),
@@ -112,7 +120,11 @@ impl<'a> Strips<'a> {
             });
         }
         let mut values = vec![0u16; count];
-        let reader = if has_green { typed::decode_eacrg11 } else { typed::decode_eacr11 };
+        let reader = if has_green {
+            typed::decode_eacrg11
+        } else {
+            typed::decode_eacr11
+        };
         reader(data, picture, &mut values)?;
         Ok(match self.sample {
             Sample::Number => values.iter().flat_map(|value| value.to_le_bytes()).collect(),

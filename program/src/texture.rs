@@ -171,9 +171,9 @@ impl Texture<'_> {
         }
         typed::check_strict(self.data, self.width, self.height).map_err(|refusal| {
             let level = format!("Level {} of {}.", self.level, self.level_count);
-            blamed(refusal, self.width).and(&level).and(
-                "--as etc2-rgb reads it by the new rule, --wrap by the old one.",
-            )
+            blamed(refusal, self.width)
+                .and(&level)
+                .and("--as etc2-rgb reads it by the new rule, --wrap by the old one.")
         })
     }
 }

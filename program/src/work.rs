@@ -128,10 +128,15 @@ mod tests {
     fn results_come_in_order_and_the_first_error_ends_it() {
         for threads in [1, 2, 5] {
             let mut seen = Vec::new();
-            let all = in_order(100, threads, |k| k * k, |k, square| {
-                seen.push((k, square));
-                Ok::<(), ()>(())
-            });
+            let all = in_order(
+                100,
+                threads,
+                |k| k * k,
+                |k, square| {
+                    seen.push((k, square));
+                    Ok::<(), ()>(())
+                },
+            );
             assert_eq!(all, Ok(()));
             assert_eq!(seen, (0..100).map(|k| (k, k * k)).collect::<Vec<_>>());
             let ended = in_order(1_000_000, threads, |k| k, |k, _| if k < 7 { Ok(()) } else { Err(k) });

@@ -10,7 +10,13 @@ fn seeds() -> Vec<Vec<u8>> {
         .iter()
         .map(|name| fs::read(common::example(name)).expect("an example"))
         .collect();
-    files.push(ktx1(gl(Format::Etc2Rgba1), (20, 12), &levels(Format::Etc2Rgba1), true, &entry(true, b"KTXorientation\0S=r\0")));
+    files.push(ktx1(
+        gl(Format::Etc2Rgba1),
+        (20, 12),
+        &levels(Format::Etc2Rgba1),
+        true,
+        &entry(true, b"KTXorientation\0S=r\0"),
+    ));
     files.push(ktx2(151, (20, 12), &levels(Format::Etc2Rgba8)));
     files.push(dds(b"DXT5", 0, (20, 12), &levels(Format::Bc3)));
     files.push(dds(b"DX10", 98, (20, 12), &levels(Format::Bc7)));
@@ -44,11 +50,13 @@ fn mutated_files_are_shown_or_refused() {
         room.write("file", &file);
         let opened = File::open(&file).map(|_| ());
         let info = room.run(&["info", "--json", "--census", "file"]);
-        let said: serde_json::Value = serde_json::from_str(&info.out).unwrap_or_else(|why| panic!("turn {turn}: {why}: {info:?}"));
+        let said: serde_json::Value =
+            serde_json::from_str(&info.out).unwrap_or_else(|why| panic!("turn {turn}: {why}: {info:?}"));
         assert_eq!(info.status, i32::from(opened.is_err()), "turn {turn}: {info:?}");
         if let Err(refusal) = opened {
             assert_eq!(said["refused"]["number"], refusal.number(), "turn {turn}");
-            room.run(&["unpack", "file", "out.png"]).refuses(refusal.number(), "file");
+            room.run(&["unpack", "file", "out.png"])
+                .refuses(refusal.number(), "file");
             assert_eq!(room.list(), ["file"], "turn {turn}");
             continue;
         }
@@ -56,9 +64,15 @@ fn mutated_files_are_shown_or_refused() {
         let ran = room.run(&["unpack", "--wrap", "--more", "--levels", "-o", "out.png", "file"]);
         ran.is_done();
         let check = room.run(&["check", "--json", "file"]);
-        assert!((0..2).contains(&check.status) && check.err.is_empty(), "turn {turn}: {check:?}");
+        assert!(
+            (0..2).contains(&check.status) && check.err.is_empty(),
+            "turn {turn}: {check:?}"
+        );
         for name in room.list().iter().filter(|name| *name != "file") {
-            assert!(name.starts_with("out.") && name.ends_with(".png"), "turn {turn}: {name} is left");
+            assert!(
+                name.starts_with("out.") && name.ends_with(".png"),
+                "turn {turn}: {name} is left"
+            );
             fs::remove_file(room.path(name)).expect("a file");
         }
     }

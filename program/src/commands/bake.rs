@@ -61,7 +61,22 @@ fn header(picture: &Reference, bytes: usize) -> Vec<u8> {
     const ETC1: u32 = 0x8D64;
     const RGB: u32 = 0x1907;
     let (width, height) = (picture.width as u32, picture.height as u32);
-    let words = [0x0403_0201, 0, 1, 0, ETC1, RGB, width, height, 0, 0, 1, 1, 0, bytes as u32];
+    let words = [
+        0x0403_0201,
+        0,
+        1,
+        0,
+        ETC1,
+        RGB,
+        width,
+        height,
+        0,
+        0,
+        1,
+        1,
+        0,
+        bytes as u32,
+    ];
     let mut header = b"\xABKTX 11\xBB\r\n\x1A\n".to_vec();
     header.extend(words.iter().flat_map(|word| word.to_le_bytes()));
     header

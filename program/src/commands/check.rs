@@ -61,7 +61,11 @@ fn checked(asked: &Check, file: &OsString) -> Result<Outcome, Ended> {
         lines(&shown(file), &verdicts)
     };
     report::say(&lines.join("\n")).map_err(Ended::All)?;
-    Ok(if verdicts.may_show() { Outcome::Done } else { Outcome::Refused })
+    Ok(if verdicts.may_show() {
+        Outcome::Done
+    } else {
+        Outcome::Refused
+    })
 }
 
 fn verdicts(asked: &Check, file: &OsString) -> Result<Verdicts, Failure> {

@@ -53,12 +53,17 @@ pub fn run(asked: &Unpack) -> Result<Outcome, End> {
     };
     let progress = Progress::new(if plan.counts_files { jobs.len() } else { 0 }, SHOWN_FROM, "files");
     let mut outcome = Outcome::Done;
-    work::in_order(jobs.len(), at_once, |k| plan.unpacked(&jobs[k]), |k, ready| {
-        progress.tick();
-        let said = progress.beside(|| delivered(&jobs[k], ready))?;
-        outcome = outcome.and(said);
-        Ok::<(), Failure>(())
-    })?;
+    work::in_order(
+        jobs.len(),
+        at_once,
+        |k| plan.unpacked(&jobs[k]),
+        |k, ready| {
+            progress.tick();
+            let said = progress.beside(|| delivered(&jobs[k], ready))?;
+            outcome = outcome.and(said);
+            Ok::<(), Failure>(())
+        },
+    )?;
     Ok(outcome)
 }
 
@@ -71,7 +76,9 @@ fn jobs(asked: &Unpack) -> Result<Vec<Job>, End> {
     }
     if let Some(out) = out {
         if files.len() > 1 {
-            return Err(End::WrongCall("-o OUT is for one FILE; --into FOLDER takes several".to_owned()));
+            return Err(End::WrongCall(
+                "-o OUT is for one FILE; --into FOLDER takes several".to_owned(),
+            ));
         }
         if asked.levels && out == Path::new("-") {
             return Err(End::WrongCall("--levels writes several files, and - is one".to_owned()));
@@ -97,7 +104,11 @@ fn named(files: Vec<OsString>, folder: &Path) -> Vec<Job> {
     let mut job = |file: OsString| {
         let mut name = Path::new(&file).file_name().unwrap_or_default().to_owned();
         name.push(".png");
-        let path = if folder == Path::new(".") { PathBuf::from(&name) } else { folder.join(&name) };
+        let path = if folder == Path::new(".") {
+            PathBuf::from(&name)
+        } else {
+            folder.join(&name)
+        };
         let out = if taken.insert(name) {
             Ok(path)
         } else {
@@ -119,7 +130,11 @@ impl Plan<'_> {
     fn unpacked(&self, job: &Job) -> Result<Ready, Failure> {
         let out = job.out.as_ref().map_err(Failure::clone)?;
         let input = input::read(&job.file, self.reading.wanted())?;
-        let levels = if self.asked.levels { Levels::All } else { self.asked.reading.levels() };
+        let levels = if self.asked.levels {
+            Levels::All
+        } else {
+            self.asked.reading.levels()
+        };
         let textures = self.reading.accepted(&input, levels)?;
         let mut ready = Ready {
             pending: Vec::new(),
@@ -134,7 +149,11 @@ impl Plan<'_> {
             return Ok(ready);
         }
         for texture in &textures {
-            let name = if self.asked.levels { with_level(out, texture.level) } else { out.clone() };
+            let name = if self.asked.levels {
+                with_level(out, texture.level)
+            } else {
+                out.clone()
+            };
             let (pending, file) = Pending::begin(&name, &self.rules)?;
             self.written(texture, &name, file, |why| pending.cannot(why))?;
             ready.pending.push(pending);
@@ -158,7 +177,12 @@ impl Plan<'_> {
             let sample = if is_eight { Sample::Byte } else { Sample::Number };
             Strips::new(*texture, sample, texture.kind.channels.count(), is_turned)
         } else {
-            Strips::new(*texture, self.sample(texture)?, png_file::channels(texture.kind), is_turned)
+            Strips::new(
+                *texture,
+                self.sample(texture)?,
+                png_file::channels(texture.kind),
+                is_turned,
+            )
         };
         let count = if self.counts_files { 0 } else { strips.count() };
         let progress = Progress::new(count, SHOWN_FROM, "strips");
