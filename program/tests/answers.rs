@@ -1,6 +1,6 @@
 //! check, info, sheet, degrees, compare, bake, manual and completions.
 mod common;
-use common::{blocks, entry, example, gl, ktx1, pkm, pyramid, Room};
+use common::{blocks, entry, example, gl, ktx1, pkm, pyramid, single, Room};
 use serde_json::{json, Value};
 use std::fs;
 use yalivucu::typed::{self, degrees, Format, Legend, Picture};
@@ -202,7 +202,7 @@ fn a_sheet_of_every_etc_and_eac_format() {
     let room = Room::new();
     for format in Format::ALL {
         let data = blocks(format, 30, 18, 4);
-        room.write("a.ktx", &ktx1(gl(format), (30, 18), &[data.clone()], false, &[]));
+        room.write("a.ktx", &single(format, (30, 18), &data));
         let ran = room.run(&["sheet", "--force", "a.ktx", "a.sheet"]);
         let is_bc = matches!(format, Format::Bc1 | Format::Bc1Alpha | Format::Bc3 | Format::Bc7);
         if is_bc {
@@ -250,10 +250,10 @@ fn degrees_of_every_point() {
             "x,y,measured\n".to_owned(),
             "predicted,measured,difference\n".to_owned(),
         );
-        for k in 0..image.len() {
+        for (k, pixel) in image.iter().enumerate() {
             let measured = k as f32 * 0.37 - 100.0;
             rows += &format!("{},{},{measured}\n", k % 32, k / 32);
-            expected += &match degrees(legend, 1, 1, image[k], measured).expect("a reading") {
+            expected += &match degrees(legend, 1, 1, *pixel, measured).expect("a reading") {
                 Some(reading) => format!("{},{},{}\n", reading.predicted, reading.measured, reading.difference),
                 None => format!(",{measured},\n"),
             };
@@ -315,7 +315,7 @@ fn bake_and_compare() {
     let room = Room::new();
     let size = (30, 18);
     let data = blocks(Format::Etc2Rgb, size.0, size.1, 3);
-    room.write("source.ktx", &ktx1(gl(Format::Etc2Rgb), size, &[data], false, &[]));
+    room.write("source.ktx", &single(Format::Etc2Rgb, size, &data));
     room.run(&["unpack", "source.ktx", "source.png"]).is_done();
     let ran = room.run(&["bake", "source.png", "baked.ktx"]);
     ran.is_done();

@@ -1,6 +1,6 @@
 //! What must not happen to files: names, links, devices, signals, a full disk, runs at once.
 mod common;
-use common::{blocks, example, gl, ktx1, large, pkm, Ran, Room, PROGRAM};
+use common::{blocks, example, gl, ktx1, large, pkm, single, Ran, Room, PROGRAM};
 use std::fs;
 use std::io::{Read, Write};
 use std::os::unix::fs::{symlink, PermissionsExt};
@@ -182,7 +182,7 @@ fn eight_hundred_files_print_a_line_each_in_order() {
     let names: Vec<String> = (0..800).map(|k| format!("{k:03}.ktx")).collect();
     for (k, name) in names.iter().enumerate() {
         let data = blocks(Format::Etc2Rgb, 8, 8, k as u64);
-        let file = ktx1(gl(Format::Etc2Rgb), (8, 8), &[data], false, &[]);
+        let file = single(Format::Etc2Rgb, (8, 8), &data);
         room.write(name, if k == 400 { &file[..90] } else { &file });
     }
     let words: Vec<&str> = ["unpack", "--into", "into"]

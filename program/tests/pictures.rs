@@ -1,6 +1,6 @@
 //! `unpack`: every format in every container, read back by Pillow and libpng and held to the library's pixels.
 mod common;
-use common::{blocks, dds, entry, example, gl, ktx1, ktx2, pkm, pyramid, seen, Room};
+use common::{blocks, dds, entry, example, gl, ktx1, ktx2, pkm, pyramid, seen, single, Room};
 use std::fs;
 use yalivucu::typed::{self, read, Format, Picture};
 
@@ -51,7 +51,7 @@ fn every_format_in_ktx_1_of_either_byte_order() {
         let room = Room::new();
         let data = blocks(format, SIZE.0, SIZE.1, 7);
         for big in [false, true] {
-            room.write("a.ktx", &ktx1(gl(format), SIZE, &[data.clone()], big, &[]));
+            room.write("a.ktx", &ktx1(gl(format), SIZE, std::slice::from_ref(&data), big, &[]));
             room.run(&["unpack", "--force", "a.ktx", "a.png"]).is_done();
             shows(&room, "a.png", format, &data, SIZE);
         }
@@ -162,7 +162,7 @@ fn pictures_of_many_strips_on_any_number_of_threads() {
     let size = (1000, 1003);
     for format in [Format::Etc2Rgba8, Format::EacR, Format::Bc1] {
         let data = blocks(format, size.0, size.1, 9);
-        room.write("a.ktx", &ktx1(gl(format), size, &[data.clone()], false, &[]));
+        room.write("a.ktx", &single(format, size, &data));
         room.run(&["unpack", "--force", "--threads", "1", "a.ktx", "one.png"])
             .is_done();
         shows(&room, "one.png", format, &data, size);
@@ -198,7 +198,7 @@ fn bare_blocks_and_another_rule() {
         room.run(&words).refuses(2, "bare");
     }
     let data = blocks(Format::Etc2Rgb, SIZE.0, SIZE.1, 2);
-    room.write("a.ktx", &ktx1(gl(Format::Etc1), SIZE, &[data.clone()], false, &[]));
+    room.write("a.ktx", &single(Format::Etc1, SIZE, &data));
     room.run(&["unpack", "--force", "--as", "etc2-rgb", "a.ktx", "a.png"])
         .is_done();
     shows(&room, "a.png", Format::Etc2Rgb, &data, SIZE);
@@ -282,7 +282,7 @@ fn eleven_bits_in_sixteen() {
         }
         .expect("the values");
         let is_signed = matches!(format, Format::EacRSigned | Format::EacRgSigned);
-        room.write("a.ktx", &ktx1(gl(format), SIZE, &[data], false, &[]));
+        room.write("a.ktx", &single(format, SIZE, &data));
         room.run(&["unpack", "--force", "--bits", "16", "a.ktx", "a.png"])
             .is_done();
         let found = seen(&room.path("a.png"));
@@ -320,7 +320,7 @@ fn eleven_bits_in_sixteen() {
         assert_eq!(numbers, values);
     }
     let data = blocks(Format::Bc3, SIZE.0, SIZE.1, 8);
-    room.write("a.ktx", &ktx1(gl(Format::Bc3), SIZE, &[data.clone()], false, &[]));
+    room.write("a.ktx", &single(Format::Bc3, SIZE, &data));
     room.run(&["unpack", "--force", "--bits", "16", "a.ktx", "a.png"])
         .refuses(40, "a.ktx");
     room.run(&["unpack", "--force", "a.ktx", "a.npy"]).is_done();
@@ -352,7 +352,10 @@ fn a_bottom_up_picture_is_turned_only_where_it_is_asked_for() {
         let turned: Vec<u32> = image.chunks(size.0).rev().flatten().copied().collect();
         for (told, is_said) in [("S=r,T=u", true), ("S=r,T=d", false)] {
             let keys = entry(false, format!("KTXorientation\0{told}\0").as_bytes());
-            room.write("a.ktx", &ktx1(gl(Format::Etc2Rgb), size, &[data.clone()], false, &keys));
+            room.write(
+                "a.ktx",
+                &ktx1(gl(Format::Etc2Rgb), size, std::slice::from_ref(&data), false, &keys),
+            );
             let said = room.run(&["unpack", "--force", "a.ktx", "a.png"]);
             said.is_done();
             assert_eq!(said.out.contains("--upright"), is_said, "{said:?}");

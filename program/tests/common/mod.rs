@@ -225,6 +225,11 @@ pub fn ktx1(gl: u32, size: (usize, usize), levels: &[Vec<u8>], big: bool, keys: 
     file
 }
 
+/// A KTX 1 file with one level.
+pub fn single(format: Format, size: (usize, usize), blocks: &[u8]) -> Vec<u8> {
+    ktx1(gl(format), size, &[blocks.to_vec()], false, &[])
+}
+
 /// A KTX 2 file: the smallest level first.
 pub fn ktx2(vk: u32, size: (usize, usize), levels: &[Vec<u8>]) -> Vec<u8> {
     let (width, height) = (size.0 as u32, size.1 as u32);
