@@ -88,17 +88,10 @@ fn bare(name: &str, size: &str) -> Result<(&'static Kind, usize, usize), End> {
     let kind = formats::named(name).ok_or_else(|| {
         let known: Vec<&str> = TABLE.iter().map(|kind| kind.name).collect();
         let name = crate::names::shown(name);
-        End::WrongCall(format!(
-            "--raw: '{name}' is no format; it is one of {}",
-            known.join(", ")
-        ))
+        End::WrongCall(format!("--raw: '{name}' is no format; it is one of {}", known.join(", ")))
     })?;
     let sides = size.split_once('x').and_then(|(width, height)| {
-        let side = |text: &str| {
-            text.bytes()
-                .all(|byte| byte.is_ascii_digit())
-                .then(|| text.parse().ok())?
-        };
+        let side = |text: &str| text.bytes().all(|byte| byte.is_ascii_digit()).then(|| text.parse().ok())?;
         Some((side(width)?, side(height)?))
     });
     let size = crate::names::shown(size);
@@ -228,9 +221,8 @@ pub struct Degrees {
 fn legend(text: &str) -> Result<Legend, String> {
     let mut words = text.split(':');
     let kind = words.next().unwrap_or_default();
-    let numbers: Vec<f32> = words
-        .map(|word| word.parse().map_err(|_| format!("'{word}' is no number")))
-        .collect::<Result<_, _>>()?;
+    let numbers: Vec<f32> =
+        words.map(|word| word.parse().map_err(|_| format!("'{word}' is no number"))).collect::<Result<_, _>>()?;
     match (kind, numbers.as_slice()) {
         ("level", &[degrees]) => Ok(Legend::Level(degrees)),
         ("line", &[low, step]) => Ok(Legend::Line { low, step }),

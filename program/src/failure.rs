@@ -27,10 +27,7 @@ pub struct Failure {
 
 impl Failure {
     pub fn new(number: u32, sentence: impl fmt::Display) -> Failure {
-        Failure {
-            number,
-            sentence: format!("Refusal {number}: {sentence}"),
-        }
+        Failure { number, sentence: format!("Refusal {number}: {sentence}") }
     }
 
     /// The same with another sentence behind it.
@@ -41,10 +38,7 @@ impl Failure {
 
     /// Standard output cannot be written.
     pub fn standard_output(why: &io::Error) -> Failure {
-        Failure::new(
-            number::STANDARD_OUTPUT,
-            format_args!("standard output cannot be written: {why}."),
-        )
+        Failure::new(number::STANDARD_OUTPUT, format_args!("standard output cannot be written: {why}."))
     }
 }
 
@@ -56,9 +50,6 @@ impl fmt::Display for Failure {
 
 impl From<Refusal> for Failure {
     fn from(refusal: Refusal) -> Failure {
-        Failure {
-            number: refusal.number(),
-            sentence: refusal.to_string(),
-        }
+        Failure { number: refusal.number(), sentence: refusal.to_string() }
     }
 }

@@ -66,14 +66,7 @@ const fn kind(
     values: Values,
     older: Older,
 ) -> Kind {
-    Kind {
-        format,
-        name,
-        title,
-        channels,
-        values,
-        older,
-    }
+    Kind { format, name, title, channels, values, older }
 }
 
 use Channels::{Red, RedGreen, Rgb, Rgba};

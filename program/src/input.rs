@@ -41,13 +41,7 @@ pub fn identity(metadata: &Metadata) -> Identity {
 pub fn identities<'a>(names: impl IntoIterator<Item = &'a OsString>) -> Vec<Identity> {
     names
         .into_iter()
-        .filter_map(|name| {
-            if name == "-" {
-                standard_input().ok()?.metadata().ok()
-            } else {
-                fs::metadata(name).ok()
-            }
-        })
+        .filter_map(|name| if name == "-" { standard_input().ok()?.metadata().ok() } else { fs::metadata(name).ok() })
         .map(|metadata| identity(&metadata))
         .collect()
 }
@@ -81,9 +75,7 @@ fn opened(name: &OsStr) -> Result<File, Failure> {
 /// Reads until there are so many bytes, or no more. Whether there may be more.
 fn read_up_to(file: &mut File, bytes: &mut Vec<u8>, limit: usize) -> Result<bool, Failure> {
     let missing = limit.saturating_sub(bytes.len());
-    bytes
-        .try_reserve(missing)
-        .map_err(|_| cannot("the file does not fit into memory."))?;
+    bytes.try_reserve(missing).map_err(|_| cannot("the file does not fit into memory."))?;
     file.take(missing as u64)
         .read_to_end(bytes)
         .map_err(|why| cannot(format_args!("the file cannot be read: {why}.")))?;
@@ -93,10 +85,7 @@ fn read_up_to(file: &mut File, bytes: &mut Vec<u8>, limit: usize) -> Result<bool
 /// Whether bytes that follow could change the answer: the library's 2, 7, 10, 20 and 37 say that something is missing.
 fn wants_more(bytes: &[u8]) -> bool {
     use typed::Refusal::{CutHeader, CutShort, LevelsMissing, ShortData, WrongBlocks};
-    matches!(
-        typed::File::open(bytes),
-        Err(ShortData | CutShort | WrongBlocks | CutHeader | LevelsMissing)
-    )
+    matches!(typed::File::open(bytes), Err(ShortData | CutShort | WrongBlocks | CutHeader | LevelsMissing))
 }
 
 /// Reads a texture file as far as its header asks for, in steps, so that a stream without end is not kept; and one

@@ -76,10 +76,7 @@ fn parts(out: &Path) -> Result<(&Path, &OsStr), Failure> {
             let folder = out.parent().filter(|folder| !folder.as_os_str().is_empty());
             Ok((folder.unwrap_or(Path::new(".")), name))
         }
-        _ => Err(Failure::new(
-            number::OUT_IS_NO_FILE,
-            format_args!("{} is no name of a file.", shown(out)),
-        )),
+        _ => Err(Failure::new(number::OUT_IS_NO_FILE, format_args!("{} is no name of a file.", shown(out)))),
     }
 }
 
@@ -127,13 +124,7 @@ impl Pending {
         let room = Room::make(&folder.path).map_err(|why| cannot(out, &why))?;
         let file = File::options().write(true).create_new(true).open(room.0.join("new"));
         let file = file.map_err(|why| cannot(out, &why))?;
-        let pending = Pending {
-            room,
-            folder,
-            name: name.to_owned(),
-            given: out.to_owned(),
-            rules: rules.clone(),
-        };
+        let pending = Pending { room, folder, name: name.to_owned(), given: out.to_owned(), rules: rules.clone() };
         Ok((pending, file))
     }
 
@@ -156,11 +147,7 @@ impl Pending {
             self.place_at_a_free_name(&new, &out)?;
             Before::Nothing
         };
-        Ok(Placed {
-            out,
-            before,
-            _pending: self,
-        })
+        Ok(Placed { out, before, _pending: self })
     }
 
     /// A link is made only where the name is free. Where there are no links the name is taken first by an empty file, which

@@ -32,11 +32,7 @@ fn commands(call: &Command) -> impl Iterator<Item = &Command> {
 fn usage(command: &Command) -> String {
     let mut command = command.clone();
     let usage = command.render_usage().to_string();
-    usage
-        .trim_start_matches("Usage:")
-        .split_whitespace()
-        .collect::<Vec<_>>()
-        .join(" ")
+    usage.trim_start_matches("Usage:").split_whitespace().collect::<Vec<_>>().join(" ")
 }
 
 fn about(command: &Command) -> String {
@@ -44,9 +40,7 @@ fn about(command: &Command) -> String {
 }
 
 fn long_about(command: &Command) -> String {
-    command
-        .get_long_about()
-        .map_or_else(|| about(command), ToString::to_string)
+    command.get_long_about().map_or_else(|| about(command), ToString::to_string)
 }
 
 /// An argument: its name, and its help with what it may be.
@@ -61,10 +55,7 @@ fn entry(argument: &Arg) -> String {
     if !values.is_empty() {
         help += &format!(" ({})", values.join(", "));
     }
-    let short = argument
-        .get_short()
-        .map(|short| format!("-{short}, "))
-        .unwrap_or_default();
+    let short = argument.get_short().map(|short| format!("-{short}, ")).unwrap_or_default();
     format!(".TP\n.B {}\n{}\n", text(&format!("{short}{argument}")), text(&help))
 }
 
@@ -79,10 +70,8 @@ fn text(plain: &str) -> String {
 }
 
 fn paragraphs(plain: &str) -> String {
-    let lines: Vec<String> = plain
-        .lines()
-        .map(|line| if line.is_empty() { ".PP".to_owned() } else { text(line) })
-        .collect();
+    let lines: Vec<String> =
+        plain.lines().map(|line| if line.is_empty() { ".PP".to_owned() } else { text(line) }).collect();
     lines.join("\n")
 }
 

@@ -11,26 +11,18 @@ pub struct Progress {
 impl Progress {
     /// A bar that counts so many of something, and is shown from `least` on.
     pub fn new(count: usize, least: usize, what: &'static str) -> Progress {
-        let target = if count < least {
-            ProgressDrawTarget::hidden()
-        } else {
-            ProgressDrawTarget::stderr()
-        };
+        let target = if count < least { ProgressDrawTarget::hidden() } else { ProgressDrawTarget::stderr() };
         let bar = ProgressBar::with_draw_target(Some(count as u64), target);
         if let Ok(style) = ProgressStyle::with_template("{wide_bar} {msg} {pos} of {len}, {eta} left") {
             bar.set_style(style);
         }
         bar.set_message(what);
-        Progress {
-            bar,
-            done: AtomicUsize::new(0),
-        }
+        Progress { bar, done: AtomicUsize::new(0) }
     }
 
     /// One more is done.
     pub fn tick(&self) {
-        self.bar
-            .set_position(self.done.fetch_add(1, Ordering::Relaxed) as u64 + 1);
+        self.bar.set_position(self.done.fetch_add(1, Ordering::Relaxed) as u64 + 1);
     }
 
     /// Says something while the bar makes room for it.

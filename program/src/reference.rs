@@ -34,15 +34,8 @@ impl Reference {
         samples.resize(count, 0);
         let frame = reader.next_frame(&mut samples).map_err(no_png)?;
         let channels = frame.color_type.samples();
-        let pixels = samples[..frame.buffer_size()]
-            .chunks_exact(channels)
-            .map(pixel)
-            .collect();
-        Ok(Reference {
-            width: width as usize,
-            height: height as usize,
-            pixels,
-        })
+        let pixels = samples[..frame.buffer_size()].chunks_exact(channels).map(pixel).collect();
+        Ok(Reference { width: width as usize, height: height as usize, pixels })
     }
 
     /// The sixteen pixels of a block; of those outside the picture the nearest inside.
@@ -57,10 +50,7 @@ impl Reference {
 }
 
 fn no_png(why: png::DecodingError) -> Failure {
-    Failure::new(
-        number::WRONG_PICTURE,
-        format_args!("it cannot be read as a PNG: {why}."),
-    )
+    Failure::new(number::WRONG_PICTURE, format_args!("it cannot be read as a PNG: {why}."))
 }
 
 fn pixel(samples: &[u8]) -> u32 {

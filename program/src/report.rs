@@ -8,17 +8,13 @@ use std::io::{self, Write};
 /// Writes a line to standard output at once.
 pub fn say(line: &str) -> Result<(), Failure> {
     let mut out = io::stdout().lock();
-    writeln!(out, "{line}")
-        .and_then(|()| out.flush())
-        .map_err(|why| Failure::standard_output(&why))
+    writeln!(out, "{line}").and_then(|()| out.flush()).map_err(|why| Failure::standard_output(&why))
 }
 
 /// Writes bytes to standard output at once.
 pub fn put(bytes: &[u8]) -> Result<(), Failure> {
     let mut out = io::stdout().lock();
-    out.write_all(bytes)
-        .and_then(|()| out.flush())
-        .map_err(|why| Failure::standard_output(&why))
+    out.write_all(bytes).and_then(|()| out.flush()).map_err(|why| Failure::standard_output(&why))
 }
 
 /// Writes a line to standard error. Where nobody reads it, it is lost, and the work goes on.

@@ -43,13 +43,7 @@ pub struct Strips<'a> {
 impl<'a> Strips<'a> {
     pub fn new(texture: Texture<'a>, sample: Sample, channels: usize, is_turned: bool) -> Strips<'a> {
         let row_of_blocks = 4 * texture.width * channels * sample.bytes();
-        Strips {
-            texture,
-            sample,
-            channels,
-            is_turned,
-            rows: (STRIP / row_of_blocks.max(1)).max(1),
-        }
+        Strips { texture, sample, channels, is_turned, rows: (STRIP / row_of_blocks.max(1)).max(1) }
     }
 
     /// How many strips there are.
@@ -65,11 +59,7 @@ impl<'a> Strips<'a> {
     /// The rows of blocks of a strip, counted from the top of what is written.
     fn rows_of_blocks(&self, strip: usize) -> Range<usize> {
         let all = self.texture.height.div_ceil(4);
-        let strip = if self.is_turned {
-            self.count() - 1 - strip
-        } else {
-            strip
-        };
+        let strip = if self.is_turned { self.count() - 1 - strip } else { strip };
         strip * self.rows..((strip + 1) * self.rows).min(all)
     }
 
@@ -81,11 +71,7 @@ impl<'a> Strips<'a> {
         let data = &texture.data[rows.start * row_of_blocks..rows.end * row_of_blocks];
         let height = (rows.end * 4).min(texture.height) - rows.start * 4;
         let samples = self.samples(data, Picture::new(texture.width, height))?;
-        Ok(if self.is_turned {
-            samples.chunks(self.row_bytes()).rev().flatten().copied().collect()
-        } else {
-            samples
-        })
+        Ok(if self.is_turned { samples.chunks(self.row_bytes()).rev().flatten().copied().collect() } else { samples })
     }
 
     fn samples(&self, data: &[u8], picture: Picture) -> Result<Vec<u8>, Refusal> {
@@ -108,11 +94,7 @@ impl<'a> Strips<'a> {
         let own = self.texture.kind.channels.count();
         if self.texture.kind.values == Values::ElevenSigned {
             let mut values = vec![0i16; count];
-            let reader = if has_green {
-                typed::decode_eacrg11_signed
-            } else {
-                typed::decode_eacr11_signed
-            };
+            let reader = if has_green { typed::decode_eacrg11_signed } else { typed::decode_eacr11_signed };
             reader(data, picture, &mut values)?;
             return Ok(match self.sample {
                 Sample::Number => values.iter().flat_map(|value| value.to_le_bytes()).collect(),
@@ -120,11 +102,7 @@ impl<'a> Strips<'a> {
             });
         }
         let mut values = vec![0u16; count];
-        let reader = if has_green {
-            typed::decode_eacrg11
-        } else {
-            typed::decode_eacr11
-        };
+        let reader = if has_green { typed::decode_eacrg11 } else { typed::decode_eacr11 };
         reader(data, picture, &mut values)?;
         Ok(match self.sample {
             Sample::Number => values.iter().flat_map(|value| value.to_le_bytes()).collect(),

@@ -86,16 +86,8 @@ pub fn in_order<T: Send, E>(
     if threads.min(count) <= 1 {
         return (0..count).try_for_each(|k| take(k, work(k)));
     }
-    let queue = Queue {
-        next: 0,
-        taken: 0,
-        done: BTreeMap::new(),
-        is_over: false,
-    };
-    let shared = &Shared {
-        queue: Mutex::new(queue),
-        changed: Condvar::new(),
-    };
+    let queue = Queue { next: 0, taken: 0, done: BTreeMap::new(), is_over: false };
+    let shared = &Shared { queue: Mutex::new(queue), changed: Condvar::new() };
     let work = &work;
     thread::scope(|scope| {
         let _all = Ending(shared, true);

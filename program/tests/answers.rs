@@ -13,49 +13,21 @@ fn check_says_whether_an_older_viewer_may_show_it() {
     let room = Room::new();
     let ran = room.run(&["check", &example("old.pkm")]);
     ran.is_done();
-    assert!(
-        ran.out
-            .contains("old.pkm: level 0 of 1: a strict ETC1 reader may show it."),
-        "{ran:?}"
-    );
+    assert!(ran.out.contains("old.pkm: level 0 of 1: a strict ETC1 reader may show it."), "{ran:?}");
     let ran = room.run(&["check", &example("kinds.ktx"), &example("old.pkm")]);
-    assert!(
-        ran.status == 1 && ran.out.contains("block 32") && ran.out.contains("pixel column 0 and row 8"),
-        "{ran:?}"
-    );
-    assert!(
-        ran.out.contains("Refusal 4:") && ran.out.contains("old.pkm: level 0 of 1"),
-        "{ran:?}"
-    );
+    assert!(ran.status == 1 && ran.out.contains("block 32") && ran.out.contains("pixel column 0 and row 8"), "{ran:?}");
+    assert!(ran.out.contains("Refusal 4:") && ran.out.contains("old.pkm: level 0 of 1"), "{ran:?}");
     room.run(&["check", &example("glow.ktx")]).refuses(27, "glow.ktx");
     for (data, number, words) in [
         ([RED, RED, RED, RED].concat(), 0, "an opaque-only viewer may show it"),
-        (
-            [RED, RED, CLEAR, CLEAR].concat(),
-            11,
-            "Block 2 begins at pixel column 0 and row 4",
-        ),
-        (
-            [RED, RED, RED, CLEAR].concat(),
-            11,
-            "Block 3 begins at pixel column 4 and row 4",
-        ),
-        (
-            [RED, RED, RED, RED, CLEAR].concat(),
-            0,
-            "an opaque-only viewer may show it",
-        ),
+        ([RED, RED, CLEAR, CLEAR].concat(), 11, "Block 2 begins at pixel column 0 and row 4"),
+        ([RED, RED, RED, CLEAR].concat(), 11, "Block 3 begins at pixel column 4 and row 4"),
+        ([RED, RED, RED, RED, CLEAR].concat(), 0, "an opaque-only viewer may show it"),
     ] {
         room.write("a.pkm", &pkm(b"20", 4, (8, 8), &data));
         let ran = room.run(&["check", "a.pkm"]);
-        assert!(
-            ran.status == i32::from(number > 0) && ran.out.contains(words),
-            "{ran:?}"
-        );
-        assert!(
-            number == 0 || ran.out.contains(&format!("Refusal {number}:")),
-            "{ran:?}"
-        );
+        assert!(ran.status == i32::from(number > 0) && ran.out.contains(words), "{ran:?}");
+        assert!(number == 0 || ran.out.contains(&format!("Refusal {number}:")), "{ran:?}");
     }
 }
 
@@ -67,54 +39,24 @@ fn check_looks_at_every_level_and_at_what_is_left_over() {
     room.write("a.ktx", &ktx1(gl(Format::Etc1), (16, 16), &levels, true, &[]));
     let ran = room.run(&["check", "a.ktx"]);
     assert_eq!((ran.status, ran.out.lines().count()), (1, 4), "{ran:?}");
-    assert!(
-        ran.out
-            .contains("a.ktx: level 2 of 4: a strict ETC1 reader must not show it: Refusal 4"),
-        "{ran:?}"
-    );
-    assert!(
-        ran.out
-            .contains("a.ktx: level 3 of 4: a strict ETC1 reader may show it."),
-        "{ran:?}"
-    );
+    assert!(ran.out.contains("a.ktx: level 2 of 4: a strict ETC1 reader must not show it: Refusal 4"), "{ran:?}");
+    assert!(ran.out.contains("a.ktx: level 3 of 4: a strict ETC1 reader may show it."), "{ran:?}");
     let said: Value = serde_json::from_str(&room.run(&["check", "--json", "a.ktx"]).out).expect("JSON");
     assert_eq!(
-        (
-            &said["may_show"],
-            &said["levels"][2]["block"],
-            &said["levels"][2]["pixel"]
-        ),
+        (&said["may_show"], &said["levels"][2]["block"], &said["levels"][2]["pixel"]),
         (&json!(false), &json!(0), &json!([0, 0]))
     );
-    assert_eq!(
-        (&said["levels"][2]["number"], &said["levels"][3]["may_show"]),
-        (&json!(4), &json!(true))
-    );
-    let good = ktx1(
-        gl(Format::Etc1),
-        (16, 16),
-        &pyramid(Format::Etc1, 16, 16, 4, 3),
-        false,
-        &[],
-    );
+    assert_eq!((&said["levels"][2]["number"], &said["levels"][3]["may_show"]), (&json!(4), &json!(true)));
+    let good = ktx1(gl(Format::Etc1), (16, 16), &pyramid(Format::Etc1, 16, 16, 4, 3), false, &[]);
     room.write("b.ktx", &good);
     let ran = room.run(&["check", "b.ktx"]);
-    assert!(
-        ran.status == 0 && ran.out == "b.ktx: levels 0 to 3 of 4: a strict ETC1 reader may show it.\n",
-        "{ran:?}"
-    );
+    assert!(ran.status == 0 && ran.out == "b.ktx: levels 0 to 3 of 4: a strict ETC1 reader may show it.\n", "{ran:?}");
     room.write("b.ktx", &[good, vec![0; 5]].concat());
     let ran = room.run(&["check", "b.ktx"]);
-    assert!(
-        ran.status == 1 && ran.out.contains("Refusal 6:") && ran.out.contains("5 bytes"),
-        "{ran:?}"
-    );
+    assert!(ran.status == 1 && ran.out.contains("Refusal 6:") && ran.out.contains("5 bytes"), "{ran:?}");
     assert_eq!(room.run(&["check", "--more", "b.ktx"]).status, 0);
     let said: Value = serde_json::from_str(&room.run(&["check", "--json", "b.ktx"]).out).expect("JSON");
-    assert_eq!(
-        (&said["may_show"], &said["left_over"]["number"]),
-        (&json!(false), &json!(6))
-    );
+    assert_eq!((&said["may_show"], &said["left_over"]["number"]), (&json!(false), &json!(6)));
 }
 
 #[test]
@@ -122,25 +64,17 @@ fn info_tells_what_the_library_tells() {
     let room = Room::new();
     for (k, format) in Format::ALL.into_iter().enumerate() {
         for big in [false, true] {
-            for (told, orientation) in [
-                ("S=r,T=d", json!("top down")),
-                ("S=r,T=u", json!("bottom up")),
-                ("", Value::Null),
-            ] {
-                let keys = if told.is_empty() {
-                    vec![]
-                } else {
-                    entry(big, format!("KTXorientation\0{told}\0").as_bytes())
-                };
+            for (told, orientation) in
+                [("S=r,T=d", json!("top down")), ("S=r,T=u", json!("bottom up")), ("", Value::Null)]
+            {
+                let keys =
+                    if told.is_empty() { vec![] } else { entry(big, format!("KTXorientation\0{told}\0").as_bytes()) };
                 let mut file = ktx1(gl(format), (20, 12), &pyramid(format, 20, 12, 3, 1), big, &keys);
                 file.extend(vec![0; k]);
                 room.write("a.ktx", &file);
                 let said: Value = serde_json::from_str(&room.run(&["info", "--json", "a.ktx"]).out).expect("JSON");
                 assert_eq!(said["container"], "KTX 1");
-                assert_eq!(
-                    (&said["width"], &said["height"], &said["left_over"]),
-                    (&json!(20), &json!(12), &json!(k))
-                );
+                assert_eq!((&said["width"], &said["height"], &said["left_over"]), (&json!(20), &json!(12), &json!(k)));
                 assert_eq!(said["block_bytes"], format.block_size());
                 assert_eq!(said["byte_order"], if big { "big endian" } else { "little endian" });
                 assert_eq!(said["orientation"], orientation);
@@ -150,10 +84,7 @@ fn info_tells_what_the_library_tells() {
                     line.starts_with("a.ktx: KTX 1, ") && line.contains("20 x 12") && line.contains("3 levels"),
                     "{line}"
                 );
-                assert_eq!(
-                    (line.lines().count(), line.contains(&format!("{k} bytes left over"))),
-                    (1, k > 0)
-                );
+                assert_eq!((line.lines().count(), line.contains(&format!("{k} bytes left over"))), (1, k > 0));
             }
         }
     }
@@ -178,23 +109,14 @@ fn census_counts_the_kinds_of_each_level() {
             (&found["individual"], &found["planar"], &found["T"]),
             (&json!(counts.individual), &json!(counts.planar), &json!(counts.t))
         );
-        assert_eq!(
-            (&found["differential"], &found["H"]),
-            (&json!(counts.differential), &json!(counts.h))
-        );
+        assert_eq!((&found["differential"], &found["H"]), (&json!(counts.differential), &json!(counts.h)));
     }
     let lines = room.run(&["info", "--census", "a.ktx"]).out;
-    assert!(
-        lines.lines().count() == 4 && lines.contains("a.ktx: level 2 of 3, 10 x 10: "),
-        "{lines}"
-    );
+    assert!(lines.lines().count() == 4 && lines.contains("a.ktx: level 2 of 3, 10 x 10: "), "{lines}");
     room.write("a.pkm", &pkm(b"20", 4, (8, 8), &[RED, CLEAR, CLEAR, RED].concat()));
     let said: Value = serde_json::from_str(&room.run(&["info", "--census", "--json", "a.pkm"]).out).expect("JSON");
     let found = &said["levels"][0]["census"];
-    assert_eq!(
-        (&found["opaque differential"], &found["clear differential"]),
-        (&json!(2), &json!(2))
-    );
+    assert_eq!((&found["opaque differential"], &found["clear differential"]), (&json!(2), &json!(2)));
 }
 
 #[test]
@@ -237,19 +159,9 @@ fn degrees_of_every_point() {
     for (word, legend) in [
         ("line:-10:0.5", Legend::Line { low: -10.0, step: 0.5 }),
         ("level:36.5", Legend::Level(36.5)),
-        (
-            "bend:1:0.25:-0.125",
-            Legend::Bend {
-                low: 1.0,
-                step: 0.25,
-                second: -0.125,
-            },
-        ),
+        ("bend:1:0.25:-0.125", Legend::Bend { low: 1.0, step: 0.25, second: -0.125 }),
     ] {
-        let (mut rows, mut expected) = (
-            "x,y,measured\n".to_owned(),
-            "predicted,measured,difference\n".to_owned(),
-        );
+        let (mut rows, mut expected) = ("x,y,measured\n".to_owned(), "predicted,measured,difference\n".to_owned());
         for (k, pixel) in image.iter().enumerate() {
             let measured = k as f32 * 0.37 - 100.0;
             rows += &format!("{},{},{measured}\n", k % 32, k / 32);
@@ -258,10 +170,7 @@ fn degrees_of_every_point() {
                 None => format!(",{measured},\n"),
             };
         }
-        let ran = room.run_with(
-            &[&["degrees", &file, "--legend", word], &DIGITS[..]].concat(),
-            rows.as_bytes(),
-        );
+        let ran = room.run_with(&[&["degrees", &file, "--legend", word], &DIGITS[..]].concat(), rows.as_bytes());
         ran.is_done();
         assert!(ran.out == expected && ran.out.contains("\n,"), "{word}");
     }
@@ -305,71 +214,58 @@ fn degrees_name_the_row_that_is_refused() {
     legend("line:0", "index").is_a_wrong_call("line:0");
     legend("line:0:x", "index").is_a_wrong_call("'x'");
     legend("line:0:1", "toe").is_a_wrong_call("toe");
-    room.run_with(&[&["degrees", "-", "--legend", "line:0:1"], &DIGITS[..]].concat(), b"")
-        .is_a_wrong_call("words");
+    room.run_with(&[&["degrees", "-", "--legend", "line:0:1"], &DIGITS[..]].concat(), b"").is_a_wrong_call("words");
 }
 
-/// A picture in which every block has two colours, baked and compared with itself.
-#[test]
-fn bake_and_compare() {
+const BAKED: (usize, usize) = (30, 18);
+
+/// A folder with a picture and what was baked from it.
+fn baked() -> Room {
     let room = Room::new();
-    let size = (30, 18);
-    let data = blocks(Format::Etc2Rgb, size.0, size.1, 3);
-    room.write("source.ktx", &single(Format::Etc2Rgb, size, &data));
+    let data = blocks(Format::Etc2Rgb, BAKED.0, BAKED.1, 3);
+    room.write("source.ktx", &single(Format::Etc2Rgb, BAKED, &data));
     room.run(&["unpack", "source.ktx", "source.png"]).is_done();
     let ran = room.run(&["bake", "source.png", "baked.ktx"]);
     ran.is_done();
     assert!(ran.out.contains("40 blocks of ETC1, to baked.ktx"), "{ran:?}");
+    room
+}
+
+#[test]
+fn what_was_baked_can_be_read() {
+    let room = baked();
     room.run(&["check", "baked.ktx"]).is_done();
     room.run(&["unpack", "baked.ktx", "baked.png"]).is_done();
     let ran = room.run(&["compare", "baked.ktx", "baked.png", "--tolerance", "0"]);
     ran.is_done();
-    assert!(
-        ran.out
-            .contains("0 of 40 blocks are outside tolerance 0; the largest difference is 0"),
-        "{ran:?}"
-    );
-    let (baked, source) = (
-        common::seen(&room.path("baked.png")).samples,
-        common::seen(&room.path("source.png")).samples,
-    );
+    assert!(ran.out.contains("0 of 40 blocks are outside tolerance 0; the largest difference is 0"), "{ran:?}");
+    for threads in ["1", "3"] {
+        room.run(&["bake", "--force", "--threads", threads, "source.png", "again.ktx"]).is_done();
+        assert_eq!(room.read("again.ktx"), room.read("baked.ktx"));
+    }
+}
+
+#[test]
+fn compare_counts_the_blocks_outside() {
+    let room = baked();
+    room.run(&["unpack", "baked.ktx", "baked.png"]).is_done();
+    let (baked, source) =
+        (common::seen(&room.path("baked.png")).samples, common::seen(&room.path("source.png")).samples);
     let far = |k: usize| baked[k].abs_diff(source[k]);
     let largest = (0..source.len()).map(far).max().expect("samples");
     for tolerance in [0, largest - 1, largest, 255] {
-        let outside: Vec<usize> = (0..40)
-            .filter(|block| {
-                let inside = |k: &usize| k / 3 % size.0 / 4 + k / 3 / size.0 / 4 * 8 == *block;
-                (0..source.len()).filter(inside).any(|k| far(k) > tolerance)
-            })
-            .collect();
-        let ran = room.run(&[
-            "compare",
-            "baked.ktx",
-            "source.png",
-            "--tolerance",
-            &tolerance.to_string(),
-        ]);
+        let is_outside = |block: &usize| {
+            let inside = |k: &usize| k / 3 % BAKED.0 / 4 + k / 3 / BAKED.0 / 4 * 8 == *block;
+            (0..source.len()).filter(inside).any(|k| far(k) > tolerance)
+        };
+        let outside: Vec<usize> = (0..40).filter(is_outside).collect();
+        let ran = room.run(&["compare", "baked.ktx", "source.png", "--tolerance", &tolerance.to_string()]);
         assert_eq!(ran.status, i32::from(!outside.is_empty()), "{ran:?}");
-        assert!(
-            ran.out.contains(&format!(
-                "{} of 40 blocks are outside tolerance {tolerance}",
-                outside.len()
-            )),
-            "{ran:?}"
-        );
-        assert!(
-            ran.out.contains(&format!("the largest difference is {largest}")),
-            "{largest}: {ran:?}"
-        );
-        assert!(
-            outside.is_empty() || ran.out.contains(&format!("the first of them block {}, ", outside[0])),
-            "{ran:?}"
-        );
-    }
-    for threads in ["1", "3"] {
-        room.run(&["bake", "--force", "--threads", threads, "source.png", "again.ktx"])
-            .is_done();
-        assert_eq!(room.read("again.ktx"), room.read("baked.ktx"));
+        let count = format!("{} of 40 blocks are outside tolerance {tolerance}", outside.len());
+        assert!(ran.out.contains(&count), "{count}: {ran:?}");
+        assert!(ran.out.contains(&format!("the largest difference is {largest}")), "{largest}: {ran:?}");
+        let first = outside.first().map(|block| format!("the first of them block {block}, "));
+        assert!(first.is_none_or(|first| ran.out.contains(&first)), "{ran:?}");
     }
 }
 
@@ -377,43 +273,20 @@ fn bake_and_compare() {
 fn bake_comes_near_and_tries_both_ways() {
     let room = Room::new();
     // the left and right halves of the first block differ, and the upper and lower halves of the second
-    let across: Vec<[u8; 3]> = (0..16)
-        .map(|k| {
-            if k % 4 < 2 {
-                [0x11, 0x22, 0x33]
-            } else {
-                [0xee, 0xdd, 0xcc]
-            }
-        })
-        .collect();
-    let down: Vec<[u8; 3]> = (0..16)
-        .map(|k| {
-            if k / 4 < 2 {
-                [0x11, 0x22, 0x33]
-            } else {
-                [0xee, 0xdd, 0xcc]
-            }
-        })
-        .collect();
+    let across: Vec<[u8; 3]> =
+        (0..16).map(|k| if k % 4 < 2 { [0x11, 0x22, 0x33] } else { [0xee, 0xdd, 0xcc] }).collect();
+    let down: Vec<[u8; 3]> = (0..16).map(|k| if k / 4 < 2 { [0x11, 0x22, 0x33] } else { [0xee, 0xdd, 0xcc] }).collect();
     let rows = (0..4).flat_map(|y| [&across[4 * y..4 * y + 4], &down[4 * y..4 * y + 4]].concat());
     let bytes: Vec<u8> = rows.flatten().collect();
     let mut png = Vec::new();
     let mut encoder = png::Encoder::new(&mut png, 8, 4);
     encoder.set_color(png::ColorType::Rgb);
-    encoder
-        .write_header()
-        .and_then(|mut writer| writer.write_image_data(&bytes))
-        .expect("a PNG");
+    encoder.write_header().and_then(|mut writer| writer.write_image_data(&bytes)).expect("a PNG");
     room.write("in.png", &png);
     room.run(&["bake", "in.png", "out.ktx"]).is_done();
     let file = room.read("out.ktx");
-    assert_eq!(
-        (file[68 + 3] & 1, file[68 + 8 + 3] & 1),
-        (0, 1),
-        "the way in which each block is cut"
-    );
-    room.run(&["compare", "out.ktx", "in.png", "--tolerance", "2"])
-        .is_done();
+    assert_eq!((file[68 + 3] & 1, file[68 + 8 + 3] & 1), (0, 1), "the way in which each block is cut");
+    room.run(&["compare", "out.ktx", "in.png", "--tolerance", "2"]).is_done();
 }
 
 #[test]
@@ -421,27 +294,19 @@ fn compare_and_bake_refuse_what_does_not_fit() {
     let room = Room::new();
     room.run(&["unpack", &example("glow.ktx"), "glow.png"]).is_done();
     room.run(&["unpack", &example("old.pkm"), "old.png"]).is_done();
-    room.run(&["compare", &example("glow.ktx"), "glow.png", "--tolerance", "1"])
-        .refuses(40, "glow.ktx");
-    room.run(&["compare", &example("old.pkm"), "glow.png", "--tolerance", "1"])
-        .refuses(42, "old.pkm");
-    room.run(&["compare", &example("old.pkm"), &example("old.pkm"), "--tolerance", "1"])
-        .refuses(42, "old.pkm");
-    room.run(&["compare", &example("old.pkm"), "none.png", "--tolerance", "1"])
-        .refuses(30, "none.png");
+    room.run(&["compare", &example("glow.ktx"), "glow.png", "--tolerance", "1"]).refuses(40, "glow.ktx");
+    room.run(&["compare", &example("old.pkm"), "glow.png", "--tolerance", "1"]).refuses(42, "old.pkm");
+    room.run(&["compare", &example("old.pkm"), &example("old.pkm"), "--tolerance", "1"]).refuses(42, "old.pkm");
+    room.run(&["compare", &example("old.pkm"), "none.png", "--tolerance", "1"]).refuses(30, "none.png");
     room.run(&["bake", "glow.png", "x.ktx"]).refuses(42, "glow.png");
     room.run(&["bake", &example("old.pkm"), "x.ktx"]).refuses(42, "old.pkm");
     room.run(&["bake", "old.png", "glow.png"]).refuses(33, "glow.png");
-    room.run(&["bake", "--force", "old.png", "old.png"])
-        .refuses(34, "old.png");
+    room.run(&["bake", "--force", "old.png", "old.png"]).refuses(34, "old.png");
     let newer = [blocks(Format::Etc1, 4, 4, 1), vec![0x04, 0, 0, 0x02, 0, 0, 0, 0]].concat();
     room.write("newer.pkm", &pkm(b"10", 0, (8, 4), &newer));
     room.run(&["unpack", "--wrap", "newer.pkm", "newer.png"]).is_done();
     let ran = room.run(&["compare", "newer.pkm", "newer.png", "--tolerance", "255"]);
-    assert!(
-        ran.status == 1 && ran.out.contains("1 of 2 blocks") && ran.out.contains("newer kind"),
-        "{ran:?}"
-    );
+    assert!(ran.status == 1 && ran.out.contains("1 of 2 blocks") && ran.out.contains("newer kind"), "{ran:?}");
     assert_eq!(room.list(), ["glow.png", "newer.pkm", "newer.png", "old.png"]);
 }
 
@@ -453,11 +318,8 @@ fn pages_are_made_from_the_help() {
     for command in ["unpack", "check", "info", "sheet", "degrees", "compare", "bake"] {
         let help = room.run(&[command, "--help"]);
         help.is_done();
-        let words: Vec<&str> = help
-            .out
-            .split_whitespace()
-            .filter(|word| word.starts_with("--") && word.len() > 2)
-            .collect();
+        let words: Vec<&str> =
+            help.out.split_whitespace().filter(|word| word.starts_with("--") && word.len() > 2).collect();
         for word in words {
             let word = word.trim_end_matches([',', ':', '.', ';']);
             assert!(page.out.contains(&word.replace('-', "\\-")), "{command} {word}");
@@ -466,10 +328,7 @@ fn pages_are_made_from_the_help() {
     if room.shell("command -v man").status == 0 {
         room.write("yalivucu.1", page.out.as_bytes());
         let shown = room.shell("MANWIDTH=100 man --warnings -l ./yalivucu.1 2>&1 | cat");
-        assert!(
-            shown.out.contains("--force") && !shown.out.contains("warning"),
-            "{shown:?}"
-        );
+        assert!(shown.out.contains("--force") && !shown.out.contains("warning"), "{shown:?}");
     }
     for shell in ["bash", "zsh", "fish"] {
         let ran = room.run(&["completions", shell]);

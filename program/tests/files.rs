@@ -29,24 +29,16 @@ fn a_name_that_is_taken() {
     refused.refuses(33, "out.png");
     assert!(refused.err.contains("--force") && room.read("out.png") == b"somebody's");
     symlink("nowhere", room.path("dangling.png")).expect("a link");
-    room.run(&["unpack", "in.ktx", "dangling.png"])
-        .refuses(33, "dangling.png");
+    room.run(&["unpack", "in.ktx", "dangling.png"]).refuses(33, "dangling.png");
     room.run(&["unpack", "--force", "in.ktx", "out.png"]).is_done();
     assert_eq!(room.read("out.png"), png);
     room.write("target", b"somebody's");
     symlink("target", room.path("led.png")).expect("a link");
     room.run(&["unpack", "--force", "in.ktx", "led.png"]).is_done();
-    assert_eq!(
-        (room.read("target"), room.read("led.png")),
-        (b"somebody's".to_vec(), png)
-    );
+    assert_eq!((room.read("target"), room.read("led.png")), (b"somebody's".to_vec(), png));
     fs::copy(room.path("in.ktx"), room.path("other.ktx")).expect("a copy");
-    room.run(&["unpack", "in.ktx", "-o", "other.ktx"])
-        .refuses(33, "other.ktx");
-    assert_eq!(
-        room.list(),
-        ["dangling.png", "in.ktx", "led.png", "other.ktx", "out.png", "target"]
-    );
+    room.run(&["unpack", "in.ktx", "-o", "other.ktx"]).refuses(33, "other.ktx");
+    assert_eq!(room.list(), ["dangling.png", "in.ktx", "led.png", "other.ktx", "out.png", "target"]);
 }
 
 #[test]
@@ -55,16 +47,11 @@ fn the_file_itself_is_never_written() {
     symlink("in.ktx", room.path("soft")).expect("a link");
     fs::hard_link(room.path("in.ktx"), room.path("hard")).expect("a link");
     let file = room.read("in.ktx");
-    let around = format!(
-        "../{}/in.ktx",
-        room.here().file_name().expect("a name").to_string_lossy()
-    );
+    let around = format!("../{}/in.ktx", room.here().file_name().expect("a name").to_string_lossy());
     for out in ["in.ktx", "./in.ktx", "soft", "hard", &around] {
         for force in [&[][..], &["--force"]] {
-            room.run(&[&["unpack", "in.ktx", "-o", out], force].concat())
-                .refuses(34, "in.ktx");
-            room.run(&[&["sheet", "in.ktx", out], force].concat())
-                .refuses(34, "in.ktx");
+            room.run(&[&["unpack", "in.ktx", "-o", out], force].concat()).refuses(34, "in.ktx");
+            room.run(&[&["sheet", "in.ktx", out], force].concat()).refuses(34, "in.ktx");
         }
     }
     let ran = room.shell("$Y unpack --force - -o in.ktx <in.ktx");
@@ -84,26 +71,18 @@ fn folders_devices_and_pipes_are_never_written() {
     let before = room.list();
     for out in names {
         for force in [&[][..], &["--force"]] {
-            room.run(&[&["unpack", "in.ktx", "-o", out], force].concat())
-                .refuses(35, "in.ktx");
+            room.run(&[&["unpack", "in.ktx", "-o", out], force].concat()).refuses(35, "in.ktx");
         }
     }
     assert_eq!(room.list(), before);
     assert_eq!(fs::read_dir(room.path("folder")).expect("it").count(), 0);
-    for out in [
-        "/dev/stdout",
-        "/dev/fd/1",
-        "/proc/self/fd/1",
-        "/dev/new.png",
-        "/sys/x.png",
-    ] {
+    for out in ["/dev/stdout", "/dev/fd/1", "/proc/self/fd/1", "/dev/new.png", "/sys/x.png"] {
         let ran = room.shell(&format!("$Y unpack --force in.ktx -o {out} >out"));
         assert!(ran.status == 1 && ran.err.contains("Refusal 35"), "{out}: {ran:?}");
         assert_eq!(room.read("out"), b"");
     }
     assert!(!Path::new("/dev/new.png").exists());
-    room.run(&["unpack", "in.ktx", "no/folder.png"])
-        .refuses(31, "no/folder.png");
+    room.run(&["unpack", "in.ktx", "no/folder.png"]).refuses(31, "no/folder.png");
     room.run(&["unpack", "--into", "no", "in.ktx"]).refuses(31, "in.ktx");
 }
 
@@ -120,17 +99,9 @@ fn names_that_look_like_options() {
 fn the_mode_of_a_new_file_is_the_umasks() {
     let (room, _) = room();
     for mask in ["022", "077", "002"] {
-        room.shell(&format!("umask {mask}; $Y unpack in.ktx {mask}.png"))
-            .is_done();
-        let mode = fs::metadata(room.path(format!("{mask}.png")))
-            .expect("it")
-            .permissions()
-            .mode();
-        assert_eq!(
-            mode & 0o777,
-            0o666 & !u32::from_str_radix(mask, 8).expect("a number"),
-            "umask {mask}"
-        );
+        room.shell(&format!("umask {mask}; $Y unpack in.ktx {mask}.png")).is_done();
+        let mode = fs::metadata(room.path(format!("{mask}.png"))).expect("it").permissions().mode();
+        assert_eq!(mode & 0o777, 0o666 & !u32::from_str_radix(mask, 8).expect("a number"), "umask {mask}");
     }
 }
 
@@ -150,26 +121,15 @@ fn several_files() {
     fs::copy(room.path("glow.ktx"), room.path("twin/in.ktx")).expect("a copy");
     for force in [&[][..], &["--force"]] {
         room.shell("rm -f into/*").is_done();
-        room.run(&[&["unpack", "--into", "into", "in.ktx", "twin/in.ktx"], force].concat())
-            .refuses(33, "in.ktx.png");
-        assert_eq!(
-            fs::read(room.path("into/in.ktx.png")).ok(),
-            Some(png.clone()),
-            "the first of one name stays"
-        );
+        room.run(&[&["unpack", "--into", "into", "in.ktx", "twin/in.ktx"], force].concat()).refuses(33, "in.ktx.png");
+        assert_eq!(fs::read(room.path("into/in.ktx.png")).ok(), Some(png.clone()), "the first of one name stays");
     }
     fs::copy(room.path("glow.ktx"), room.path("twin/in.ktx.png")).expect("a copy");
     let glow = room.read("glow.ktx");
-    room.run(&["unpack", "--force", "--into", "twin", "in.ktx", "twin/in.ktx.png"])
-        .refuses(34, "in.ktx.png");
-    assert_eq!(
-        fs::read(room.path("twin/in.ktx.png")).ok(),
-        Some(glow),
-        "another FILE is kept"
-    );
+    room.run(&["unpack", "--force", "--into", "twin", "in.ktx", "twin/in.ktx.png"]).refuses(34, "in.ktx.png");
+    assert_eq!(fs::read(room.path("twin/in.ktx.png")).ok(), Some(glow), "another FILE is kept");
     room.run(&["unpack", "--into", "into", "-"]).is_a_wrong_call("-");
-    room.run(&["unpack", "in.ktx", "glow.ktx", "-o", "x.png"])
-        .is_a_wrong_call("--into");
+    room.run(&["unpack", "in.ktx", "glow.ktx", "-o", "x.png"]).is_a_wrong_call("--into");
     room.run(&["unpack", "in.ktx", "glow.ktx"]).is_done();
     assert_eq!(room.read("in.ktx.png"), png);
     room.run(&["unpack", "--force", "in.ktx", "png"]).refuses(30, "png");
@@ -185,10 +145,7 @@ fn eight_hundred_files_print_a_line_each_in_order() {
         let file = single(Format::Etc2Rgb, (8, 8), &data);
         room.write(name, if k == 400 { &file[..90] } else { &file });
     }
-    let words: Vec<&str> = ["unpack", "--into", "into"]
-        .into_iter()
-        .chain(names.iter().map(String::as_str))
-        .collect();
+    let words: Vec<&str> = ["unpack", "--into", "into"].into_iter().chain(names.iter().map(String::as_str)).collect();
     let ran = room.run(&words);
     ran.refuses(37, "400.ktx");
     let lines: Vec<&str> = ran.out.lines().collect();
@@ -225,11 +182,7 @@ fn no_name_reaches_the_terminal() {
 
 fn started(room: &Room, words: &[&str], input: Stdio) -> Child {
     let mut command = room.command(words);
-    let child = command
-        .stdin(input)
-        .stdout(Stdio::piped())
-        .stderr(Stdio::piped())
-        .spawn();
+    let child = command.stdin(input).stdout(Stdio::piped()).stderr(Stdio::piped()).spawn();
     child.expect("the program runs")
 }
 
@@ -238,10 +191,7 @@ fn started(room: &Room, words: &[&str], input: Stdio) -> Child {
 fn has_begun(room: &Room, child: &mut Child) {
     let begin = Instant::now();
     while !room.list().iter().any(|name| name.starts_with(".yalivucu-")) {
-        assert!(
-            child.try_wait().expect("it").is_none(),
-            "the run is over before it could be seen"
-        );
+        assert!(child.try_wait().expect("it").is_none(), "the run is over before it could be seen");
         assert!(begin.elapsed() < Duration::from_secs(60), "the run has not begun");
         sleep(Duration::from_micros(200));
     }
@@ -253,10 +203,8 @@ fn two_runs_with_one_name() {
     room.write("big.ktx", &large(1024));
     let both = |words: &[&str]| -> Vec<i32> {
         let runs: Vec<Child> = (0..2).map(|_| started(&room, words, Stdio::null())).collect();
-        let mut ends: Vec<i32> = runs
-            .into_iter()
-            .map(|run| Ran::of(run.wait_with_output().expect("it ends")).status)
-            .collect();
+        let mut ends: Vec<i32> =
+            runs.into_iter().map(|run| Ran::of(run.wait_with_output().expect("it ends")).status).collect();
         ends.sort_unstable();
         ends
     };
@@ -273,11 +221,7 @@ fn nothing_is_left_after_a_signal() {
         let room = Room::new();
         room.write("big.ktx", &large(8192));
         room.write("out.png", b"somebody's");
-        let mut run = started(
-            &room,
-            &["unpack", "--force", "--threads", "2", "big.ktx", "out.png"],
-            Stdio::null(),
-        );
+        let mut run = started(&room, &["unpack", "--force", "--threads", "2", "big.ktx", "out.png"], Stdio::null());
         has_begun(&room, &mut run);
         let kill = Command::new("kill").args(["-s", name, &run.id().to_string()]).status();
         assert!(kill.is_ok_and(|status| status.success()));
@@ -289,11 +233,7 @@ fn nothing_is_left_after_a_signal() {
         sleep(Duration::from_millis(100));
         let kill = Command::new("kill").args(["-s", name, &run.id().to_string()]).status();
         assert!(kill.is_ok_and(|status| status.success()));
-        assert_eq!(
-            run.wait().expect("it ends").signal(),
-            Some(number),
-            "SIG{name} while it waits for its input"
-        );
+        assert_eq!(run.wait().expect("it ends").signal(), Some(number), "SIG{name} while it waits for its input");
         assert_eq!(room.list(), ["big.ktx", "out.png"], "SIG{name}");
     }
 }
@@ -336,67 +276,51 @@ fn a_full_disk() {
     fs::create_dir(room.path("disk")).expect("a folder");
     room.write("big.ktx", &large(2048));
     let mount = "mount -t tmpfs -o size=64k none disk && cd disk && echo mine >out.png &&";
-    let ran = alone(
-        &room,
-        &format!("{mount} $Y unpack --force ../big.ktx out.png; echo $? $(ls -A) $(cat out.png)"),
-    );
+    let ran = alone(&room, &format!("{mount} $Y unpack --force ../big.ktx out.png; echo $? $(ls -A) $(cat out.png)"));
     assert_eq!(ran.out.trim(), "1 out.png mine", "{ran:?}");
-    assert!(
-        ran.err.contains("Refusal 31") && ran.err.contains("No space left"),
-        "{ran:?}"
-    );
+    assert!(ran.err.contains("Refusal 31") && ran.err.contains("No space left"), "{ran:?}");
+}
+
+const SAYING: [&[&str]; 12] = [
+    &["unpack", "in.ktx", "new.png"],
+    &["unpack", "--force", "in.ktx", "out.png"],
+    &["unpack", "in.ktx", "-"],
+    &["info", "in.ktx"],
+    &["check", "in.ktx"],
+    &["--help"],
+    &["--version"],
+    &["manual"],
+    &["completions", "bash"],
+    &["sheet", "in.ktx", "new.sheet"],
+    &["sheet", "in.ktx", "-"],
+    &["info", "--json", "in.ktx"],
+];
+
+/// A pipe that nobody reads any more.
+fn closed() -> Stdio {
+    let mut reader = Command::new("true").stdin(Stdio::piped()).spawn().expect("true runs");
+    let pipe = reader.stdin.take().expect("a pipe");
+    reader.wait().expect("it ends");
+    Stdio::from(pipe)
+}
+
+fn full() -> Stdio {
+    Stdio::from(fs::File::options().write(true).open("/dev/full").expect("the device"))
 }
 
 #[test]
 fn a_closed_or_full_standard_output_leaves_everything_as_it_was() {
     let (room, _) = room();
     room.write("out.png", b"somebody's");
-    let calls = [
-        "unpack in.ktx new.png",
-        "unpack --force in.ktx out.png",
-        "unpack in.ktx -",
-        "info in.ktx",
-        "check in.ktx",
-        "--help",
-        "--version",
-        "manual",
-        "completions bash",
-        "sheet in.ktx new.sheet",
-        "sheet in.ktx -",
-        "info --json in.ktx",
-    ];
-    for call in calls {
-        let full = room.shell(&format!("$Y {call} >/dev/full"));
-        assert!(
-            full.status == 1 && full.err.contains("Refusal 36") && full.err.contains("No space left"),
-            "{call}: {full:?}"
-        );
-        let closed = room.shell(&format!(
-            "{{ $Y {call}; echo $? >status; }} | true; sleep 0.2; cat status"
-        ));
-        assert!(
-            closed.out.trim() == "1" || closed.out.trim() == "0",
-            "{call}: {closed:?}"
-        );
-        assert!(
-            closed.out.trim() == "0" || closed.err.contains("Refusal 36"),
-            "{call}: {closed:?}"
-        );
-        room.shell("rm -f status new.png new.sheet");
-        if call.contains("--force") && closed.out.trim() == "0" {
-            room.write("out.png", b"somebody's");
+    for words in SAYING {
+        for (output, why) in [(full(), "No space left"), (closed(), "Broken pipe")] {
+            let run = room.command(words).stdout(output).stderr(Stdio::piped()).spawn().expect("it runs");
+            let ran = Ran::of(run.wait_with_output().expect("it ends"));
+            assert!(ran.status == 1 && ran.err.contains("Refusal 36") && ran.err.contains(why), "{words:?}: {ran:?}");
+            assert_eq!(room.list(), ["in.ktx", "out.png"], "{words:?}");
+            assert_eq!(room.read("out.png"), b"somebody's", "{words:?}");
         }
-        assert_eq!(
-            (room.list(), room.read("out.png")),
-            (vec!["in.ktx".to_owned(), "out.png".to_owned()], b"somebody's".to_vec()),
-            "{call}"
-        );
     }
-    let full = room.shell("$Y unpack in.ktx new.png >/dev/full; ls -A");
-    assert_eq!(
-        full.out, "in.ktx\nout.png\n",
-        "a file that cannot be reported is not written"
-    );
 }
 
 #[test]
@@ -413,14 +337,17 @@ fn nobody_reads_the_refusal() {
 #[test]
 fn a_file_system_without_links() {
     let (room, png) = room();
-    room.write("no.c", b"#include <errno.h>\nint linkat(int a, const char *b, int c, const char *d, int e)\n{ (void)a; (void)b; (void)c; (void)d; (void)e; errno = EPERM; return -1; }\n");
+    room.write(
+        "no.c",
+        b"#include <errno.h>\nint linkat(int a, const char *b, int c, const char *d, int e)\n\
+          { (void)a; (void)b; (void)c; (void)d; (void)e; errno = EPERM; return -1; }\n",
+    );
     room.shell("cc -shared -fPIC no.c -o no.so && rm no.c").is_done();
     let without = "LD_PRELOAD=$PWD/no.so $Y unpack";
     room.shell(&format!("{without} in.ktx out.png")).is_done();
     assert_eq!(room.read("out.png"), png);
     room.write("taken.png", b"somebody's");
-    room.shell(&format!("{without} in.ktx taken.png"))
-        .refuses(33, "taken.png");
+    room.shell(&format!("{without} in.ktx taken.png")).refuses(33, "taken.png");
     room.shell(&format!("{without} --force in.ktx taken.png")).is_done();
     assert_eq!(room.read("taken.png"), png);
     let ran = room.shell(&format!("{without} in.ktx new.png >/dev/full"));
@@ -445,10 +372,8 @@ fn the_folder_may_move_meanwhile() {
     }
     fs::rename(room.path("here"), room.path("there")).expect("it moves");
     assert!(run.wait().expect("it ends").success());
-    let names: Vec<_> = fs::read_dir(room.path("there"))
-        .expect("it")
-        .map(|entry| entry.expect("one").file_name())
-        .collect();
+    let names: Vec<_> =
+        fs::read_dir(room.path("there")).expect("it").map(|entry| entry.expect("one").file_name()).collect();
     assert_eq!(names, ["out.png"]);
     let mut run = started(&room, &["unpack", "-", "-o", "new.png"], Stdio::piped());
     let glow = fs::read(example("glow.ktx")).expect("an example");
@@ -468,12 +393,7 @@ fn what_is_no_ordinary_file_is_not_read() {
         ("none", "No such file"),
         ("", "No such file"),
     ] {
-        for words in [
-            &["unpack", file, "-o", "x.png"][..],
-            &["info", file],
-            &["check", file],
-            &["sheet", file, "x"],
-        ] {
+        for words in [&["unpack", file, "-o", "x.png"][..], &["info", file], &["check", file], &["sheet", file, "x"]] {
             let ran = room.run(words);
             ran.refuses(30, file);
             assert!(ran.err.contains(why), "{file}: {ran:?}");
@@ -516,32 +436,17 @@ fn streams() {
         assert!((ran.status, &ran.bytes) == (0, &png), "{name}");
         room.run_with(&["info", "-"], &data).is_done();
         let ran = room.run_with(&["unpack", "-", "-"], &data[..data.len() - 1]);
-        assert!(
-            ran.status == 1 && ran.bytes.is_empty() && ran.err.contains("Refusal 37"),
-            "{ran:?}"
-        );
+        assert!(ran.status == 1 && ran.bytes.is_empty() && ran.err.contains("Refusal 37"), "{ran:?}");
     }
     let endless = room.shell("yes | timeout 60 $Y unpack - -");
-    assert!(
-        endless.status == 1 && endless.err.contains("Refusal 21") && endless.bytes.is_empty(),
-        "{endless:?}"
-    );
+    assert!(endless.status == 1 && endless.err.contains("Refusal 21") && endless.bytes.is_empty(), "{endless:?}");
     fs::copy(example("glow.ktx"), room.path("glow.ktx")).expect("a copy");
     room.run(&["unpack", "--force", "glow.ktx", "file.png"]).is_done();
     let ran = room.shell("{ cat glow.ktx; yes; } | timeout 60 $Y unpack - -");
     assert!(ran.bytes == room.read("file.png"), "a stream without end behind a file");
     let whole = pkm(b"10", 0, (364, 360), &vec![0; 91 * 90 * 8]);
-    for (data, status) in [
-        (&whole[..whole.len() - 1], 1),
-        (&whole[..], 0),
-        (&[&whole[..], b"\0"].concat()[..], 1),
-    ] {
-        assert_eq!(
-            room.run_with(&["check", "-"], data).status,
-            status,
-            "{} bytes",
-            data.len()
-        );
+    for (data, status) in [(&whole[..whole.len() - 1], 1), (&whole[..], 0), (&[&whole[..], b"\0"].concat()[..], 1)] {
+        assert_eq!(room.run_with(&["check", "-"], data).status, status, "{} bytes", data.len());
     }
     for size in [65535usize, 65536, 65537, 131072, 131073] {
         room.write("bare", &vec![0; size]);
@@ -552,10 +457,7 @@ fn streams() {
     }
     let wide = ktx1(gl(Format::Etc2Rgba8), (65_537, 4), &[vec![0; 16 * 16_385]], false, &[]);
     let ran = room.run_with(&["unpack", "-", "-"], &wide);
-    assert!(
-        ran.status == 1 && ran.err.contains("Refusal 1:") && ran.err.lines().count() == 1,
-        "{ran:?}"
-    );
+    assert!(ran.status == 1 && ran.err.contains("Refusal 1:") && ran.err.lines().count() == 1, "{ran:?}");
 }
 
 #[test]
@@ -564,20 +466,8 @@ fn memory_stays_within_the_file_and_a_few_rows() {
     room.write("big.ktx", &large(8192)); // 64 MB of blocks, 256 MB of pixels
     let ran = room.shell("ulimit -v 400000; $Y unpack --threads 2 big.ktx big.png");
     ran.is_done();
-    let mut child = Command::new(PROGRAM)
-        .args(["--version"])
-        .stdout(Stdio::piped())
-        .spawn()
-        .expect("it runs");
+    let mut child = Command::new(PROGRAM).args(["--version"]).stdout(Stdio::piped()).spawn().expect("it runs");
     let mut said = String::new();
-    child
-        .stdout
-        .take()
-        .expect("it")
-        .read_to_string(&mut said)
-        .expect("text");
-    assert!(
-        child.wait().expect("it ends").success() && said.starts_with("yalivucu "),
-        "{said}"
-    );
+    child.stdout.take().expect("it").read_to_string(&mut said).expect("text");
+    assert!(child.wait().expect("it ends").success() && said.starts_with("yalivucu "), "{said}");
 }

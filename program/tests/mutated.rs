@@ -55,8 +55,7 @@ fn mutated_files_are_shown_or_refused() {
         assert_eq!(info.status, i32::from(opened.is_err()), "turn {turn}: {info:?}");
         if let Err(refusal) = opened {
             assert_eq!(said["refused"]["number"], refusal.number(), "turn {turn}");
-            room.run(&["unpack", "file", "out.png"])
-                .refuses(refusal.number(), "file");
+            room.run(&["unpack", "file", "out.png"]).refuses(refusal.number(), "file");
             assert_eq!(room.list(), ["file"], "turn {turn}");
             continue;
         }
@@ -64,15 +63,9 @@ fn mutated_files_are_shown_or_refused() {
         let ran = room.run(&["unpack", "--wrap", "--more", "--levels", "-o", "out.png", "file"]);
         ran.is_done();
         let check = room.run(&["check", "--json", "file"]);
-        assert!(
-            (0..2).contains(&check.status) && check.err.is_empty(),
-            "turn {turn}: {check:?}"
-        );
+        assert!((0..2).contains(&check.status) && check.err.is_empty(), "turn {turn}: {check:?}");
         for name in room.list().iter().filter(|name| *name != "file") {
-            assert!(
-                name.starts_with("out.") && name.ends_with(".png"),
-                "turn {turn}: {name} is left"
-            );
+            assert!(name.starts_with("out.") && name.ends_with(".png"), "turn {turn}: {name} is left");
             fs::remove_file(room.path(name)).expect("a file");
         }
     }

@@ -23,7 +23,9 @@ echo library >"$1"
 const CARGO: &str = r#"#!/bin/sh
 echo "cargo $1" >>"$KIT/calls"
 case $1 in
-build) [ "$(cat "$YALIVUCU_ARCHIVE")" = library ] && mkdir -p "$CARGO_TARGET_DIR/release" && cp "$PROGRAM" "$CARGO_TARGET_DIR/release/yalivucu" ;;
+build)
+    [ "$(cat "$YALIVUCU_ARCHIVE")" = library ] || exit 1
+    mkdir -p "$CARGO_TARGET_DIR/release" && cp "$PROGRAM" "$CARGO_TARGET_DIR/release/yalivucu" ;;
 fetch) [ -n "${PUBLIC-}" ] || { echo "no registry here" >&2; exit 1; } ;;
 esac
 "#;
@@ -46,24 +48,13 @@ impl Checkout {
     fn new() -> Checkout {
         let room = Room::new();
         let (own, kit) = (room.path("checkout"), room.path("kit"));
-        for folder in [
-            "crates/numbers/src",
-            "bindings/rust/src",
-            "program/src",
-            "program/tests",
-            "include",
-        ] {
+        for folder in ["crates/numbers/src", "bindings/rust/src", "program/src", "program/tests", "include"] {
             fs::create_dir_all(own.join(folder)).expect("a folder");
         }
         fs::create_dir_all(&kit).expect("a folder");
-        for name in [
-            "yalivucu",
-            "program/build",
-            "program/cargo",
-            "program/sources",
-            "bindings/install",
-            "include/yalivucu.h",
-        ] {
+        for name in
+            ["yalivucu", "program/build", "program/cargo", "program/sources", "bindings/install", "include/yalivucu.h"]
+        {
             fs::copy(top().join(name), own.join(name)).expect("a copy");
         }
         for name in [
@@ -80,12 +71,7 @@ impl Checkout {
             fs::write(own.join(name), "nothing\n").expect("a file");
         }
         fs::write(own.join("bindings/archive"), ARCHIVE).expect("a file");
-        for (name, text) in [
-            ("rt", "#!/bin/sh\n"),
-            ("cargo", CARGO),
-            ("dpkg", DPKG),
-            ("apt-get", APT),
-        ] {
+        for (name, text) in [("rt", "#!/bin/sh\n"), ("cargo", CARGO), ("dpkg", DPKG), ("apt-get", APT)] {
             fs::write(kit.join(name), text).expect("a file");
             fs::set_permissions(kit.join(name), fs::Permissions::from_mode(0o755)).expect("a mode");
         }
@@ -121,10 +107,7 @@ impl Checkout {
 
     /// Touches a file, so that its time is another.
     fn touch(&self, name: &str) {
-        let ran = self.room.shell(&format!(
-            "touch -d '2001-01-01 00:00' {}",
-            self.top.join(name).display()
-        ));
+        let ran = self.room.shell(&format!("touch -d '2001-01-01 00:00' {}", self.top.join(name).display()));
         assert_eq!(ran.status, 0);
     }
 }
@@ -134,11 +117,7 @@ fn ran(command: &mut Command) -> Ran {
 }
 
 fn spawned(command: &mut Command) -> Child {
-    command
-        .stdout(Stdio::piped())
-        .stderr(Stdio::piped())
-        .spawn()
-        .expect("it runs")
+    command.stdout(Stdio::piped()).stderr(Stdio::piped()).spawn().expect("it runs")
 }
 
 #[test]
@@ -171,19 +150,9 @@ fn it_is_built_once_and_again_after_a_change() {
 fn of_runs_at_once_one_builds() {
     let checkout = Checkout::new();
     let runs: Vec<Child> = (0..3).map(|_| spawned(checkout.info().env("SLOW", "2"))).collect();
-    let ends: Vec<Ran> = runs
-        .into_iter()
-        .map(|run| Ran::of(run.wait_with_output().expect("it ends")))
-        .collect();
-    assert!(
-        ends.iter().all(|end| end.status == 0 && end.out.contains("ETC1")),
-        "{ends:?}"
-    );
-    assert_eq!(
-        ends.iter().filter(|end| end.err.contains("waiting")).count(),
-        2,
-        "{ends:?}"
-    );
+    let ends: Vec<Ran> = runs.into_iter().map(|run| Ran::of(run.wait_with_output().expect("it ends"))).collect();
+    assert!(ends.iter().all(|end| end.status == 0 && end.out.contains("ETC1")), "{ends:?}");
+    assert_eq!(ends.iter().filter(|end| end.err.contains("waiting")).count(), 2, "{ends:?}");
     assert_eq!(checkout.calls().iter().filter(|call| *call == "archive").count(), 1);
 }
 
@@ -191,22 +160,13 @@ fn of_runs_at_once_one_builds() {
 fn a_build_that_fails_says_why() {
     let checkout = Checkout::new();
     let failed = ran(checkout.info().env("WRONG", "the sums differ"));
-    assert!(
-        failed.status == 64 && failed.err.contains("the sums differ") && failed.out.is_empty(),
-        "{failed:?}"
-    );
+    assert!(failed.status == 64 && failed.err.contains("the sums differ") && failed.out.is_empty(), "{failed:?}");
     fs::remove_file(checkout.kit.join("rt")).expect("a file");
     let path = std::env::var("PATH").expect("a path");
-    let without: Vec<&str> = path
-        .split(':')
-        .filter(|folder| !PathBuf::from(folder).join("rt").exists())
-        .collect();
+    let without: Vec<&str> = path.split(':').filter(|folder| !PathBuf::from(folder).join("rt").exists()).collect();
     let path = format!("{}:{}", checkout.kit.display(), without.join(":"));
     let none = ran(checkout.info().env("PATH", path));
-    assert!(
-        none.status == 64 && none.err.contains("rt is not on the path"),
-        "{none:?}"
-    );
+    assert!(none.status == 64 && none.err.contains("rt is not on the path"), "{none:?}");
     fs::write(checkout.kit.join("rt"), "#!/bin/sh\n").expect("a file");
     fs::set_permissions(checkout.kit.join("rt"), fs::Permissions::from_mode(0o755)).expect("a mode");
     assert_eq!(ran(&mut checkout.info()).status, 0);
@@ -223,22 +183,11 @@ fn a_signal_ends_the_build() {
         }
         let mut waiter = spawned(checkout.info().process_group(0));
         let mut line = String::new();
-        BufReader::new(waiter.stderr.take().expect("it"))
-            .read_line(&mut line)
-            .expect("a line");
+        BufReader::new(waiter.stderr.take().expect("it")).read_line(&mut line).expect("a line");
         assert!(line.contains("waiting"), "{line}");
-        let kill = |who: String| {
-            Command::new("kill")
-                .args(["-s", name, "--", &who])
-                .status()
-                .expect("kill runs")
-        };
+        let kill = |who: String| Command::new("kill").args(["-s", name, "--", &who]).status().expect("kill runs");
         kill(format!("-{}", waiter.id()));
-        assert_eq!(
-            waiter.wait().expect("it ends").signal(),
-            Some(number),
-            "a run that waits"
-        );
+        assert_eq!(waiter.wait().expect("it ends").signal(), Some(number), "a run that waits");
         kill(run.id().to_string());
         assert_eq!(run.wait().expect("it ends").signal(), Some(number), "a run that builds");
     }
@@ -266,23 +215,14 @@ fn a_checkout_that_may_only_be_read() {
         .shell("chmod -R a+rX . && chmod 777 kit && mkdir build home && chmod 777 build home && chmod -R a-w checkout");
     assert_eq!(prepared.status, 0, "{prepared:?}");
     let is_root = checkout.room.shell("id -u").out.trim() == "0";
-    let who = if is_root {
-        "setpriv --reuid=65534 --regid=65534 --clear-groups"
-    } else {
-        ""
-    };
+    let who = if is_root { "setpriv --reuid=65534 --regid=65534 --clear-groups" } else { "" };
     let run = |build: &str| {
         let line = format!("{build} {who} checkout/yalivucu info old.pkm");
         let mut command = checkout.command(PathBuf::from("sh"), &["-c", &line]);
-        ran(command
-            .env("PROGRAM", checkout.room.path("program"))
-            .env("HOME", checkout.room.path("home")))
+        ran(command.env("PROGRAM", checkout.room.path("program")).env("HOME", checkout.room.path("home")))
     };
     let refused = run("");
-    assert!(
-        refused.status == 64 && refused.err.contains("YALIVUCU_BUILD"),
-        "{refused:?}"
-    );
+    assert!(refused.status == 64 && refused.err.contains("YALIVUCU_BUILD"), "{refused:?}");
     let built = run("YALIVUCU_BUILD=$PWD/build");
     assert!(built.status == 0 && built.out.contains("ETC1"), "{built:?}");
     run("YALIVUCU_BUILD=$PWD/build").is_done();
@@ -305,17 +245,9 @@ fn crates_come_from_where_they_can_be_had() {
         let calls = checkout.calls();
         if user == "0" {
             assert_eq!(end.status, 0, "{end:?}");
-            assert!(
-                calls
-                    .iter()
-                    .any(|call| call.starts_with("apt-get install -y librust-clap-dev ")),
-                "{calls:?}"
-            );
+            assert!(calls.iter().any(|call| call.starts_with("apt-get install -y librust-clap-dev ")), "{calls:?}");
         } else {
-            assert!(
-                end.status == 64 && end.err.contains("sudo apt-get install -y librust-clap-dev "),
-                "{end:?}"
-            );
+            assert!(end.status == 64 && end.err.contains("sudo apt-get install -y librust-clap-dev "), "{end:?}");
             assert!(!calls.iter().any(|call| call.starts_with("apt-get")), "{calls:?}");
         }
     }
@@ -346,20 +278,9 @@ fn installed_it_needs_neither_the_checkout_nor_the_kit() {
     assert_eq!(end.status, 0, "{end:?}");
     for name in INSTALLED {
         let path = prefix.join(name);
-        let mode = fs::metadata(&path)
-            .unwrap_or_else(|why| panic!("{name}: {why}"))
-            .permissions()
-            .mode();
-        assert_eq!(
-            mode & 0o777,
-            if name.starts_with("bin") { 0o755 } else { 0o644 },
-            "{name}"
-        );
-        assert_eq!(
-            fs::read(path.with_extension("new")).ok(),
-            Some(b"somebody's".to_vec()),
-            "{name}"
-        );
+        let mode = fs::metadata(&path).unwrap_or_else(|why| panic!("{name}: {why}")).permissions().mode();
+        assert_eq!(mode & 0o777, if name.starts_with("bin") { 0o755 } else { 0o644 }, "{name}");
+        assert_eq!(fs::read(path.with_extension("new")).ok(), Some(b"somebody's".to_vec()), "{name}");
     }
     fs::rename(&prefix, &moved).expect("it moves");
     let png = checkout.room.path("glow.png");
@@ -374,30 +295,15 @@ fn installed_it_needs_neither_the_checkout_nor_the_kit() {
     assert!(end.status == 1 && end.err.contains("another program"), "{end:?}");
     assert!(fs::read_to_string(moved.join("bin/yalivucu")).is_ok_and(|text| text.contains("another's")));
     let end = install("sh checkout/bindings/install --library library");
-    assert!(
-        end.status == 0 && !checkout.room.path("library/bin").exists(),
-        "{end:?}"
-    );
+    assert!(end.status == 0 && !checkout.room.path("library/bin").exists(), "{end:?}");
 }
 
 #[test]
 fn the_first_command_of_the_readme() {
     let readme = fs::read_to_string(top().join("README.md")).expect("README.md");
-    let line = readme
-        .lines()
-        .find(|line| line.starts_with("    ./yalivucu"))
-        .expect("a command");
-    assert!(
-        line.starts_with("    ./yalivucu unpack examples/glow.ktx glow.png"),
-        "{line}"
-    );
-    let ignored = Command::new("git")
-        .args(["check-ignore", "glow.png", "target/program"])
-        .current_dir(top())
-        .output();
+    let line = readme.lines().find(|line| line.starts_with("    ./yalivucu")).expect("a command");
+    assert!(line.starts_with("    ./yalivucu unpack examples/glow.ktx glow.png"), "{line}");
+    let ignored = Command::new("git").args(["check-ignore", "glow.png", "target/program"]).current_dir(top()).output();
     let said = ignored.map(|output| String::from_utf8_lossy(&output.stdout).lines().count());
-    assert!(
-        said.is_err() || said.is_ok_and(|count| count == 2),
-        "what it makes is ignored"
-    );
+    assert!(said.is_err() || said.is_ok_and(|count| count == 2), "what it makes is ignored");
 }

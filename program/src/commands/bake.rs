@@ -16,10 +16,7 @@ const SIZE: usize = 8;
 const SHOWN_FROM: usize = 64;
 
 pub fn run(asked: &Bake) -> Result<Outcome, End> {
-    let rules = Rules {
-        reads: identities([&asked.file]),
-        force: asked.force,
-    };
+    let rules = Rules { reads: identities([&asked.file]), force: asked.force };
     Ok(baked(asked, &rules).or_else(|why| {
         report::refuse(&asked.file, &why);
         Ok::<_, Failure>(Outcome::Refused)
@@ -61,22 +58,7 @@ fn header(picture: &Reference, bytes: usize) -> Vec<u8> {
     const ETC1: u32 = 0x8D64;
     const RGB: u32 = 0x1907;
     let (width, height) = (picture.width as u32, picture.height as u32);
-    let words = [
-        0x0403_0201,
-        0,
-        1,
-        0,
-        ETC1,
-        RGB,
-        width,
-        height,
-        0,
-        0,
-        1,
-        1,
-        0,
-        bytes as u32,
-    ];
+    let words = [0x0403_0201, 0, 1, 0, ETC1, RGB, width, height, 0, 0, 1, 1, 0, bytes as u32];
     let mut header = b"\xABKTX 11\xBB\r\n\x1A\n".to_vec();
     header.extend(words.iter().flat_map(|word| word.to_le_bytes()));
     header
@@ -114,8 +96,5 @@ fn base(tile: &[u32; 16], is_in: impl Fn(usize) -> bool) -> [u8; 3] {
 fn distance(tile: &[u32; 16], shown: &[u32; 16]) -> u32 {
     let channels = |pixel: u32| [pixel >> 16 & 255, pixel >> 8 & 255, pixel & 255];
     let pairs = tile.iter().zip(shown);
-    pairs
-        .flat_map(|(a, b)| channels(*a).into_iter().zip(channels(*b)))
-        .map(|(a, b)| a.abs_diff(b))
-        .sum()
+    pairs.flat_map(|(a, b)| channels(*a).into_iter().zip(channels(*b))).map(|(a, b)| a.abs_diff(b)).sum()
 }

@@ -55,17 +55,9 @@ fn checked(asked: &Check, file: &OsString) -> Result<Outcome, Ended> {
         }
         Err(why) => return Err(why.into()),
     };
-    let lines = if asked.json {
-        vec![as_json(file, &verdicts).to_string()]
-    } else {
-        lines(&shown(file), &verdicts)
-    };
+    let lines = if asked.json { vec![as_json(file, &verdicts).to_string()] } else { lines(&shown(file), &verdicts) };
     report::say(&lines.join("\n")).map_err(Ended::All)?;
-    Ok(if verdicts.may_show() {
-        Outcome::Done
-    } else {
-        Outcome::Refused
-    })
+    Ok(if verdicts.may_show() { Outcome::Done } else { Outcome::Refused })
 }
 
 fn verdicts(asked: &Check, file: &OsString) -> Result<Verdicts, Failure> {

@@ -60,19 +60,10 @@ fn compared(asked: &Compare, reading: &Reading, reference: &Reference) -> Result
     }
     let mut found = Found::default();
     for (block, bytes) in texture.data.chunks_exact(SIZE).enumerate() {
-        found.look(
-            block,
-            bytes,
-            &tile(&texture, reference, block, bytes)?,
-            u32::from(asked.tolerance),
-        )?;
+        found.look(block, bytes, &tile(&texture, reference, block, bytes)?, u32::from(asked.tolerance))?;
     }
     report::say(&line(asked, &texture, &found))?;
-    Ok(if found.outside == 0 {
-        Outcome::Done
-    } else {
-        Outcome::Refused
-    })
+    Ok(if found.outside == 0 { Outcome::Done } else { Outcome::Refused })
 }
 
 /// The pixels of the reference; outside the picture, where nobody sees them, the block's own.
@@ -135,10 +126,7 @@ fn line(asked: &Compare, texture: &Texture, found: &Found) -> String {
     }
     line += &format!("; the largest difference is {}", found.largest);
     if found.newer > 0 {
-        line += &format!(
-            "; {} blocks are of a newer kind, and accepted with no tolerance",
-            found.newer
-        );
+        line += &format!("; {} blocks are of a newer kind, and accepted with no tolerance", found.newer);
     }
     line
 }

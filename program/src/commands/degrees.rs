@@ -16,9 +16,7 @@ const OPAQUE: u32 = 0xff00_0000;
 
 pub fn run(asked: &Degrees) -> Result<Outcome, End> {
     if asked.file == "-" && asked.points.is_empty() {
-        return Err(End::WrongCall(
-            "- is the picture, so the points have to be words".to_owned(),
-        ));
+        return Err(End::WrongCall("- is the picture, so the points have to be words".to_owned()));
     }
     let reading = asked.reading.reading()?;
     Ok(read(asked, &reading).or_else(|why| {
@@ -68,10 +66,7 @@ fn rows(answer: &mut impl FnMut(usize, &str) -> Result<(), Failure>) -> Result<(
 }
 
 fn at_row(why: Failure, row: usize, text: &str) -> Failure {
-    Failure {
-        sentence: format!("row {row} ({}): {}", shown(text), why.sentence),
-        number: why.number,
-    }
+    Failure { sentence: format!("row {row} ({}): {}", shown(text), why.sentence), number: why.number }
 }
 
 /// The row that answers a point.
@@ -84,30 +79,20 @@ fn answered(asked: &Degrees, texture: &Texture, text: &str) -> Result<String, Fa
     let &[x, y, measured] = words.as_slice() else {
         return Err(no_point("a point is x,y,measured.".to_owned()));
     };
-    let place = |word: &str| {
-        word.parse::<usize>()
-            .map_err(|_| no_point(format!("'{}' is no place.", shown(word))))
-    };
+    let place = |word: &str| word.parse::<usize>().map_err(|_| no_point(format!("'{}' is no place.", shown(word))));
     let (x, y) = (place(x)?, place(y)?);
-    let degree = |word: &str| {
-        word.parse::<f32>()
-            .map_err(|_| no_point(format!("'{}' is no number.", shown(word))))
-    };
+    let degree = |word: &str| word.parse::<f32>().map_err(|_| no_point(format!("'{}' is no number.", shown(word))));
     let measured = degree(measured)?;
     if x >= texture.width || y >= texture.height {
         let size = format!("{} x {}", texture.width, texture.height);
-        return Err(no_point(format!(
-            "the picture has {size} pixels, and the point lies outside."
-        )));
+        return Err(no_point(format!("the picture has {size} pixels, and the point lies outside.")));
     }
     let pixel = pixel_at(texture, x, y)?;
     let (legend_digit, picture_digit) = (asked.legend_digit as usize, asked.picture_digit as usize);
-    Ok(
-        match degrees(asked.legend, legend_digit, picture_digit, pixel, measured)? {
-            Some(reading) => format!("{},{},{}", reading.predicted, reading.measured, reading.difference),
-            None => format!(",{measured},"),
-        },
-    )
+    Ok(match degrees(asked.legend, legend_digit, picture_digit, pixel, measured)? {
+        Some(reading) => format!("{},{},{}", reading.predicted, reading.measured, reading.difference),
+        None => format!(",{measured},"),
+    })
 }
 
 /// A pixel, of whose picture one block is read.

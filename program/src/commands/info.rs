@@ -94,14 +94,8 @@ fn counts(level: &typed::Level) -> Result<Option<Counts>, Failure> {
             let named = |names: [&'static str; 4], of: KindCounts| {
                 names.into_iter().zip([of.differential, of.t, of.h, of.planar])
             };
-            let opaque = named(
-                ["opaque differential", "opaque T", "opaque H", "opaque planar"],
-                found.opaque,
-            );
-            let clear = named(
-                ["clear differential", "clear T", "clear H", "clear planar"],
-                found.clear,
-            );
+            let opaque = named(["opaque differential", "opaque T", "opaque H", "opaque planar"], found.opaque);
+            let clear = named(["clear differential", "clear T", "clear H", "clear planar"], found.clear);
             Some(opaque.chain(clear).collect())
         }
         _ => None,
@@ -129,11 +123,7 @@ fn lines(name: &str, facts: &Facts, census: bool) -> Vec<String> {
         largest.bytes / size,
         if count == 1 { "level" } else { "levels" },
         if facts.is_srgb { "sRGB" } else { "linear" },
-        if facts.is_big_endian {
-            "big endian"
-        } else {
-            "little endian"
-        },
+        if facts.is_big_endian { "big endian" } else { "little endian" },
         orientation(facts),
     );
     if facts.left_over > 0 {
@@ -142,17 +132,10 @@ fn lines(name: &str, facts: &Facts, census: bool) -> Vec<String> {
     let mut lines = vec![first];
     for (n, level) in facts.levels.iter().enumerate().filter(|_| census) {
         let counts = match &level.counts {
-            Some(counts) => counts
-                .iter()
-                .map(|(kind, count)| format!("{count} {kind}"))
-                .collect::<Vec<_>>()
-                .join(", "),
+            Some(counts) => counts.iter().map(|(kind, count)| format!("{count} {kind}")).collect::<Vec<_>>().join(", "),
             None => "this format has no census".to_owned(),
         };
-        lines.push(format!(
-            "{name}: level {n} of {count}, {} x {}: {counts}",
-            level.width, level.height
-        ));
+        lines.push(format!("{name}: level {n} of {count}, {} x {}: {counts}", level.width, level.height));
     }
     lines
 }

@@ -15,10 +15,7 @@ const HEADS: usize = 64;
 
 pub fn run(asked: &Sheet) -> Result<Outcome, End> {
     let reading = asked.reading.reading()?;
-    let rules = Rules {
-        reads: identities([&asked.file]),
-        force: asked.force,
-    };
+    let rules = Rules { reads: identities([&asked.file]), force: asked.force };
     Ok(written(asked, &reading, &rules).or_else(|why| {
         report::refuse(&asked.file, &why);
         Ok::<_, Failure>(Outcome::Refused)

@@ -39,10 +39,7 @@ struct Plan<'a> {
 
 pub fn run(asked: &Unpack) -> Result<Outcome, End> {
     let jobs = jobs(asked)?;
-    let rules = Rules {
-        reads: identities(jobs.iter().map(|job| &job.file)),
-        force: asked.force,
-    };
+    let rules = Rules { reads: identities(jobs.iter().map(|job| &job.file)), force: asked.force };
     let at_once = threads(asked.threads).min(jobs.len());
     let plan = Plan {
         asked,
@@ -76,9 +73,7 @@ fn jobs(asked: &Unpack) -> Result<Vec<Job>, End> {
     }
     if let Some(out) = out {
         if files.len() > 1 {
-            return Err(End::WrongCall(
-                "-o OUT is for one FILE; --into FOLDER takes several".to_owned(),
-            ));
+            return Err(End::WrongCall("-o OUT is for one FILE; --into FOLDER takes several".to_owned()));
         }
         if asked.levels && out == Path::new("-") {
             return Err(End::WrongCall("--levels writes several files, and - is one".to_owned()));
@@ -104,11 +99,7 @@ fn named(files: Vec<OsString>, folder: &Path) -> Vec<Job> {
     let mut job = |file: OsString| {
         let mut name = Path::new(&file).file_name().unwrap_or_default().to_owned();
         name.push(".png");
-        let path = if folder == Path::new(".") {
-            PathBuf::from(&name)
-        } else {
-            folder.join(&name)
-        };
+        let path = if folder == Path::new(".") { PathBuf::from(&name) } else { folder.join(&name) };
         let out = if taken.insert(name) {
             Ok(path)
         } else {
@@ -130,16 +121,9 @@ impl Plan<'_> {
     fn unpacked(&self, job: &Job) -> Result<Ready, Failure> {
         let out = job.out.as_ref().map_err(Failure::clone)?;
         let input = input::read(&job.file, self.reading.wanted())?;
-        let levels = if self.asked.levels {
-            Levels::All
-        } else {
-            self.asked.reading.levels()
-        };
+        let levels = if self.asked.levels { Levels::All } else { self.asked.reading.levels() };
         let textures = self.reading.accepted(&input, levels)?;
-        let mut ready = Ready {
-            pending: Vec::new(),
-            line: None,
-        };
+        let mut ready = Ready { pending: Vec::new(), line: None };
         if out == Path::new("-") {
             let texture = textures[0];
             self.written(&texture, out, standard_output()?, Failure::standard_output)?;
@@ -149,11 +133,7 @@ impl Plan<'_> {
             return Ok(ready);
         }
         for texture in &textures {
-            let name = if self.asked.levels {
-                with_level(out, texture.level)
-            } else {
-                out.clone()
-            };
+            let name = if self.asked.levels { with_level(out, texture.level) } else { out.clone() };
             let (pending, file) = Pending::begin(&name, &self.rules)?;
             self.written(texture, &name, file, |why| pending.cannot(why))?;
             ready.pending.push(pending);
@@ -177,12 +157,7 @@ impl Plan<'_> {
             let sample = if is_eight { Sample::Byte } else { Sample::Number };
             Strips::new(*texture, sample, texture.kind.channels.count(), is_turned)
         } else {
-            Strips::new(
-                *texture,
-                self.sample(texture)?,
-                png_file::channels(texture.kind),
-                is_turned,
-            )
+            Strips::new(*texture, self.sample(texture)?, png_file::channels(texture.kind), is_turned)
         };
         let count = if self.counts_files { 0 } else { strips.count() };
         let progress = Progress::new(count, SHOWN_FROM, "strips");
@@ -215,13 +190,7 @@ impl Plan<'_> {
 
     fn line(&self, job: &Job, out: &Path, textures: &[Texture]) -> String {
         let texture = &textures[0];
-        let mut line = format!(
-            "{}: {}, {} x {}",
-            shown(&job.file),
-            texture.kind.title,
-            texture.width,
-            texture.height
-        );
+        let mut line = format!("{}: {}, {} x {}", shown(&job.file), texture.kind.title, texture.width, texture.height);
         if self.asked.levels {
             line += &format!(", {} levels from {} on", textures.len(), shown(with_level(out, 0)));
         } else {

@@ -49,9 +49,8 @@ impl Room {
     /// The names in it.
     pub fn list(&self) -> Vec<String> {
         let names = fs::read_dir(self.here()).expect("the folder");
-        let mut names: Vec<String> = names
-            .map(|entry| entry.expect("an entry").file_name().to_string_lossy().into_owned())
-            .collect();
+        let mut names: Vec<String> =
+            names.map(|entry| entry.expect("an entry").file_name().to_string_lossy().into_owned()).collect();
         names.sort();
         names
     }
@@ -88,11 +87,7 @@ impl Room {
     /// A line of shell in this folder; $Y is the program.
     pub fn shell(&self, line: &str) -> Ran {
         let mut command = Command::new("sh");
-        command
-            .args(["-c", line])
-            .current_dir(self.here())
-            .env("Y", PROGRAM)
-            .stdin(Stdio::null());
+        command.args(["-c", line]).current_dir(self.here()).env("Y", PROGRAM).stdin(Stdio::null());
         Ran::of(command.output().expect("sh runs"))
     }
 }
@@ -123,10 +118,7 @@ impl Ran {
     pub fn refuses(&self, number: u32, name: &str) {
         assert_eq!(self.status, 1, "{self:?}");
         let sentence = format!("Refusal {number}:");
-        assert!(
-            self.err.contains(&sentence) && self.err.contains(name),
-            "{number} {name}: {self:?}"
-        );
+        assert!(self.err.contains(&sentence) && self.err.contains(name), "{number} {name}: {self:?}");
         assert!(self.err.trim_end().ends_with('.'), "{self:?}");
     }
 
@@ -147,10 +139,7 @@ pub struct Dice(pub u64);
 
 impl Dice {
     pub fn next(&mut self) -> u64 {
-        self.0 = self
-            .0
-            .wrapping_mul(6364136223846793005)
-            .wrapping_add(1442695040888963407);
+        self.0 = self.0.wrapping_mul(6364136223846793005).wrapping_add(1442695040888963407);
         self.0 >> 33
     }
 
@@ -173,9 +162,7 @@ pub fn blocks(format: Format, width: usize, height: usize, seed: u64) -> Vec<u8>
 /// The blocks of each level, the largest first.
 pub fn pyramid(format: Format, width: usize, height: usize, levels: usize, seed: u64) -> Vec<Vec<u8>> {
     let side = |side: usize, level: usize| (side >> level).max(1);
-    (0..levels)
-        .map(|k| blocks(format, side(width, k), side(height, k), seed + k as u64))
-        .collect()
+    (0..levels).map(|k| blocks(format, side(width, k), side(height, k), seed + k as u64)).collect()
 }
 
 fn word(big: bool, number: u32) -> [u8; 4] {
@@ -200,21 +187,7 @@ pub fn entry(big: bool, text: &[u8]) -> Vec<u8> {
 /// A KTX 1 file.
 pub fn ktx1(gl: u32, size: (usize, usize), levels: &[Vec<u8>], big: bool, keys: &[u8]) -> Vec<u8> {
     let (width, height) = (size.0 as u32, size.1 as u32);
-    let header = [
-        0x04030201,
-        0,
-        1,
-        0,
-        gl,
-        0x1908,
-        width,
-        height,
-        0,
-        0,
-        1,
-        levels.len() as u32,
-        keys.len() as u32,
-    ];
+    let header = [0x04030201, 0, 1, 0, gl, 0x1908, width, height, 0, 0, 1, levels.len() as u32, keys.len() as u32];
     let mut file = KTX1.to_vec();
     file.extend(header.iter().flat_map(|number| word(big, *number)));
     file.extend(keys);
@@ -233,25 +206,7 @@ pub fn single(format: Format, size: (usize, usize), blocks: &[u8]) -> Vec<u8> {
 /// A KTX 2 file: the smallest level first.
 pub fn ktx2(vk: u32, size: (usize, usize), levels: &[Vec<u8>]) -> Vec<u8> {
     let (width, height) = (size.0 as u32, size.1 as u32);
-    let header = [
-        vk,
-        1,
-        width,
-        height,
-        0,
-        0,
-        1,
-        levels.len() as u32,
-        0,
-        0,
-        0,
-        0,
-        0,
-        0,
-        0,
-        0,
-        0,
-    ];
+    let header = [vk, 1, width, height, 0, 0, 1, levels.len() as u32, 0, 0, 0, 0, 0, 0, 0, 0, 0];
     let mut file = KTX2.to_vec();
     file.extend(header.iter().flat_map(|number| number.to_le_bytes()));
     let mut at = 80 + 24 * levels.len();
