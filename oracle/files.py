@@ -8,16 +8,16 @@ else, be it a part of one, is refused with 21. Where several things are wrong wi
 
     20  the header is not whole (of KTX 2 the 80 bytes; of DDS with FourCC DX10 all 148)
     22  PKM's version, KTX 1's byte order
-    41  supercompressed (KTX 2)
-    23  the format
     25  a volume, an array or a cube
+    23  the format
+    41  supercompressed (KTX 2)
     26  no pixel
     1   a side above 65,536
     24  PKM's padded sizes; more levels than halving the larger side down to 1 gives
-    20  KTX 2's level index is not whole
-    24, 37  level by level from the largest: a length that is not its blocks' (24), then bytes that are not there (37)
+    37, 24  level by level from the largest: a field of its place or length that is not there (37), a length that is not its blocks' (24),
+        bytes of it that are not there (37)
 
-A sheet is walked as oracle/sheets walks it, and refused with its own numbers.
+A sheet is walked as oracle/sheets walks it, and refused with its own numbers. The order is a convention, and the library's own.
 """
 import struct
 from collections import namedtuple
@@ -157,8 +157,8 @@ def ktx1(data):
     need(order, 22)
     words = struct.unpack_from(order + "12I", data, 16)
     internal, width, height, depth, elements, faces, levels, pairs = words[3:4] + words[5:12]
-    form, srgb = known(GL, internal)
     need(depth <= 1 and elements <= 1 and faces <= 1, 25)
+    form, srgb = known(GL, internal)
     sized(width, height)
     found, at = [], 64 + pairs
     for n in range(counted(levels, width, height)):
@@ -225,14 +225,14 @@ VK = {
 def ktx2(data):
     need(len(data) >= 80, 20)
     number, _, width, height, depth, layers, faces, levels, scheme, _, _, pairs, pairs_size = struct.unpack_from("<13I", data, 12)
-    need(scheme == 0, 41)
-    form, srgb = known(VK, number)
     need(depth <= 1 and layers <= 1 and faces <= 1, 25)
+    form, srgb = known(VK, number)
+    need(scheme == 0, 41)
     sized(width, height)
     levels = counted(levels, width, height)
-    need(80 + 24 * levels <= len(data), 20)
     found = []
     for n in range(levels):
+        need(104 + 24 * n <= len(data), 37)
         start, length = struct.unpack_from("<2Q", data, 80 + 24 * n)
         level = Level(halved(width, n), halved(height, n), start, blocks(form, halved(width, n), halved(height, n)))
         need(length == level.length, 24)
@@ -282,17 +282,14 @@ def dds(data):
     height, width, _, _, levels = struct.unpack_from("<5I", data, 12)
     flags, fourcc = struct.unpack_from("<I4s", data, 80)
     caps2 = struct.unpack_from("<I", data, 112)[0]
-    need(flags & HAS_FOURCC, 23)
-    at, flat = 128, not caps2 & (CUBE | VOLUME)
-    if fourcc == b"DX10":
-        at = 148
+    table, number, at, flat = FOURCC, fourcc if flags & HAS_FOURCC else None, 128, True
+    if number == b"DX10":
+        table, at = DXGI, 148
         need(len(data) >= at, 20)
-        number, dimension, misc, array, _ = struct.unpack_from("<5I", data, 128)
-        form, srgb = known(DXGI, number)
-        flat = flat and dimension in (0, 3) and not misc & DX10_CUBE and array <= 1
-    else:
-        form, srgb = known(FOURCC, fourcc)
-    need(flat, 25)
+        number, dimension, misc, array = struct.unpack_from("<4I", data, 128)
+        flat = dimension in (0, 3) and not misc & DX10_CUBE and array <= 1
+    need(flat and not caps2 & (CUBE | VOLUME), 25)
+    form, srgb = known(table, number)
     sized(width, height)
     found = []
     for n in range(counted(levels, width, height)):

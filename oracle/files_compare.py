@@ -14,9 +14,9 @@ It asks for Debian's own Python, since python3-pil is installed for that one and
 import argparse
 import array
 import collections
-import io
 import pathlib
 import random
+import shutil
 import struct
 import subprocess
 import sys
@@ -151,23 +151,29 @@ class Report:
 # Files of the kinds that no program here writes, made of the levels of those that one does.
 
 
+def pair_of(order, value):
+    """Key and value data that tell the orientation."""
+    pair = b"KTXorientation\0" + value + b"\0"
+    return struct.pack(order + "I", len(pair)) + pair + bytes(-len(pair) % 4)
+
+
 def other_order(data):
-    """The big-endian twin of a little-endian KTX 1 file without key and value data."""
-    levels = files.open_file(data)[1]
+    """The big-endian twin of a little-endian KTX 1 file without key and value data, with a pair that tells the orientation."""
+    pairs = pair_of(">", b"S=r,T=u")
     twin = bytearray(data)
-    for at in list(range(12, 64, 4)) + [level.start - 4 for level in levels]:
-        twin[at : at + 4] = data[at : at + 4][::-1]
-    return bytes(twin)
+    twin[60:64] = struct.pack("<I", len(pairs))
+    for at in list(range(12, 64, 4)) + [level.start - 4 for level in files.open_file(data)[1]]:
+        twin[at : at + 4] = twin[at : at + 4][::-1]
+    return bytes(twin[:64]) + pairs + bytes(twin[64:])
 
 
 def as_ktx2(data):
-    """The same levels as a KTX 2 file: the smallest first, and a value that tells the orientation."""
+    """The same levels as a KTX 2 file: the smallest first, and a pair that tells the orientation."""
     facts, levels = files.open_file(data)
     number = next((n for n, told in files.VK.items() if told == (facts.format, facts.srgb)), None)
     if number is None:  # ETC1 has none
         return None
-    pair = b"KTXorientation\0rd\0"
-    pairs = struct.pack("<I", len(pair)) + pair + bytes(-len(pair) % 4)
+    pairs = pair_of("<", b"rd")
     at = 80 + 24 * len(levels) + len(pairs)
     index, body = [], b""
     for level in reversed(levels):
@@ -222,13 +228,13 @@ def one_byte_changes(data, chance):
             yield data[:at] + bytes([value]) + data[at + 1 :]
 
 
-# Where the numbers of each kind's header stand, and how wide they are.
+# Where the numbers of each kind's header stand, of a sheet from the end too, and how wide they are.
 FIELDS = {
     b"PKM ": [(4, 2), (6, 2), (8, 2), (10, 2), (12, 2), (14, 2)],
     b"\xabKTX 11": [(at, 4) for at in range(12, 68, 4)],
     b"\xabKTX 20": [(at, 4) for at in range(12, 64, 4)] + [(at, 8) for at in range(64, 128, 8)],
     b"DDS ": [(at, 4) for at in range(4, 148, 4)],
-    b"\x09\0\0\0": [(0, 4), (4, 2), (6, 1), (7, 4), (11, 4), (15, 4), (19, 2)],
+    b"\x09\0\0\0": [(6, 1), (7, 4), (11, 4), (15, 4), (19, 2), (-9, 4), (-5, 2)],
 }
 NUMBERS = [0, 1, 2, 3, 4, 5, 6, 7, 8, 9, 12, 13, 16, 17, 21, 22, 64, 255, 256, 512, 16384, 16385, 65535, 65536, 65537, 2**21, 2**31 - 1]
 NUMBERS += [2**31, 2**32 - 4, 2**32 - 1, 2**32, 2**63, 2**64 - 16, 2**64 - 8, 2**64 - 1, 0x01020304, 0x04030201, 0x3130, 0x3230]
@@ -240,9 +246,11 @@ def random_changes(data, count, chance):
     fields = next(fields for start, fields in FIELDS.items() if data.startswith(start))
     for _ in range(count):
         changed = bytearray(data)
-        for at, size in chance.sample(fields, min(len(fields), chance.randint(2, 4))):
-            number = chance.choice(NUMBERS) if chance.random() < 0.8 else chance.getrandbits(8 * size)
-            changed[at : at + size] = (number % 256**size).to_bytes(size, chance.choice(["little", "big"]))
+        for at, size in chance.sample(fields, chance.randint(2, 4)):
+            at, order = at % len(data), chance.choice(["little", "big"])
+            near = int.from_bytes(data[at : at + size], order) + chance.randint(-4, 4)
+            number = chance.choice([near, near, chance.choice(NUMBERS), chance.choice(NUMBERS), chance.getrandbits(8 * size)])
+            changed[at : at + size] = (number % 256**size).to_bytes(size, order)
         length = chance.randint(0, len(data)) if chance.random() < 0.1 else len(data)
         yield bytes(changed[:length])
 
@@ -256,17 +264,20 @@ def damaged(small, count, seed):
         yield name + ", fields changed by chance", list(random_changes(data, count, chance))
 
 
-def shortest(found, start, also=b""):
-    """The shortest accepted file of more than one block that begins so, and its name."""
-    fits = [(len(data), name) for name, data in found.items() if data.startswith(start) and also in data[:148] and is_accepted(data)]
-    name = min(pair for pair in fits if pair[0] > 160 or start in (b"PKM ", b"\x09\0\0\0") and pair[0] > 40)[1]
-    return name, found[name]
+def shortest(found, start, also, levels):
+    """The shortest accepted file of two blocks across or more, and so many levels, that begins so; and its name."""
+    fits = []
+    for name, data in found.items():
+        if data.startswith(start) and also in data[:148] and is_accepted(data):
+            facts = files.open_file(data)[0]
+            fits += [(len(data), name)] if facts.width > 4 and facts.levels >= levels else []
+    return min(fits)[1], found[min(fits)[1]]
 
 
 def small_files(found):
     """One small file of each kind."""
-    kinds = ((b"PKM ", b""), (b"\xabKTX 11", b"\1\2\3\4"), (b"\xabKTX 11", b"\4\3\2\1"), (b"\xabKTX 20", b""), (b"DDS ", b"DXT"))
-    kinds += ((b"DDS ", b"DX10"), (b"\x09\0\0\0", b""))
+    kinds = [(b"PKM ", b"", 1), (b"\xabKTX 11", b"\1\2\3\4", 3), (b"\xabKTX 11", b"\4\3\2\1", 3), (b"\xabKTX 20", b"", 3)]
+    kinds += [(b"DDS ", b"DXT", 3), (b"DDS ", b"DX10", 1), (b"\x09\0\0\0", b"", 1)]
     return dict(shortest(found, *kind) for kind in kinds)
 
 
@@ -288,6 +299,14 @@ def pillow(path):
 def imagemagick(path):
     done = subprocess.run(["convert-im6", "DDS:%s[0]" % path, "-depth", "8", "BGRA:-"], capture_output=True, check=False)
     return done.stdout if done.returncode == 0 else None
+
+
+def nvdecompress(path):
+    """What the decoder beside nvcompress shows: it writes a picture where it is run."""
+    with tempfile.TemporaryDirectory() as folder:
+        shutil.copy(path, pathlib.Path(folder) / "in.dds")
+        subprocess.run(["nvdecompress", "in.dds"], cwd=folder, capture_output=True, check=True)
+        return pillow(pathlib.Path(folder) / "in.tga")
 
 
 def published(path, form):
@@ -314,6 +333,8 @@ def compare_whole(path, facts, shown, report):
     own = path.with_name(path.name + ".png")
     if own.exists():
         report.count("pictures as etc1tool shows them", pillow(own) == shown[0], path)
+    if path.parent.name == "nvcompress":
+        report.count("pictures as nvdecompress shows them", nvdecompress(path) == shown[0], path)
     if path.suffix == ".dds":
         for reader, name in ((pillow, "Pillow"), (imagemagick, "ImageMagick")):
             seen = reader(path)
@@ -376,4 +397,5 @@ def main():
     sys.exit(report.differences != 0)
 
 
-main()
+if __name__ == "__main__":
+    main()
