@@ -483,31 +483,6 @@ static void pieces(void)
     }
 }
 
-/* The checks answer as their readers do, and need no image. */
-static void checks(void)
-{
-    uint8_t bad[16] = {0};
-    uint64_t block = 77;
-    memcpy(bad + 8, TWO, 8);
-    same("check strict, too large", yalivucu_check_strict(bad, 16, 65537, 4, &block), YALIVUCU_TOO_LARGE);
-    same("check strict, short", yalivucu_check_strict(bad, 15, 8, 4, &block), YALIVUCU_SHORT_DATA);
-    same("check strict, long", yalivucu_check_strict(bad, 16, 4, 4, &block), YALIVUCU_LONG_DATA);
-    same("check strict, no data", yalivucu_check_strict(NULL, 0, 0, 4, &block), YALIVUCU_DONE);
-    same("check strict, accepted", yalivucu_check_strict(bad, 8, 4, 4, &block), YALIVUCU_DONE);
-    same("check strict, block kept", (uint32_t)block, 77);
-    same("check strict, refused", yalivucu_check_strict(bad, 16, 8, 4, &block), YALIVUCU_OUT_OF_RANGE);
-    same("check strict, block", (uint32_t)block, 1);
-    uint8_t clear_bit[16] = {0xf8, 0, 0, 2};
-    block = 77;
-    same("check opaque, too large", yalivucu_check_opaque(clear_bit, 16, 4, 65537, &block), YALIVUCU_TOO_LARGE);
-    same("check opaque, short", yalivucu_check_opaque(clear_bit, 15, 5, 1, &block), YALIVUCU_SHORT_DATA);
-    same("check opaque, no data", yalivucu_check_opaque(NULL, 0, 0, 0, &block), YALIVUCU_DONE);
-    same("check opaque, more bytes", yalivucu_check_opaque(clear_bit, 16, 4, 4, &block), YALIVUCU_DONE);
-    same("check opaque, block kept", (uint32_t)block, 77);
-    same("check opaque, refused", yalivucu_check_opaque(clear_bit, 16, 5, 1, &block), YALIVUCU_NOT_OPAQUE);
-    same("check opaque, block", (uint32_t)block, 1);
-}
-
 /* A number of four bytes, the lowest first. */
 static void put4(uint8_t *at, uint32_t number)
 {
@@ -685,7 +660,6 @@ int main(void)
     baking();
     sheets();
     pieces();
-    checks();
     pkm();
     ktx1();
     ktx2();

@@ -7,7 +7,6 @@ pub type Guarded = unsafe extern "C" fn(*const u8, usize, usize, usize, usize, *
 pub type Start = unsafe extern "C" fn(usize, usize, usize, *const u32, usize, *mut [usize; 5], *mut [u8; 15]) -> u32;
 pub type Block = unsafe extern "C" fn(*const u8, usize, *mut u32, usize) -> u32;
 pub type Channel = unsafe extern "C" fn(*const u8, usize, usize, *mut u32, usize) -> u32;
-pub type Check = unsafe extern "C" fn(*const u8, usize, usize, usize, *mut u64) -> u32;
 
 /// `struct yalivucu_file`.
 #[repr(C)]
@@ -62,11 +61,6 @@ macro_rules! declared_start {
 macro_rules! declared_census {
     ($($name:ident)*) => {$(
         pub fn $name(data: *const u8, data_len: usize, width: usize, height: usize, counts: *mut usize, counts_len: usize) -> u32;
-    )*};
-}
-macro_rules! declared_check {
-    ($($name:ident)*) => {$(
-        pub fn $name(data: *const u8, data_len: usize, width: usize, height: usize, block: *mut u64) -> u32;
     )*};
 }
 
@@ -128,10 +122,6 @@ extern "C" {
     declared_census! {
         yalivucu_census_etc2_rgb
         yalivucu_census_etc2_rgba1
-    }
-    declared_check! {
-        yalivucu_check_strict
-        yalivucu_check_opaque
     }
     pub fn yalivucu_decode_etc1_strict_pitched(
         data: *const u8,
