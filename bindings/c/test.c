@@ -574,7 +574,7 @@ static void ktx1(void)
     opened("KTX 1, length", file, sizeof file, YALIVUCU_SIZES_DISAGREE, NOTHING);
     put4(file + 52, 6);
     opened("KTX 1, cube", file, sizeof file, YALIVUCU_NOT_FLAT, NOTHING);
-    put4(file + 28, 0x93B0);
+    put4(file + 52, 1), put4(file + 28, 0x93B0);
     opened("KTX 1, format", file, sizeof file, YALIVUCU_NO_FORMAT, NOTHING);
 }
 
