@@ -129,23 +129,23 @@ class Second:
 
 
 class Report:
-    """Counts, and the first differences in full."""
+    """Counts, how many of each differ, and the first of those in full."""
 
     def __init__(self):
-        self.counts = collections.Counter()
-        self.differences = 0
+        self.counts, self.differing = collections.Counter(), collections.Counter()
 
     def count(self, what, same, name, *facts):
         self.counts[what] += 1
         if same:
             return
-        self.differences += 1
-        if self.differences <= 20:
-            print("%s differs: %s" % (what, name), *facts, sep="\n    ")
+        self.differing[what] += 1
+        if self.differing[what] <= 3:
+            print("%s differ: %s" % (what, name), *facts, sep="\n    ")
 
     def show(self):
         for what, count in self.counts.items():
-            print("%8d %s" % (count, what))
+            print("%8d %s%s" % (count, what, ", %d differ" % self.differing[what] if self.differing[what] else ""))
+        print("%d compared, %d differences" % (sum(self.counts.values()), sum(self.differing.values())))
 
 
 # Files of the kinds that no program here writes, made of the levels of those that one does.
@@ -369,10 +369,11 @@ def compare_answers(what, datas, names, library, report):
         report.count(what, got == told(data), name, "library %s" % got, "texts   %s" % told(data), data[:160].hex())
 
 
-def collect(room):
+def collect(room, groups):
     """The files by their names, and their places."""
     folder = room / "files"
-    paths = {str(path.relative_to(folder)): path for path in sorted(folder.rglob("*")) if path.suffix in ENDINGS}
+    every = (path for group in groups for path in sorted((folder / group).rglob("*")))
+    paths = {str(path.relative_to(folder)): path for path in every if path.suffix in ENDINGS}
     return {name: path.read_bytes() for name, path in paths.items()}, paths
 
 
@@ -381,9 +382,10 @@ def main():
     options.add_argument("--room", type=pathlib.Path, required=True)
     options.add_argument("--seed", type=int, default=1)
     options.add_argument("--random", type=int, default=20000)
+    options.add_argument("groups", nargs="+", help="folders of ROOM/files")
     chosen = options.parse_args()
     library, report = Library(chosen.room / "files-opened"), Report()
-    found, paths = collect(chosen.room)
+    found, paths = collect(chosen.room, chosen.groups)
     kinds = collections.Counter("%s, %s" % (name.split("/")[1], told(data).split(" ")[0]) for name, data in found.items())
     for kind, count in sorted(kinds.items()):
         print("%8d files of %s" % (count, kind))
@@ -393,8 +395,7 @@ def main():
         compare_answers(what, datas, ["%s %d" % (what, n) for n in range(len(datas))], library, report)
     compare_pixels(found, paths, library, chosen.room, report)
     report.show()
-    print("%d compared, %d differences" % (sum(report.counts.values()), report.differences))
-    sys.exit(report.differences != 0)
+    sys.exit(bool(report.differing))
 
 
 if __name__ == "__main__":
