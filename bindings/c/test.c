@@ -206,6 +206,28 @@ static void nothing(void)
     untouched("nothing", 0);
 }
 
+/* Without an image: a block of red, one out of range, and one of zeros, whose opaque bit is clear. */
+static void checks(void)
+{
+    uint8_t data[24] = {0xf8, 0, 0, 0x02};
+    size_t block = 77;
+    memcpy(data + 8, TWO, 8);
+    same("check strict, too large", yalivucu_check_strict(data, 24, 65537, 1, &block), YALIVUCU_TOO_LARGE);
+    same("check strict, short", yalivucu_check_strict(data, 23, 9, 1, &block), YALIVUCU_SHORT_DATA);
+    same("check strict, left over", yalivucu_check_strict(data, 9, 4, 1, &block), YALIVUCU_LONG_DATA);
+    same("check strict, accepted", yalivucu_check_strict(data, 8, 4, 1, &block), YALIVUCU_DONE);
+    same("check strict, nothing", yalivucu_check_strict(NULL, 0, 65536, 0, &block), YALIVUCU_DONE);
+    same("check opaque, too large", yalivucu_check_opaque(data, 24, 1, 65537, &block), YALIVUCU_TOO_LARGE);
+    same("check opaque, short", yalivucu_check_opaque(data, 23, 9, 1, &block), YALIVUCU_SHORT_DATA);
+    same("check opaque, accepted", yalivucu_check_opaque(data, 24, 8, 1, &block), YALIVUCU_DONE);
+    same("check opaque, nothing", yalivucu_check_opaque(NULL, 0, 0, 0, &block), YALIVUCU_DONE);
+    same("checks, block kept", (uint32_t)block, 77);
+    same("check strict, refused", yalivucu_check_strict(data, 24, 9, 1, &block), YALIVUCU_OUT_OF_RANGE);
+    same("check strict, block", (uint32_t)block, 1);
+    same("check opaque, refused", yalivucu_check_opaque(data, 24, 9, 1, &block), YALIVUCU_NOT_OPAQUE);
+    same("check opaque, block", (uint32_t)block, 2);
+}
+
 static void strict(void)
 {
     uint8_t data[16];
@@ -483,31 +505,6 @@ static void pieces(void)
     }
 }
 
-/* The checks answer as their readers do, and need no image. */
-static void checks(void)
-{
-    uint8_t bad[16] = {0};
-    uint64_t block = 77;
-    memcpy(bad + 8, TWO, 8);
-    same("check strict, too large", yalivucu_check_strict(bad, 16, 65537, 4, &block), YALIVUCU_TOO_LARGE);
-    same("check strict, short", yalivucu_check_strict(bad, 15, 8, 4, &block), YALIVUCU_SHORT_DATA);
-    same("check strict, long", yalivucu_check_strict(bad, 16, 4, 4, &block), YALIVUCU_LONG_DATA);
-    same("check strict, no data", yalivucu_check_strict(NULL, 0, 0, 4, &block), YALIVUCU_DONE);
-    same("check strict, accepted", yalivucu_check_strict(bad, 8, 4, 4, &block), YALIVUCU_DONE);
-    same("check strict, block kept", (uint32_t)block, 77);
-    same("check strict, refused", yalivucu_check_strict(bad, 16, 8, 4, &block), YALIVUCU_OUT_OF_RANGE);
-    same("check strict, block", (uint32_t)block, 1);
-    uint8_t clear_bit[16] = {0xf8, 0, 0, 2};
-    block = 77;
-    same("check opaque, too large", yalivucu_check_opaque(clear_bit, 16, 4, 65537, &block), YALIVUCU_TOO_LARGE);
-    same("check opaque, short", yalivucu_check_opaque(clear_bit, 15, 5, 1, &block), YALIVUCU_SHORT_DATA);
-    same("check opaque, no data", yalivucu_check_opaque(NULL, 0, 0, 0, &block), YALIVUCU_DONE);
-    same("check opaque, more bytes", yalivucu_check_opaque(clear_bit, 16, 4, 4, &block), YALIVUCU_DONE);
-    same("check opaque, block kept", (uint32_t)block, 77);
-    same("check opaque, refused", yalivucu_check_opaque(clear_bit, 16, 5, 1, &block), YALIVUCU_NOT_OPAQUE);
-    same("check opaque, block", (uint32_t)block, 1);
-}
-
 /* A number of four bytes, the lowest first. */
 static void put4(uint8_t *at, uint32_t number)
 {
@@ -577,7 +574,7 @@ static void ktx1(void)
     opened("KTX 1, length", file, sizeof file, YALIVUCU_SIZES_DISAGREE, NOTHING);
     put4(file + 52, 6);
     opened("KTX 1, cube", file, sizeof file, YALIVUCU_NOT_FLAT, NOTHING);
-    put4(file + 28, 0x93B0);
+    put4(file + 52, 1), put4(file + 28, 0x93B0);
     opened("KTX 1, format", file, sizeof file, YALIVUCU_NO_FORMAT, NOTHING);
 }
 
@@ -677,6 +674,7 @@ int main(void)
     strict();
     strict_pitched();
     opaque();
+    checks();
     blocks();
     channels();
     desktop();
@@ -685,7 +683,6 @@ int main(void)
     baking();
     sheets();
     pieces();
-    checks();
     pkm();
     ktx1();
     ktx2();

@@ -7,6 +7,6 @@ fn main() -> Result<(), Box<dyn std::error::Error>> {
     let level = file.level(0)?;
     let mut image = vec![0; level.width() * level.height()];
     level.read(&mut image)?;
-    println!("{}, {:?}: the first pixel is {:x?}", file.container(), file.format(), image.first());
+    println!("{}, {:?}: {:x?}", file.container(), file.format(), image.first());
     Ok(())
 }
