@@ -51,7 +51,10 @@ fn the_first_of_two() {
     const RED: [u8; 8] = [0xf8, 0, 0, 2, 0, 0, 0, 0];
     for first in 0..6 {
         let out_of_range: Vec<u8> = (0..6).flat_map(|k| if k < first { RED } else { T }).collect();
-        assert_eq!(check_strict(&out_of_range, 9, 8), Err(Refusal::OutOfRange { block: first }));
+        assert_eq!(
+            check_strict(&out_of_range, 9, 8),
+            Err(Refusal::OutOfRange { block: first })
+        );
         assert_eq!(check_opaque(&out_of_range, 9, 8), Ok(()));
         let clear: Vec<u8> = (0..6).flat_map(|k| if k < first { RED } else { [0; 8] }).collect();
         assert_eq!(check_opaque(&clear, 9, 8), Err(Refusal::NotOpaque { block: first }));
