@@ -2,8 +2,8 @@
 // number of it. Each owes what the reader that it calls owes, and has no requires; that a C caller's pointers are what the types say,
 // nothing can check. include/yalivucu.h tells a C programmer the same in words.
 mod degrees_lent;
+mod pictures;
 mod pieces_lent;
-mod told;
 
 use rules::Answer;
 use rules::Format;
@@ -26,7 +26,7 @@ ghost use Rattle.rules.specs.Baking.{Bakes};
 ghost use Rattle.capi.specs.pieces_lent.Lent.{stateIn, StartLent, PieceLent};
 ghost use Rattle.capi.specs.degrees_lent.Lent.{legendAt, DegreesTold};
 ghost use Rattle.capi.specs.Census.{CountsInto};
-ghost use Rattle.capi.specs.told.Told.{Told, blockOr};
+ghost use Rattle.capi.specs.pictures.Told.{Told, blockOr};
 ghost use Rattle.capi.specs.Told.{HeadTold, WriterTold, BakingTold};
 
 // Reads an ETC1 picture.
@@ -41,7 +41,7 @@ pub extern "C" fn yalivucu_decode_etc1(
         (λ a. ReadsPicture Format.Etc1 (now («data» .entry)) (sized width height) (now (image .entry)) a (now (image .exit)))
         r ⌝ }
 {
-    told::read(Format::Etc1, data, width, height, width, image)
+    pictures::read(Format::Etc1, data, width, height, width, image)
 }
 
 // The same of a picture with a pitch.
@@ -57,7 +57,7 @@ pub extern "C" fn yalivucu_decode_etc1_pitched(
         (λ a. ReadsPicture Format.Etc1 (now («data» .entry)) (pitched width height pitch) (now (image .entry)) a (now (image .exit)))
         r ⌝ }
 {
-    told::read(Format::Etc1, data, width, height, pitch, image)
+    pictures::read(Format::Etc1, data, width, height, pitch, image)
 }
 
 // Reads an ETC2 RGB picture.
@@ -72,7 +72,7 @@ pub extern "C" fn yalivucu_decode_etc2_rgb(
         (λ a. ReadsPicture Format.Etc2Rgb (now («data» .entry)) (sized width height) (now (image .entry)) a (now (image .exit)))
         r ⌝ }
 {
-    told::read(Format::Etc2Rgb, data, width, height, width, image)
+    pictures::read(Format::Etc2Rgb, data, width, height, width, image)
 }
 
 // The same of a picture with a pitch.
@@ -88,7 +88,7 @@ pub extern "C" fn yalivucu_decode_etc2_rgb_pitched(
         (λ a. ReadsPicture Format.Etc2Rgb (now («data» .entry)) (pitched width height pitch) (now (image .entry)) a (now (image .exit)))
         r ⌝ }
 {
-    told::read(Format::Etc2Rgb, data, width, height, pitch, image)
+    pictures::read(Format::Etc2Rgb, data, width, height, pitch, image)
 }
 
 // Reads an ETC2 RGBA1 picture.
@@ -103,7 +103,7 @@ pub extern "C" fn yalivucu_decode_etc2_rgba1(
         (λ a. ReadsPicture Format.Etc2Rgba1 (now («data» .entry)) (sized width height) (now (image .entry)) a (now (image .exit)))
         r ⌝ }
 {
-    told::read(Format::Etc2Rgba1, data, width, height, width, image)
+    pictures::read(Format::Etc2Rgba1, data, width, height, width, image)
 }
 
 // The same of a picture with a pitch.
@@ -119,7 +119,7 @@ pub extern "C" fn yalivucu_decode_etc2_rgba1_pitched(
         (λ a. ReadsPicture Format.Etc2Rgba1 (now («data» .entry)) (pitched width height pitch) (now (image .entry)) a (now (image .exit)))
         r ⌝ }
 {
-    told::read(Format::Etc2Rgba1, data, width, height, pitch, image)
+    pictures::read(Format::Etc2Rgba1, data, width, height, pitch, image)
 }
 
 // Reads an ETC2 RGBA8 picture.
@@ -134,7 +134,7 @@ pub extern "C" fn yalivucu_decode_etc2_rgba8(
         (λ a. ReadsPicture Format.Etc2Rgba8 (now («data» .entry)) (sized width height) (now (image .entry)) a (now (image .exit)))
         r ⌝ }
 {
-    told::read(Format::Etc2Rgba8, data, width, height, width, image)
+    pictures::read(Format::Etc2Rgba8, data, width, height, width, image)
 }
 
 // The same of a picture with a pitch.
@@ -150,7 +150,7 @@ pub extern "C" fn yalivucu_decode_etc2_rgba8_pitched(
         (λ a. ReadsPicture Format.Etc2Rgba8 (now («data» .entry)) (pitched width height pitch) (now (image .entry)) a (now (image .exit)))
         r ⌝ }
 {
-    told::read(Format::Etc2Rgba8, data, width, height, pitch, image)
+    pictures::read(Format::Etc2Rgba8, data, width, height, pitch, image)
 }
 
 // Reads an EAC R picture.
@@ -165,7 +165,7 @@ pub extern "C" fn yalivucu_decode_eacr(
         (λ a. ReadsPicture Format.EacR (now («data» .entry)) (sized width height) (now (image .entry)) a (now (image .exit)))
         r ⌝ }
 {
-    told::read(Format::EacR, data, width, height, width, image)
+    pictures::read(Format::EacR, data, width, height, width, image)
 }
 
 // The same of a picture with a pitch.
@@ -181,7 +181,7 @@ pub extern "C" fn yalivucu_decode_eacr_pitched(
         (λ a. ReadsPicture Format.EacR (now («data» .entry)) (pitched width height pitch) (now (image .entry)) a (now (image .exit)))
         r ⌝ }
 {
-    told::read(Format::EacR, data, width, height, pitch, image)
+    pictures::read(Format::EacR, data, width, height, pitch, image)
 }
 
 // Reads a signed EAC R picture.
@@ -196,7 +196,7 @@ pub extern "C" fn yalivucu_decode_eacr_signed(
         (λ a. ReadsPicture Format.EacRSigned (now («data» .entry)) (sized width height) (now (image .entry)) a (now (image .exit)))
         r ⌝ }
 {
-    told::read(Format::EacRSigned, data, width, height, width, image)
+    pictures::read(Format::EacRSigned, data, width, height, width, image)
 }
 
 // The same of a picture with a pitch.
@@ -212,7 +212,7 @@ pub extern "C" fn yalivucu_decode_eacr_signed_pitched(
         (λ a. ReadsPicture Format.EacRSigned (now («data» .entry)) (pitched width height pitch) (now (image .entry)) a (now (image .exit)))
         r ⌝ }
 {
-    told::read(Format::EacRSigned, data, width, height, pitch, image)
+    pictures::read(Format::EacRSigned, data, width, height, pitch, image)
 }
 
 // Reads an EAC RG picture.
@@ -227,7 +227,7 @@ pub extern "C" fn yalivucu_decode_eacrg(
         (λ a. ReadsPicture Format.EacRg (now («data» .entry)) (sized width height) (now (image .entry)) a (now (image .exit)))
         r ⌝ }
 {
-    told::read(Format::EacRg, data, width, height, width, image)
+    pictures::read(Format::EacRg, data, width, height, width, image)
 }
 
 // The same of a picture with a pitch.
@@ -243,7 +243,7 @@ pub extern "C" fn yalivucu_decode_eacrg_pitched(
         (λ a. ReadsPicture Format.EacRg (now («data» .entry)) (pitched width height pitch) (now (image .entry)) a (now (image .exit)))
         r ⌝ }
 {
-    told::read(Format::EacRg, data, width, height, pitch, image)
+    pictures::read(Format::EacRg, data, width, height, pitch, image)
 }
 
 // Reads a signed EAC RG picture.
@@ -258,7 +258,7 @@ pub extern "C" fn yalivucu_decode_eacrg_signed(
         (λ a. ReadsPicture Format.EacRgSigned (now («data» .entry)) (sized width height) (now (image .entry)) a (now (image .exit)))
         r ⌝ }
 {
-    told::read(Format::EacRgSigned, data, width, height, width, image)
+    pictures::read(Format::EacRgSigned, data, width, height, width, image)
 }
 
 // The same of a picture with a pitch.
@@ -274,7 +274,7 @@ pub extern "C" fn yalivucu_decode_eacrg_signed_pitched(
         (λ a. ReadsPicture Format.EacRgSigned (now («data» .entry)) (pitched width height pitch) (now (image .entry)) a (now (image .exit)))
         r ⌝ }
 {
-    told::read(Format::EacRgSigned, data, width, height, pitch, image)
+    pictures::read(Format::EacRgSigned, data, width, height, pitch, image)
 }
 
 // Reads a BC1 picture without alpha.
@@ -289,7 +289,7 @@ pub extern "C" fn yalivucu_decode_bc1(
         (λ a. ReadsPicture Format.Bc1 (now («data» .entry)) (sized width height) (now (image .entry)) a (now (image .exit)))
         r ⌝ }
 {
-    told::read(Format::Bc1, data, width, height, width, image)
+    pictures::read(Format::Bc1, data, width, height, width, image)
 }
 
 // The same of a picture with a pitch.
@@ -305,7 +305,7 @@ pub extern "C" fn yalivucu_decode_bc1_pitched(
         (λ a. ReadsPicture Format.Bc1 (now («data» .entry)) (pitched width height pitch) (now (image .entry)) a (now (image .exit)))
         r ⌝ }
 {
-    told::read(Format::Bc1, data, width, height, pitch, image)
+    pictures::read(Format::Bc1, data, width, height, pitch, image)
 }
 
 // Reads a BC1 picture with one bit of alpha.
@@ -320,7 +320,7 @@ pub extern "C" fn yalivucu_decode_bc1a(
         (λ a. ReadsPicture Format.Bc1Alpha (now («data» .entry)) (sized width height) (now (image .entry)) a (now (image .exit)))
         r ⌝ }
 {
-    told::read(Format::Bc1Alpha, data, width, height, width, image)
+    pictures::read(Format::Bc1Alpha, data, width, height, width, image)
 }
 
 // The same of a picture with a pitch.
@@ -336,7 +336,7 @@ pub extern "C" fn yalivucu_decode_bc1a_pitched(
         (λ a. ReadsPicture Format.Bc1Alpha (now («data» .entry)) (pitched width height pitch) (now (image .entry)) a (now (image .exit)))
         r ⌝ }
 {
-    told::read(Format::Bc1Alpha, data, width, height, pitch, image)
+    pictures::read(Format::Bc1Alpha, data, width, height, pitch, image)
 }
 
 // Reads a BC3 picture.
@@ -351,7 +351,7 @@ pub extern "C" fn yalivucu_decode_bc3(
         (λ a. ReadsPicture Format.Bc3 (now («data» .entry)) (sized width height) (now (image .entry)) a (now (image .exit)))
         r ⌝ }
 {
-    told::read(Format::Bc3, data, width, height, width, image)
+    pictures::read(Format::Bc3, data, width, height, width, image)
 }
 
 // The same of a picture with a pitch.
@@ -367,7 +367,7 @@ pub extern "C" fn yalivucu_decode_bc3_pitched(
         (λ a. ReadsPicture Format.Bc3 (now («data» .entry)) (pitched width height pitch) (now (image .entry)) a (now (image .exit)))
         r ⌝ }
 {
-    told::read(Format::Bc3, data, width, height, pitch, image)
+    pictures::read(Format::Bc3, data, width, height, pitch, image)
 }
 
 // Reads a BC7 picture.
@@ -382,7 +382,7 @@ pub extern "C" fn yalivucu_decode_bc7(
         (λ a. ReadsPicture Format.Bc7 (now («data» .entry)) (sized width height) (now (image .entry)) a (now (image .exit)))
         r ⌝ }
 {
-    told::read(Format::Bc7, data, width, height, width, image)
+    pictures::read(Format::Bc7, data, width, height, width, image)
 }
 
 // The same of a picture with a pitch.
@@ -398,7 +398,7 @@ pub extern "C" fn yalivucu_decode_bc7_pitched(
         (λ a. ReadsPicture Format.Bc7 (now («data» .entry)) (pitched width height pitch) (now (image .entry)) a (now (image .exit)))
         r ⌝ }
 {
-    told::read(Format::Bc7, data, width, height, pitch, image)
+    pictures::read(Format::Bc7, data, width, height, pitch, image)
 }
 
 // Reads an ETC1 picture that holds no block out of range. Where it refuses for one, `block` is its number; otherwise `block` stays as it
@@ -421,7 +421,7 @@ pub extern "C" fn yalivucu_decode_etc1_strict(
         height: height,
         pitch: width,
     };
-    told::strict(data, pic, image, block)
+    pictures::strict(data, pic, image, block)
 }
 
 // The same of a picture with a pitch.
@@ -444,7 +444,7 @@ pub extern "C" fn yalivucu_decode_etc1_strict_pitched(
         height: height,
         pitch: pitch,
     };
-    told::strict(data, pic, image, block)
+    pictures::strict(data, pic, image, block)
 }
 
 // Reads an ETC2 RGBA1 picture for a viewer that knows ETC2 RGB alone. Where it refuses for a block whose opaque bit is clear, `block` is
@@ -467,7 +467,7 @@ pub extern "C" fn yalivucu_decode_etc2_rgba1_opaque(
         height: height,
         pitch: width,
     };
-    told::opaque(data, pic, image, block)
+    pictures::opaque(data, pic, image, block)
 }
 
 // The same of a picture with a pitch.
@@ -490,7 +490,7 @@ pub extern "C" fn yalivucu_decode_etc2_rgba1_opaque_pitched(
         height: height,
         pitch: pitch,
     };
-    told::opaque(data, pic, image, block)
+    pictures::opaque(data, pic, image, block)
 }
 
 // Checks an ETC1 picture as the strict reader does, with no image. Where it refuses for a block out of range, `block` is its number;
@@ -537,7 +537,7 @@ pub extern "C" fn yalivucu_decode_eacr11(
         (λ a. ReadsWhole false 1 (now («data» .entry)) (sized width height) (now (image .entry)) a (now (image .exit)))
         r ⌝ }
 {
-    told::read_whole(false, false, data, width, height, width, image)
+    pictures::read_whole(false, false, data, width, height, width, image)
 }
 
 // The same of a picture with a pitch, in pixels.
@@ -553,7 +553,7 @@ pub extern "C" fn yalivucu_decode_eacr11_pitched(
         (λ a. ReadsWhole false 1 (now («data» .entry)) (pitched width height pitch) (now (image .entry)) a (now (image .exit)))
         r ⌝ }
 {
-    told::read_whole(false, false, data, width, height, pitch, image)
+    pictures::read_whole(false, false, data, width, height, pitch, image)
 }
 
 // The same of a signed EAC R picture, -1023 to 1023: a negative number is in two's complement.
@@ -568,7 +568,7 @@ pub extern "C" fn yalivucu_decode_eacr11_signed(
         (λ a. ReadsWhole true 1 (now («data» .entry)) (sized width height) (now (image .entry)) a (now (image .exit)))
         r ⌝ }
 {
-    told::read_whole(false, true, data, width, height, width, image)
+    pictures::read_whole(false, true, data, width, height, width, image)
 }
 
 // The same of a picture with a pitch, in pixels.
@@ -584,7 +584,7 @@ pub extern "C" fn yalivucu_decode_eacr11_signed_pitched(
         (λ a. ReadsWhole true 1 (now («data» .entry)) (pitched width height pitch) (now (image .entry)) a (now (image .exit)))
         r ⌝ }
 {
-    told::read_whole(false, true, data, width, height, pitch, image)
+    pictures::read_whole(false, true, data, width, height, pitch, image)
 }
 
 // Reads all eleven bits of an EAC RG picture: two numbers to a pixel, red then green.
@@ -599,7 +599,7 @@ pub extern "C" fn yalivucu_decode_eacrg11(
         (λ a. ReadsWhole false 2 (now («data» .entry)) (sized width height) (now (image .entry)) a (now (image .exit)))
         r ⌝ }
 {
-    told::read_whole(true, false, data, width, height, width, image)
+    pictures::read_whole(true, false, data, width, height, width, image)
 }
 
 // The same of a picture with a pitch, in pixels.
@@ -615,7 +615,7 @@ pub extern "C" fn yalivucu_decode_eacrg11_pitched(
         (λ a. ReadsWhole false 2 (now («data» .entry)) (pitched width height pitch) (now (image .entry)) a (now (image .exit)))
         r ⌝ }
 {
-    told::read_whole(true, false, data, width, height, pitch, image)
+    pictures::read_whole(true, false, data, width, height, pitch, image)
 }
 
 // The same of a signed EAC RG picture.
@@ -630,7 +630,7 @@ pub extern "C" fn yalivucu_decode_eacrg11_signed(
         (λ a. ReadsWhole true 2 (now («data» .entry)) (sized width height) (now (image .entry)) a (now (image .exit)))
         r ⌝ }
 {
-    told::read_whole(true, true, data, width, height, width, image)
+    pictures::read_whole(true, true, data, width, height, width, image)
 }
 
 // The same of a picture with a pitch, in pixels.
@@ -646,7 +646,7 @@ pub extern "C" fn yalivucu_decode_eacrg11_signed_pitched(
         (λ a. ReadsWhole true 2 (now («data» .entry)) (pitched width height pitch) (now (image .entry)) a (now (image .exit)))
         r ⌝ }
 {
-    told::read_whole(true, true, data, width, height, pitch, image)
+    pictures::read_whole(true, true, data, width, height, pitch, image)
 }
 
 // Reads an ETC1 block of 8 bytes into the elements 0 to 15.
