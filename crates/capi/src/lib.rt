@@ -506,7 +506,7 @@ pub extern "C" fn yalivucu_check_strict(
         (λ a. ChecksStrict (now («data» .entry)) (sized width height) a × (now (block .exit) ≡ blockOr a (now (block .entry))))
         r ⌝ }
 {
-    told::check_strict(data, width, height, block)
+    pictures::check_strict(data, width, height, block)
 }
 
 // Checks an ETC2 RGBA1 picture as the reader of an opaque-only viewer does, with no image. Where it refuses for a block whose opaque bit
@@ -522,7 +522,7 @@ pub extern "C" fn yalivucu_check_opaque(
         (λ a. ChecksOpaque (now («data» .entry)) (sized width height) a × (now (block .exit) ≡ blockOr a (now (block .entry))))
         r ⌝ }
 {
-    told::check_opaque(data, width, height, block)
+    pictures::check_opaque(data, width, height, block)
 }
 
 // Reads all eleven bits of an EAC R picture, 0 to 2047, into 16-bit numbers.
