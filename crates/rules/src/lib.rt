@@ -284,9 +284,14 @@ pub struct Spot {
     pub at: usize,
 }
 
-// Whether a level, or all of them, lie in the file as it tells: with the byte at which the blocks start, or how many bytes are left over.
+// Whether the blocks of a level lie in the file as it tells: with the byte at which they start.
 pub enum Fit {
     Fits(usize),
-    Missing,
-    Disagrees,
+    Refused(Answer),
+}
+
+// Whether all levels do: with how many bytes are left over behind them, and the level that was asked for.
+pub enum HeldLevels {
+    Levels(usize, FileLevel),
+    Refused(Answer),
 }
