@@ -7,7 +7,8 @@ use rules::Layout;
 ghost use mathlib.Core.Path.{_≡_};
 ghost use Prim.Native.Nat.{_≤_, _<_};
 ghost use lib.ListN.{length};
-ghost use Rattle.rules.specs.Pkm.{padded as paddedTo, pkmAs, pkmOf};
+ghost use Rattle.rules.specs.FileFormats.{known};
+ghost use Rattle.rules.specs.Pkm.{pkmRows1, pkmRows2, padded as paddedTo, pkmAs, pkmOf};
 
 // The types of version 1.0 and 2.0: the type, the format's number, and 1 where it is sRGB.
 const ROWS_1: [usize; 3] = [0, 0, 0];
@@ -52,6 +53,22 @@ fn header_as(known: KnownFormat, d: &[u8]) -> FileHeader
     }
 }
 
+// What a type of version 1.0 stands for.
+fn type_1(number: usize) -> KnownFormat
+    ensures { λ r. ⌜ r ≡ known pkmRows1 number ⌝ }
+{
+    let rows = ROWS_1;
+    formats::known_in(&rows, number)
+}
+
+// What a type of version 2.0 stands for.
+fn type_2(number: usize) -> KnownFormat
+    ensures { λ r. ⌜ r ≡ known pkmRows2 number ⌝ }
+{
+    let rows = ROWS_2;
+    formats::known_in(&rows, number)
+}
+
 // The header.
 pub fn header(d: &[u8]) -> FileHeader
     ensures { λ r. ⌜ r ≡ pkmOf (now (d .entry)) ⌝ }
@@ -62,12 +79,10 @@ pub fn header(d: &[u8]) -> FileHeader
     let version = numbers::big2(d, 4);
     let number = numbers::big2(d, 6);
     if version == 0x3130 {
-        let rows = ROWS_1;
-        return header_as(formats::known_in(&rows, number), d);
+        return header_as(type_1(number), d);
     }
     if version == 0x3230 {
-        let rows = ROWS_2;
-        return header_as(formats::known_in(&rows, number), d);
+        return header_as(type_2(number), d);
     }
     FileHeader::Refused(Answer::UnknownVersion)
 }

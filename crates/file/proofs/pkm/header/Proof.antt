@@ -1,59 +1,55 @@
+-- `file::pkm::header` meets its contract, by the version.
+-- Assumes nothing.
+use mathlib.Core.Path.{_∙_, ap}
+use borrow.Author.Tests.{lt-ltb, le-ltb}
+use denote.Ref.{now}
+use Rattle.file.proofs.Picks.{same, other}
+use Rattle.rules.specs.FileFormats.{known}
+use Rattle.rules.specs.Pkm.{pkmRows1, pkmRows2, pkmAs, pkmOf}
+use Rattle.rules.specs.declared.KnownFormat.{KnownFormat}
 use borrow.Author.Needs.{needs}
 use Rattle.file.proofs.pkm.header.Statement.{statement}
 use Rattle.file.proofs.pkm.header.Tie as tie
-use Rattle.file.proofs.pkm.header.Reads as reads
-use Rattle.file.proofs.pkm.header.Lts as lts
-use Rattle.file.proofs.formats.known_in.Reads as known-in-reads
-use Rattle.file.proofs.pkm.header_as.Reads as header-as-reads
-use Rattle.numbers.proofs.big2.Reads as big2-reads
 
--- src/pkm.rt:60:9
 returns : tie.Need-returns
-returns c = ?
+unfolding pkmOf
+returns c = simp (lt-ltb _ _ (c .if1 .taken))
 
--- src/pkm.rt:62:9
 big2-requires : tie.Need-big2-requires
 big2-requires c κs = search needs
 
--- src/pkm.rt:63:9
 big2-requires-2 : tie.Need-big2-requires-2
 big2-requires-2 c κs = search needs
 
--- src/pkm.rt:66:44
-slice-aggregate-known-in : tie.Need-slice-aggregate-known-in
-slice-aggregate-known-in c = search needs
+type-1-requires : tie.Need-type-1-requires
+type-1-requires c κs = search needs
 
--- src/pkm.rt:66:26
-known-in-requires : tie.Need-known-in-requires
-known-in-requires c κs = search needs
-
--- src/pkm.rt:66:9
 header-as-requires : tie.Need-header-as-requires
 header-as-requires c κs = search needs
 
--- src/pkm.rt:66:9
 returns-2 : tie.Need-returns-2
-returns-2 c = ?
+unfolding pkmOf
+returns-2 c =     let d = now (c .before .before .before .before .before .before .before .args .d) in
+    simp (le-ltb _ _ (c .before .before .before .before .before .if1 .left), same (c .before .before .before .before .big2 .ensures .0) (c .before .before .if2 .taken))
+    (c .header-as .ensures ∙ ap (λ (z : KnownFormat). pkmAs z d) (c .before .type-1 .ensures ∙ ap (known pkmRows1) (c .before .before .before .big22 .ensures .0)))
 
--- src/pkm.rt:70:44
-slice-aggregate-known-in-2 : tie.Need-slice-aggregate-known-in-2
-slice-aggregate-known-in-2 c = search needs
+type-2-requires : tie.Need-type-2-requires
+type-2-requires c κs = search needs
 
--- src/pkm.rt:70:26
-known-in-requires-2 : tie.Need-known-in-requires-2
-known-in-requires-2 c κs = search needs
-
--- src/pkm.rt:70:9
 header-as-requires-2 : tie.Need-header-as-requires-2
 header-as-requires-2 c κs = search needs
 
--- src/pkm.rt:70:9
 returns-3 : tie.Need-returns-3
-returns-3 c = ?
+unfolding pkmOf
+returns-3 c =     let d = now (c .before .before .before .before .before .before .before .before .args .d) in
+    let v = c .before .before .before .before .before .big2 .ensures .0 in
+    simp (le-ltb _ _ (c .before .before .before .before .before .before .if1 .left), other v (c .before .before .before .if2 .left), same v (c .before .before .if3 .taken))
+    (c .header-as2 .ensures ∙ ap (λ (z : KnownFormat). pkmAs z d) (c .before .type-2 .ensures ∙ ap (known pkmRows2) (c .before .before .before .before .big22 .ensures .0)))
 
--- src/pkm.rt:56:1
 returns-4 : tie.Need-returns-4
-returns-4 c = ?
+unfolding pkmOf
+returns-4 c =     let v = c .before .before .before .big2 .ensures .0 in
+    simp (le-ltb _ _ (c .before .before .before .before .if1 .left), other v (c .before .if2 .left), other v (c .if3 .left))
 
 pub header-spec : {M : Type 1} → statement M
 header-spec =
@@ -62,12 +58,10 @@ header-spec =
     returns
     big2-requires
     big2-requires-2
-    slice-aggregate-known-in
-    known-in-requires
+    type-1-requires
     header-as-requires
     returns-2
-    slice-aggregate-known-in-2
-    known-in-requires-2
+    type-2-requires
     header-as-requires-2
     returns-3
     returns-4)
