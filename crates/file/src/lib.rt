@@ -3,6 +3,7 @@ mod dds;
 mod formats;
 mod ktx1;
 mod ktx2;
+pub mod lent;
 mod levels;
 mod pkm;
 
