@@ -14,6 +14,7 @@ use Rattle.rules.specs.Notation.{build}
 use Rattle.rules.specs.Answers.{said, accepts, Outcome}
 use Rattle.rules.specs.declared.Answer.{Answer}
 use Rattle.rules.specs.declared.Answer.the-variants.{Done, TooLarge, ShortData, ShortImage, OutOfRange, NoChannel, LongData, CutShort, NoHead, OtherKind, WrongBlocks, NotOpaque, ShortPitch}
+use Rattle.rules.specs.declared.Answer.the-variants.{HeaderCut, UnknownContainer, UnknownVersion, UnknownFormat, SizesDisagree, NotFlat, NoPixel, LevelsMissing, NoLevel, Supercompressed}
 use Rattle.rules.proofs.Answer.{the-type}
 
 -- every answer, with the value that some of them return
@@ -32,6 +33,16 @@ answers =
     ∷ (λ n. WrongBlocks)
     ∷ (λ n. NotOpaque n)
     ∷ (λ n. ShortPitch)
+    ∷ (λ n. HeaderCut)
+    ∷ (λ n. UnknownContainer)
+    ∷ (λ n. UnknownVersion)
+    ∷ (λ n. UnknownFormat)
+    ∷ (λ n. SizesDisagree)
+    ∷ (λ n. NotFlat)
+    ∷ (λ n. NoPixel)
+    ∷ (λ n. LevelsMissing)
+    ∷ (λ n. NoLevel)
+    ∷ (λ n. Supercompressed)
     ∷ []
 
 -- the answer that says a number and a value: the first of them with that number
@@ -56,6 +67,16 @@ answered OtherKind = refl
 answered WrongBlocks = refl
 answered (NotOpaque n) = refl
 answered ShortPitch = refl
+answered HeaderCut = refl
+answered UnknownContainer = refl
+answered UnknownVersion = refl
+answered UnknownFormat = refl
+answered SizesDisagree = refl
+answered NotFlat = refl
+answered NoPixel = refl
+answered LevelsMissing = refl
+answered NoLevel = refl
+answered Supercompressed = refl
 
 -- the answer is fixed by what it says on paper
 pub answer : (a b : Answer) → said a ≡ said b → a ≡ b

@@ -11,6 +11,8 @@ use Rattle.rules.specs.declared.Picture.{Picture}
 use Rattle.rules.specs.declared.Answer.{Answer}
 use Rattle.rules.specs.declared.Answer.the-variants.{Done, TooLarge, ShortData, ShortImage, OutOfRange, NoChannel, LongData}
 use Rattle.rules.specs.declared.Answer.the-variants.{CutShort, NoHead, OtherKind, WrongBlocks, NotOpaque, ShortPitch}
+use Rattle.rules.specs.declared.Answer.the-variants.{HeaderCut, UnknownContainer, UnknownVersion, UnknownFormat, SizesDisagree}
+use Rattle.rules.specs.declared.Answer.the-variants.{NotFlat, NoPixel, LevelsMissing, NoLevel, Supercompressed}
 
 -- the table of refusals: the number of each, and what it "also returns"
 abbrev pub said : Answer → List ℕ
@@ -27,6 +29,16 @@ said OtherKind = 9 ∷ []
 said WrongBlocks = 10 ∷ []
 said (NotOpaque n) = 11 ∷ n ∷ []
 said ShortPitch = 12 ∷ []
+said HeaderCut = 20 ∷ []
+said UnknownContainer = 21 ∷ []
+said UnknownVersion = 22 ∷ []
+said UnknownFormat = 23 ∷ []
+said SizesDisagree = 24 ∷ []
+said NotFlat = 25 ∷ []
+said NoPixel = 26 ∷ []
+said LevelsMissing = 37 ∷ []
+said NoLevel = 38 ∷ []
+said Supercompressed = 41 ∷ []
 
 -- number 0 is "done", and every other is a refusal
 abbrev pub accepts : List ℕ → Bool
