@@ -175,13 +175,16 @@ fn a_build_that_fails_says_why() {
 #[test]
 fn a_signal_ends_the_build() {
     let checkout = Checkout::new();
+    // every signal is heard, whatever the one who runs the tests ignores
+    let script = checkout.top.join("yalivucu").display().to_string();
+    let heard = || checkout.command(PathBuf::from("env"), &["--default-signal", &script, "info", &example("old.pkm")]);
     for (number, name) in [(15, "TERM"), (2, "INT")] {
         checkout.calls();
-        let mut run = spawned(checkout.info().env("SLOW", "100").process_group(0));
-        while checkout.calls().is_empty() {
+        let mut run = spawned(heard().env("SLOW", "100").process_group(0));
+        while fs::read_to_string(checkout.kit.join("calls")).unwrap_or_default().is_empty() {
             sleep(Duration::from_millis(20));
         }
-        let mut waiter = spawned(checkout.info().process_group(0));
+        let mut waiter = spawned(heard().process_group(0));
         let mut line = String::new();
         BufReader::new(waiter.stderr.take().expect("it")).read_line(&mut line).expect("a line");
         assert!(line.contains("waiting"), "{line}");
