@@ -74,7 +74,7 @@ use Values::{Eight, Eleven, ElevenSigned};
 
 /// Every format that is read.
 #[rustfmt::skip]
-pub const TABLE: [Kind; Format::ALL.len()] = [
+pub const TABLE: &[Kind] = &[
     kind(Format::Etc1, "etc1", "ETC1", Rgb, Eight, Older::Strict),
     kind(Format::Etc2Rgb, "etc2-rgb", "ETC2 RGB", Rgb, Eight, Older::Strict),
     kind(Format::Etc2Rgba1, "etc2-rgba1", "ETC2 RGBA1", Rgba, Eight, Older::Opaque),

@@ -126,7 +126,7 @@ fn a_sheet_of_every_etc_and_eac_format() {
         let data = blocks(format, 30, 18, 4);
         room.write("a.ktx", &single(format, (30, 18), &data));
         let ran = room.run(&["sheet", "--force", "a.ktx", "a.sheet"]);
-        let is_bc = matches!(format, Format::Bc1 | Format::Bc1Alpha | Format::Bc3 | Format::Bc7);
+        let is_bc = format!("{format:?}").starts_with("Bc");
         if is_bc {
             ran.refuses(8, "a.ktx");
             continue;

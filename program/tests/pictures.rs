@@ -17,9 +17,9 @@ fn samples(image: &[u32], channels: usize) -> Vec<u8> {
 
 /// Channels of a format in a PNG.
 fn channels(format: Format) -> (usize, &'static str) {
-    match format {
-        Format::EacR | Format::EacRSigned => (1, "L"),
-        Format::Etc1 | Format::Etc2Rgb | Format::Bc1 | Format::EacRg | Format::EacRgSigned => (3, "RGB"),
+    match format!("{format:?}").as_str() {
+        "EacR" | "EacRSigned" | "Bc4" | "Bc4Signed" => (1, "L"),
+        "Etc1" | "Etc2Rgb" | "Bc1" | "EacRg" | "EacRgSigned" | "Bc5" | "Bc5Signed" => (3, "RGB"),
         _ => (4, "RGBA"),
     }
 }

@@ -172,6 +172,13 @@ fn a_build_that_fails_says_why() {
     assert_eq!(ran(&mut checkout.info()).status, 0);
 }
 
+/// Whether a process has a child that runs a command. A shell that is about to start one can miss a signal.
+fn holds(process: u32, command: &str) -> bool {
+    let children = fs::read_to_string(format!("/proc/{process}/task/{process}/children")).unwrap_or_default();
+    let runs = |child: &str| fs::read_to_string(format!("/proc/{child}/comm")).is_ok_and(|name| name.trim() == command);
+    children.split_whitespace().any(runs)
+}
+
 #[test]
 fn a_signal_ends_the_build() {
     let checkout = Checkout::new();
@@ -188,6 +195,9 @@ fn a_signal_ends_the_build() {
         let mut line = String::new();
         BufReader::new(waiter.stderr.take().expect("it")).read_line(&mut line).expect("a line");
         assert!(line.contains("waiting"), "{line}");
+        while !holds(waiter.id(), "flock") {
+            sleep(Duration::from_millis(20));
+        }
         let kill = |who: String| Command::new("kill").args(["-s", name, "--", &who]).status().expect("kill runs");
         kill(format!("-{}", waiter.id()));
         assert_eq!(waiter.wait().expect("it ends").signal(), Some(number), "a run that waits");

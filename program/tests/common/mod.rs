@@ -252,22 +252,27 @@ pub fn pkm(version: &[u8; 2], kind: u16, size: (usize, usize), blocks: &[u8]) ->
     file
 }
 
-/// The number of a format in KTX 1.
+/// The number of a format in KTX 1. By name, so that a format is here before the library has it.
 pub fn gl(format: Format) -> u32 {
-    match format {
-        Format::Etc1 => 0x8D64,
-        Format::Etc2Rgb => 0x9274,
-        Format::Etc2Rgba1 => 0x9276,
-        Format::Etc2Rgba8 => 0x9278,
-        Format::EacR => 0x9270,
-        Format::EacRSigned => 0x9271,
-        Format::EacRg => 0x9272,
-        Format::EacRgSigned => 0x9273,
-        Format::Bc1 => 0x83F0,
-        Format::Bc1Alpha => 0x83F1,
-        Format::Bc3 => 0x83F3,
-        Format::Bc7 => 0x8E8C,
-        other => panic!("{other:?} has no number in these tests"),
+    match format!("{format:?}").as_str() {
+        "Etc1" => 0x8D64,
+        "Etc2Rgb" => 0x9274,
+        "Etc2Rgba1" => 0x9276,
+        "Etc2Rgba8" => 0x9278,
+        "EacR" => 0x9270,
+        "EacRSigned" => 0x9271,
+        "EacRg" => 0x9272,
+        "EacRgSigned" => 0x9273,
+        "Bc1" => 0x83F0,
+        "Bc1Alpha" => 0x83F1,
+        "Bc2" => 0x83F2,
+        "Bc3" => 0x83F3,
+        "Bc4" => 0x8DBB,
+        "Bc4Signed" => 0x8DBC,
+        "Bc5" => 0x8DBD,
+        "Bc5Signed" => 0x8DBE,
+        "Bc7" => 0x8E8C,
+        other => panic!("{other} has no number in these tests"),
     }
 }
 
