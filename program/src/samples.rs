@@ -141,3 +141,41 @@ fn fill<const N: usize>(bytes: &mut [u8], image: &[u32], samples: impl Fn([u8; 4
         place.copy_from_slice(&samples(pixel.to_be_bytes()));
     }
 }
+
+#[cfg(test)]
+mod tests {
+    use super::*;
+    use crate::formats;
+    use yalivucu::typed::Format;
+
+    /// The strips of a picture, one after another.
+    fn rows(strips: &Strips) -> Vec<Vec<u8>> {
+        let samples: Vec<u8> = (0..strips.count()).flat_map(|strip| strips.read(strip).expect("samples")).collect();
+        samples.chunks(strips.row_bytes()).map(<[u8]>::to_vec).collect()
+    }
+
+    #[test]
+    fn a_turned_picture_has_the_same_rows_from_the_last_to_the_first() {
+        for (width, height) in [(5, 1), (30, 18), (500, 1001)] {
+            let data: Vec<u8> = (0..Picture::new(width, height).bytes(Format::Etc2Rgba8).expect("a size"))
+                .map(|k| ((k * k) >> 3) as u8)
+                .collect();
+            let kind = formats::of(Format::Etc2Rgba8).expect("a format");
+            let plain = Texture {
+                kind,
+                level: 0,
+                level_count: 1,
+                width,
+                height,
+                data: &data,
+                is_srgb: false,
+                is_bottom_up: true,
+                is_strict: false,
+            };
+            let upright = rows(&Strips::new(plain, Sample::Byte, 4, false));
+            let mut turned = rows(&Strips::new(plain, Sample::Byte, 4, true));
+            turned.reverse();
+            assert!(upright == turned && upright.len() == height, "{width} x {height}");
+        }
+    }
+}

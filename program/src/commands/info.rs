@@ -102,11 +102,11 @@ fn counts(level: &typed::Level) -> Result<Option<Counts>, Failure> {
     })
 }
 
-fn orientation(facts: &Facts) -> &'static str {
+fn orientation(facts: &Facts) -> Option<&'static str> {
     match facts.orientation {
-        Orientation::Untold => "orientation not told",
-        Orientation::TopDown => "first row is the top one",
-        Orientation::BottomUp => "first row is the bottom one",
+        Orientation::Untold => None,
+        Orientation::TopDown => Some("first row is the top one"),
+        Orientation::BottomUp => Some("first row is the bottom one"),
     }
 }
 
@@ -115,7 +115,7 @@ fn lines(name: &str, facts: &Facts, census: bool) -> Vec<String> {
     let size = facts.kind.format.block_size();
     let count = facts.levels.len();
     let mut first = format!(
-        "{name}: {}, {}, {} x {}, {} blocks of {size} bytes, {count} {}, {}, {}, {}",
+        "{name}: {}, {}, {} x {}, {} blocks of {size} bytes, {count} {}, {}, {}",
         facts.container,
         facts.kind.title,
         largest.width,
@@ -124,8 +124,10 @@ fn lines(name: &str, facts: &Facts, census: bool) -> Vec<String> {
         if count == 1 { "level" } else { "levels" },
         if facts.is_srgb { "sRGB" } else { "linear" },
         if facts.is_big_endian { "big endian" } else { "little endian" },
-        orientation(facts),
     );
+    if let Some(orientation) = orientation(facts) {
+        first += &format!(", {orientation}");
+    }
     if facts.left_over > 0 {
         first += &format!(", {} bytes left over", facts.left_over);
     }
