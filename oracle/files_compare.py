@@ -132,7 +132,7 @@ class Report:
     """Counts, how many of each differ, and the first of those in full."""
 
     def __init__(self):
-        self.counts, self.differing = collections.Counter(), collections.Counter()
+        self.counts, self.differing, self.aside = collections.Counter(), collections.Counter(), collections.Counter()
 
     def count(self, what, same, name, *facts):
         self.counts[what] += 1
@@ -145,6 +145,8 @@ class Report:
     def show(self):
         for what, count in self.counts.items():
             print("%8d %s%s" % (count, what, ", %d differ" % self.differing[what] if self.differing[what] else ""))
+        for what, count in self.aside.items():
+            print("%8d %s, left aside" % (count, what))
         print("%d compared, %d differences" % (sum(self.counts.values()), sum(self.differing.values())))
 
 
@@ -339,7 +341,7 @@ def compare_whole(path, facts, shown, report):
         for reader, name in ((pillow, "Pillow"), (imagemagick, "ImageMagick")):
             seen = reader(path)
             if seen is None:
-                report.counts["DDS files that %s does not read" % name] += 1
+                report.aside["DDS files that %s does not read" % name] += 1
             else:
                 report.count("pictures as %s shows them" % name, seen == shown[0], path)
     if path.name.startswith("waffles-compressed"):
@@ -357,7 +359,7 @@ def compare_pixels(found, paths, library, room, report):
         for n, level in enumerate(levels):
             due = second.pixels(facts.format, level, data)
             if due is None:
-                report.counts["levels too wide for a second decoder"] += 1
+                report.aside["levels too wide for a second decoder"] += 1
             else:
                 report.count("levels as a second decoder shows them", due == shown[n], name, "level %d" % n)
         if name in paths:
