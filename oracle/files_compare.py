@@ -25,11 +25,13 @@ import tempfile
 from PIL import Image
 
 import files
-from files import BC1, BC1A, BC3, BC7, ETC1, KTX1, R, RG_SIGNED
+from files import BC1, BC1A, BC2, BC3, BC7, ETC1, R, RG_SIGNED
 
 ENDINGS = (".ktx", ".ktx2", ".pkm", ".dds")
 MOST = 65536  # the elements of a case of oracle/PROTOCOL.md
-READERS = {**{n: n for n in range(8)}, BC1: 34, BC1A: 35, BC3: 36, BC7: 37}  # PROTOCOL.md's numbers by the formats'
+# PROTOCOL.md's numbers by the formats', of which the last five are those from BC2 on.
+READERS = {**{n: n for n in range(8)}, BC1: 34, BC1A: 35, BC3: 36, BC7: 37, **{BC2 + k: 80 + k for k in range(5)}}
+SHOWN_ALIKE = {BC1A, BC2, BC3, BC7}  # what other readers of DDS show as colours; of one or two channels each shows something of its own
 
 
 def told(data):
@@ -335,9 +337,9 @@ def compare_whole(path, facts, shown, report):
     own = path.with_name(path.name + ".png")
     if own.exists():
         report.count("pictures as etc1tool shows them", pillow(own) == shown[0], path)
-    if path.parent.name == "nvcompress":
+    if path.parent.name == "nvcompress" and facts.format in SHOWN_ALIKE:
         report.count("pictures as nvdecompress shows them", nvdecompress(path) == shown[0], path)
-    if path.suffix == ".dds":
+    if path.suffix == ".dds" and facts.format in SHOWN_ALIKE:
         for reader, name in ((pillow, "Pillow"), (imagemagick, "ImageMagick")):
             seen = reader(path)
             if seen is None:
