@@ -1,4 +1,4 @@
-#!/usr/bin/python3
+#!/usr/bin/python3 -B
 """Holds what the library answers of texture files to others; oracle/files collects the files and builds the programs.
 
 Answers: what open_file and file_level tell of every file equals what oracle/files.py tells. Besides the files as they are these are
