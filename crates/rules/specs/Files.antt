@@ -10,6 +10,7 @@ use Rattle.rules.specs.Pkm.{isPkm, pkmOf}
 use Rattle.rules.specs.Ktx1.{isKtx1, ktx1Of}
 use Rattle.rules.specs.Ktx2.{isKtx2, ktx2Of}
 use Rattle.rules.specs.Dds.{isDds, ddsOf}
+use Rattle.rules.specs.SheetFile.{isSheet, sheetHeader}
 use Rattle.rules.specs.declared.Answer.the-variants.{UnknownContainer}
 use Rattle.rules.specs.declared.FileHeader.{FileHeader}
 use Rattle.rules.specs.declared.FileHeader.the-variants as header
@@ -25,7 +26,8 @@ headerOf d =
     (cond (isDds d) (ddsOf d)
     (cond (isKtx1 d) (ktx1Of d)
     (cond (isKtx2 d) (ktx2Of d)
-    (header.Refused UnknownContainer))))
+    (cond (isSheet d) (sheetHeader d)
+    (header.Refused UnknownContainer)))))
 
 -- a refused header refuses the file
 unfoldable pub openedAs : List ℕ → FileHeader → Opened
