@@ -74,11 +74,8 @@ fn opened(name: &OsStr) -> Result<File, Failure> {
 
 /// Reads until there are so many bytes, or no more. Whether there may be more.
 fn read_up_to(file: &mut File, bytes: &mut Vec<u8>, limit: usize) -> Result<bool, Failure> {
-    let missing = limit.saturating_sub(bytes.len());
-    bytes.try_reserve(missing).map_err(|_| cannot("the file does not fit into memory."))?;
-    file.take(missing as u64)
-        .read_to_end(bytes)
-        .map_err(|why| cannot(format_args!("the file cannot be read: {why}.")))?;
+    let missing = limit.saturating_sub(bytes.len()) as u64;
+    file.take(missing).read_to_end(bytes).map_err(|why| cannot(format_args!("the file cannot be read: {why}.")))?;
     Ok(bytes.len() >= limit)
 }
 

@@ -75,11 +75,10 @@ impl Reading {
         if is_etc1 && !self.more && file.left_over() > 0 {
             return Err(left_over(file.left_over() as u64 + input.unread));
         }
-        let numbers = match levels {
-            Levels::One(level) => level..level + 1,
-            Levels::All => 0..file.level_count(),
-        };
-        numbers.map(|level| self.texture(&file, kind, level)).collect()
+        match levels {
+            Levels::One(level) => Ok(vec![self.texture(&file, kind, level)?]),
+            Levels::All => (0..file.level_count()).map(|level| self.texture(&file, kind, level)).collect(),
+        }
     }
 
     fn texture<'a>(&self, file: &typed::File<'a>, kind: &'static Kind, n: usize) -> Result<Texture<'a>, Failure> {
