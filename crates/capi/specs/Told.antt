@@ -14,7 +14,7 @@ use Rattle.rules.specs.declared.Picture.{Picture}
 use Rattle.rules.specs.declared.Sheet.{Sheet}
 use Rattle.rules.specs.declared.Sheet.the-variants.{Holds, Refused}
 use Rattle.rules.specs.declared.Written.{Written}
-use Rattle.capi.specs.told.Told.{answerNumber}
+use Rattle.capi.specs.pictures.Told.{answerNumber}
 
 -- a field of the head that a sheet holds, or what stood there where it is refused
 abbrev pub headOr : (Head → ℕ) → Sheet → ℕ → ℕ

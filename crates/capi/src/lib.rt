@@ -2,8 +2,8 @@
 // number of it. Each owes what the reader that it calls owes, and has no requires; that a C caller's pointers are what the types say,
 // nothing can check. include/yalivucu.h tells a C programmer the same in words.
 mod degrees_lent;
+mod pictures;
 mod pieces_lent;
-mod told;
 
 use rules::Answer;
 use rules::Format;
@@ -25,7 +25,7 @@ ghost use Rattle.rules.specs.Baking.{Bakes};
 ghost use Rattle.capi.specs.pieces_lent.Lent.{stateIn, StartLent, PieceLent};
 ghost use Rattle.capi.specs.degrees_lent.Lent.{legendAt, DegreesTold};
 ghost use Rattle.capi.specs.Census.{CountsInto};
-ghost use Rattle.capi.specs.told.Told.{Told, blockOr};
+ghost use Rattle.capi.specs.pictures.Told.{Told, blockOr};
 ghost use Rattle.capi.specs.Told.{HeadTold, WriterTold, BakingTold};
 
 // Reads an ETC1 picture.
@@ -40,7 +40,7 @@ pub extern "C" fn yalivucu_decode_etc1(
         (λ a. ReadsPicture Format.Etc1 (now («data» .entry)) (sized width height) (now (image .entry)) a (now (image .exit)))
         r ⌝ }
 {
-    told::read(Format::Etc1, data, width, height, width, image)
+    pictures::read(Format::Etc1, data, width, height, width, image)
 }
 
 // The same of a picture with a pitch.
@@ -56,7 +56,7 @@ pub extern "C" fn yalivucu_decode_etc1_pitched(
         (λ a. ReadsPicture Format.Etc1 (now («data» .entry)) (pitched width height pitch) (now (image .entry)) a (now (image .exit)))
         r ⌝ }
 {
-    told::read(Format::Etc1, data, width, height, pitch, image)
+    pictures::read(Format::Etc1, data, width, height, pitch, image)
 }
 
 // Reads an ETC2 RGB picture.
@@ -71,7 +71,7 @@ pub extern "C" fn yalivucu_decode_etc2_rgb(
         (λ a. ReadsPicture Format.Etc2Rgb (now («data» .entry)) (sized width height) (now (image .entry)) a (now (image .exit)))
         r ⌝ }
 {
-    told::read(Format::Etc2Rgb, data, width, height, width, image)
+    pictures::read(Format::Etc2Rgb, data, width, height, width, image)
 }
 
 // The same of a picture with a pitch.
@@ -87,7 +87,7 @@ pub extern "C" fn yalivucu_decode_etc2_rgb_pitched(
         (λ a. ReadsPicture Format.Etc2Rgb (now («data» .entry)) (pitched width height pitch) (now (image .entry)) a (now (image .exit)))
         r ⌝ }
 {
-    told::read(Format::Etc2Rgb, data, width, height, pitch, image)
+    pictures::read(Format::Etc2Rgb, data, width, height, pitch, image)
 }
 
 // Reads an ETC2 RGBA1 picture.
@@ -102,7 +102,7 @@ pub extern "C" fn yalivucu_decode_etc2_rgba1(
         (λ a. ReadsPicture Format.Etc2Rgba1 (now («data» .entry)) (sized width height) (now (image .entry)) a (now (image .exit)))
         r ⌝ }
 {
-    told::read(Format::Etc2Rgba1, data, width, height, width, image)
+    pictures::read(Format::Etc2Rgba1, data, width, height, width, image)
 }
 
 // The same of a picture with a pitch.
@@ -118,7 +118,7 @@ pub extern "C" fn yalivucu_decode_etc2_rgba1_pitched(
         (λ a. ReadsPicture Format.Etc2Rgba1 (now («data» .entry)) (pitched width height pitch) (now (image .entry)) a (now (image .exit)))
         r ⌝ }
 {
-    told::read(Format::Etc2Rgba1, data, width, height, pitch, image)
+    pictures::read(Format::Etc2Rgba1, data, width, height, pitch, image)
 }
 
 // Reads an ETC2 RGBA8 picture.
@@ -133,7 +133,7 @@ pub extern "C" fn yalivucu_decode_etc2_rgba8(
         (λ a. ReadsPicture Format.Etc2Rgba8 (now («data» .entry)) (sized width height) (now (image .entry)) a (now (image .exit)))
         r ⌝ }
 {
-    told::read(Format::Etc2Rgba8, data, width, height, width, image)
+    pictures::read(Format::Etc2Rgba8, data, width, height, width, image)
 }
 
 // The same of a picture with a pitch.
@@ -149,7 +149,7 @@ pub extern "C" fn yalivucu_decode_etc2_rgba8_pitched(
         (λ a. ReadsPicture Format.Etc2Rgba8 (now («data» .entry)) (pitched width height pitch) (now (image .entry)) a (now (image .exit)))
         r ⌝ }
 {
-    told::read(Format::Etc2Rgba8, data, width, height, pitch, image)
+    pictures::read(Format::Etc2Rgba8, data, width, height, pitch, image)
 }
 
 // Reads an EAC R picture.
@@ -164,7 +164,7 @@ pub extern "C" fn yalivucu_decode_eacr(
         (λ a. ReadsPicture Format.EacR (now («data» .entry)) (sized width height) (now (image .entry)) a (now (image .exit)))
         r ⌝ }
 {
-    told::read(Format::EacR, data, width, height, width, image)
+    pictures::read(Format::EacR, data, width, height, width, image)
 }
 
 // The same of a picture with a pitch.
@@ -180,7 +180,7 @@ pub extern "C" fn yalivucu_decode_eacr_pitched(
         (λ a. ReadsPicture Format.EacR (now («data» .entry)) (pitched width height pitch) (now (image .entry)) a (now (image .exit)))
         r ⌝ }
 {
-    told::read(Format::EacR, data, width, height, pitch, image)
+    pictures::read(Format::EacR, data, width, height, pitch, image)
 }
 
 // Reads a signed EAC R picture.
@@ -195,7 +195,7 @@ pub extern "C" fn yalivucu_decode_eacr_signed(
         (λ a. ReadsPicture Format.EacRSigned (now («data» .entry)) (sized width height) (now (image .entry)) a (now (image .exit)))
         r ⌝ }
 {
-    told::read(Format::EacRSigned, data, width, height, width, image)
+    pictures::read(Format::EacRSigned, data, width, height, width, image)
 }
 
 // The same of a picture with a pitch.
@@ -211,7 +211,7 @@ pub extern "C" fn yalivucu_decode_eacr_signed_pitched(
         (λ a. ReadsPicture Format.EacRSigned (now («data» .entry)) (pitched width height pitch) (now (image .entry)) a (now (image .exit)))
         r ⌝ }
 {
-    told::read(Format::EacRSigned, data, width, height, pitch, image)
+    pictures::read(Format::EacRSigned, data, width, height, pitch, image)
 }
 
 // Reads an EAC RG picture.
@@ -226,7 +226,7 @@ pub extern "C" fn yalivucu_decode_eacrg(
         (λ a. ReadsPicture Format.EacRg (now («data» .entry)) (sized width height) (now (image .entry)) a (now (image .exit)))
         r ⌝ }
 {
-    told::read(Format::EacRg, data, width, height, width, image)
+    pictures::read(Format::EacRg, data, width, height, width, image)
 }
 
 // The same of a picture with a pitch.
@@ -242,7 +242,7 @@ pub extern "C" fn yalivucu_decode_eacrg_pitched(
         (λ a. ReadsPicture Format.EacRg (now («data» .entry)) (pitched width height pitch) (now (image .entry)) a (now (image .exit)))
         r ⌝ }
 {
-    told::read(Format::EacRg, data, width, height, pitch, image)
+    pictures::read(Format::EacRg, data, width, height, pitch, image)
 }
 
 // Reads a signed EAC RG picture.
@@ -257,7 +257,7 @@ pub extern "C" fn yalivucu_decode_eacrg_signed(
         (λ a. ReadsPicture Format.EacRgSigned (now («data» .entry)) (sized width height) (now (image .entry)) a (now (image .exit)))
         r ⌝ }
 {
-    told::read(Format::EacRgSigned, data, width, height, width, image)
+    pictures::read(Format::EacRgSigned, data, width, height, width, image)
 }
 
 // The same of a picture with a pitch.
@@ -273,7 +273,7 @@ pub extern "C" fn yalivucu_decode_eacrg_signed_pitched(
         (λ a. ReadsPicture Format.EacRgSigned (now («data» .entry)) (pitched width height pitch) (now (image .entry)) a (now (image .exit)))
         r ⌝ }
 {
-    told::read(Format::EacRgSigned, data, width, height, pitch, image)
+    pictures::read(Format::EacRgSigned, data, width, height, pitch, image)
 }
 
 // Reads a BC1 picture without alpha.
@@ -288,7 +288,7 @@ pub extern "C" fn yalivucu_decode_bc1(
         (λ a. ReadsPicture Format.Bc1 (now («data» .entry)) (sized width height) (now (image .entry)) a (now (image .exit)))
         r ⌝ }
 {
-    told::read(Format::Bc1, data, width, height, width, image)
+    pictures::read(Format::Bc1, data, width, height, width, image)
 }
 
 // The same of a picture with a pitch.
@@ -304,7 +304,7 @@ pub extern "C" fn yalivucu_decode_bc1_pitched(
         (λ a. ReadsPicture Format.Bc1 (now («data» .entry)) (pitched width height pitch) (now (image .entry)) a (now (image .exit)))
         r ⌝ }
 {
-    told::read(Format::Bc1, data, width, height, pitch, image)
+    pictures::read(Format::Bc1, data, width, height, pitch, image)
 }
 
 // Reads a BC1 picture with one bit of alpha.
@@ -319,7 +319,7 @@ pub extern "C" fn yalivucu_decode_bc1a(
         (λ a. ReadsPicture Format.Bc1Alpha (now («data» .entry)) (sized width height) (now (image .entry)) a (now (image .exit)))
         r ⌝ }
 {
-    told::read(Format::Bc1Alpha, data, width, height, width, image)
+    pictures::read(Format::Bc1Alpha, data, width, height, width, image)
 }
 
 // The same of a picture with a pitch.
@@ -335,7 +335,7 @@ pub extern "C" fn yalivucu_decode_bc1a_pitched(
         (λ a. ReadsPicture Format.Bc1Alpha (now («data» .entry)) (pitched width height pitch) (now (image .entry)) a (now (image .exit)))
         r ⌝ }
 {
-    told::read(Format::Bc1Alpha, data, width, height, pitch, image)
+    pictures::read(Format::Bc1Alpha, data, width, height, pitch, image)
 }
 
 // Reads a BC3 picture.
@@ -350,7 +350,7 @@ pub extern "C" fn yalivucu_decode_bc3(
         (λ a. ReadsPicture Format.Bc3 (now («data» .entry)) (sized width height) (now (image .entry)) a (now (image .exit)))
         r ⌝ }
 {
-    told::read(Format::Bc3, data, width, height, width, image)
+    pictures::read(Format::Bc3, data, width, height, width, image)
 }
 
 // The same of a picture with a pitch.
@@ -366,7 +366,7 @@ pub extern "C" fn yalivucu_decode_bc3_pitched(
         (λ a. ReadsPicture Format.Bc3 (now («data» .entry)) (pitched width height pitch) (now (image .entry)) a (now (image .exit)))
         r ⌝ }
 {
-    told::read(Format::Bc3, data, width, height, pitch, image)
+    pictures::read(Format::Bc3, data, width, height, pitch, image)
 }
 
 // Reads a BC7 picture.
@@ -381,7 +381,7 @@ pub extern "C" fn yalivucu_decode_bc7(
         (λ a. ReadsPicture Format.Bc7 (now («data» .entry)) (sized width height) (now (image .entry)) a (now (image .exit)))
         r ⌝ }
 {
-    told::read(Format::Bc7, data, width, height, width, image)
+    pictures::read(Format::Bc7, data, width, height, width, image)
 }
 
 // The same of a picture with a pitch.
@@ -397,7 +397,7 @@ pub extern "C" fn yalivucu_decode_bc7_pitched(
         (λ a. ReadsPicture Format.Bc7 (now («data» .entry)) (pitched width height pitch) (now (image .entry)) a (now (image .exit)))
         r ⌝ }
 {
-    told::read(Format::Bc7, data, width, height, pitch, image)
+    pictures::read(Format::Bc7, data, width, height, pitch, image)
 }
 
 // Reads an ETC1 picture that holds no block out of range. Where it refuses for one, `block` is its number; otherwise `block` stays as it
@@ -420,7 +420,7 @@ pub extern "C" fn yalivucu_decode_etc1_strict(
         height: height,
         pitch: width,
     };
-    told::strict(data, pic, image, block)
+    pictures::strict(data, pic, image, block)
 }
 
 // The same of a picture with a pitch.
@@ -443,7 +443,7 @@ pub extern "C" fn yalivucu_decode_etc1_strict_pitched(
         height: height,
         pitch: pitch,
     };
-    told::strict(data, pic, image, block)
+    pictures::strict(data, pic, image, block)
 }
 
 // Reads an ETC2 RGBA1 picture for a viewer that knows ETC2 RGB alone. Where it refuses for a block whose opaque bit is clear, `block` is
@@ -466,7 +466,7 @@ pub extern "C" fn yalivucu_decode_etc2_rgba1_opaque(
         height: height,
         pitch: width,
     };
-    told::opaque(data, pic, image, block)
+    pictures::opaque(data, pic, image, block)
 }
 
 // The same of a picture with a pitch.
@@ -489,7 +489,7 @@ pub extern "C" fn yalivucu_decode_etc2_rgba1_opaque_pitched(
         height: height,
         pitch: pitch,
     };
-    told::opaque(data, pic, image, block)
+    pictures::opaque(data, pic, image, block)
 }
 
 // Reads all eleven bits of an EAC R picture, 0 to 2047, into 16-bit numbers.
@@ -504,7 +504,7 @@ pub extern "C" fn yalivucu_decode_eacr11(
         (λ a. ReadsWhole false 1 (now («data» .entry)) (sized width height) (now (image .entry)) a (now (image .exit)))
         r ⌝ }
 {
-    told::read_whole(false, false, data, width, height, width, image)
+    pictures::read_whole(false, false, data, width, height, width, image)
 }
 
 // The same of a picture with a pitch, in pixels.
@@ -520,7 +520,7 @@ pub extern "C" fn yalivucu_decode_eacr11_pitched(
         (λ a. ReadsWhole false 1 (now («data» .entry)) (pitched width height pitch) (now (image .entry)) a (now (image .exit)))
         r ⌝ }
 {
-    told::read_whole(false, false, data, width, height, pitch, image)
+    pictures::read_whole(false, false, data, width, height, pitch, image)
 }
 
 // The same of a signed EAC R picture, -1023 to 1023: a negative number is in two's complement.
@@ -535,7 +535,7 @@ pub extern "C" fn yalivucu_decode_eacr11_signed(
         (λ a. ReadsWhole true 1 (now («data» .entry)) (sized width height) (now (image .entry)) a (now (image .exit)))
         r ⌝ }
 {
-    told::read_whole(false, true, data, width, height, width, image)
+    pictures::read_whole(false, true, data, width, height, width, image)
 }
 
 // The same of a picture with a pitch, in pixels.
@@ -551,7 +551,7 @@ pub extern "C" fn yalivucu_decode_eacr11_signed_pitched(
         (λ a. ReadsWhole true 1 (now («data» .entry)) (pitched width height pitch) (now (image .entry)) a (now (image .exit)))
         r ⌝ }
 {
-    told::read_whole(false, true, data, width, height, pitch, image)
+    pictures::read_whole(false, true, data, width, height, pitch, image)
 }
 
 // Reads all eleven bits of an EAC RG picture: two numbers to a pixel, red then green.
@@ -566,7 +566,7 @@ pub extern "C" fn yalivucu_decode_eacrg11(
         (λ a. ReadsWhole false 2 (now («data» .entry)) (sized width height) (now (image .entry)) a (now (image .exit)))
         r ⌝ }
 {
-    told::read_whole(true, false, data, width, height, width, image)
+    pictures::read_whole(true, false, data, width, height, width, image)
 }
 
 // The same of a picture with a pitch, in pixels.
@@ -582,7 +582,7 @@ pub extern "C" fn yalivucu_decode_eacrg11_pitched(
         (λ a. ReadsWhole false 2 (now («data» .entry)) (pitched width height pitch) (now (image .entry)) a (now (image .exit)))
         r ⌝ }
 {
-    told::read_whole(true, false, data, width, height, pitch, image)
+    pictures::read_whole(true, false, data, width, height, pitch, image)
 }
 
 // The same of a signed EAC RG picture.
@@ -597,7 +597,7 @@ pub extern "C" fn yalivucu_decode_eacrg11_signed(
         (λ a. ReadsWhole true 2 (now («data» .entry)) (sized width height) (now (image .entry)) a (now (image .exit)))
         r ⌝ }
 {
-    told::read_whole(true, true, data, width, height, width, image)
+    pictures::read_whole(true, true, data, width, height, width, image)
 }
 
 // The same of a picture with a pitch, in pixels.
@@ -613,7 +613,7 @@ pub extern "C" fn yalivucu_decode_eacrg11_signed_pitched(
         (λ a. ReadsWhole true 2 (now («data» .entry)) (pitched width height pitch) (now (image .entry)) a (now (image .exit)))
         r ⌝ }
 {
-    told::read_whole(true, true, data, width, height, pitch, image)
+    pictures::read_whole(true, true, data, width, height, pitch, image)
 }
 
 // Reads an ETC1 block of 8 bytes into the elements 0 to 15.

@@ -9,8 +9,8 @@ use denote.Ref.{now}
 use Rattle.rules.specs.Answers.{said}
 use Rattle.answer_numbers.specs.Value.{hasValue}
 use borrow.Author.Needs.{needs}
-use Rattle.capi.proofs.told.handed.Statement.{statement}
-use Rattle.capi.proofs.told.handed.Tie as tie
+use Rattle.capi.proofs.pictures.handed.Statement.{statement}
+use Rattle.capi.proofs.pictures.handed.Tie as tie
 
 -- the value behind a number, whatever stood there; and where there is none, what stood there
 value : (l : List ℕ) (stood : ℕ) → hasValue l ≡ true → getD l 1 0 ≡ getD l 1 stood

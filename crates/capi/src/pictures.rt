@@ -7,7 +7,7 @@ ghost use Rattle.rules.specs.Places.{pitched};
 ghost use Rattle.rules.specs.Readers.{ReadsPicture, ReadsStrict, ReadsOpaque};
 ghost use Rattle.rules.specs.Whole.{ReadsWhole};
 ghost use Rattle.whole.specs.Lanes.{lanes};
-ghost use Rattle.capi.specs.told.Told.{Told, answerNumber, blockOr};
+ghost use Rattle.capi.specs.pictures.Told.{Told, answerNumber, blockOr};
 
 // Reads a picture of any format and pitch.
 pub fn read(
