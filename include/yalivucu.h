@@ -27,16 +27,18 @@
  *   3  refused: image_len is less than (height - 1) * pitch + width, which is width * height where
  *      there is no gap (and 0 where a side is 0), or out_len or tile_len less than 16, or counts_len less than
  *      the census has counts.
- *   4  refused by yalivucu_decode_etc1_strict alone: a block's base plus step is out of range.
+ *   4  refused by yalivucu_decode_etc1_strict and its _pitched twin alone: a block's base plus step is
+ *      out of range.
  *   5  refused: the channel is above 3.
- *   6  refused by yalivucu_decode_etc1_strict alone: there are more bytes than the blocks need. Every
- *      other reader ignores what follows its blocks.
+ *   6  refused by yalivucu_decode_etc1_strict and its _pitched twin alone: there are more bytes than the
+ *      blocks need. Every other reader ignores what follows its blocks.
  *   7  refused, of a sheet: a record is cut short, or there are no bytes at all.
  *   8  refused: the first record is not of kind 1, not 9 bytes long, or its format is above 7;
  *      of the writer: the format is above 7.
  *   9  refused: a record of another kind, a second one of kind 1 included.
  *  10  refused: no record of blocks, a second one, or blocks that are not of the exact length.
- *  11  refused by yalivucu_decode_etc2_rgba1_opaque alone: a block's opaque bit is clear.
+ *  11  refused by yalivucu_decode_etc2_rgba1_opaque and its _pitched twin alone: a block's opaque bit is
+ *      clear.
  *  12  refused: the pitch is below the width.
  *  13  refused, of degrees: a low or level of the legend does not lie in -720 to 720, or a step not in
  *      -8 to 8, or the legend is of no kind.
@@ -265,7 +267,8 @@ uint32_t yalivucu_write_sheet(size_t format, size_t width, size_t height, const 
  * the image again: with answer 0 it painted *painted blocks and did not use the last *unused of its
  * bytes, which lie behind the last block; too short an image is answered 3, and then nothing is
  * taken or changed, *painted is 0 and *unused is bytes_len. The end is 0 where every block is
- * painted and 2 where not; what is painted stays. Where the image comes back each time as it was
+ * painted and 2 where not; what is painted stays. After a start that was refused with 1 or 12 the
+ * pieces and the end get that answer again. Where the image comes back each time as it was
  * left, neither the picture nor the answers' total depend on where the bytes were cut.
  *
  * Every content of the state is a state: a spoilt one gets another picture, or is answered 1, 12, 3

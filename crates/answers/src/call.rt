@@ -86,65 +86,65 @@ fn picture(number: u32, data: &[u8], width: usize, height: usize, image: &mut [u
         return channels(number, data, width, height, image);
     }
     if number == 13 {
-        return etc::decode_etc2_rgba1_opaque(data, width, height, image);
+        return readers::decode_etc2_rgba1_opaque(data, width, height, image);
     }
-    etc::decode_etc1_strict(data, width, height, image)
+    readers::decode_etc1_strict(data, width, height, image)
 }
 
 fn colours(number: u32, data: &[u8], width: usize, height: usize, image: &mut [u32]) -> Answer {
     match number {
-        0 => etc::decode_etc1(data, width, height, image),
-        1 => etc::decode_etc2_rgb(data, width, height, image),
-        2 => etc::decode_etc2_rgba1(data, width, height, image),
-        _ => etc::decode_etc2_rgba8(data, width, height, image),
+        0 => readers::decode_etc1(data, width, height, image),
+        1 => readers::decode_etc2_rgb(data, width, height, image),
+        2 => readers::decode_etc2_rgba1(data, width, height, image),
+        _ => readers::decode_etc2_rgba8(data, width, height, image),
     }
 }
 
 fn channels(number: u32, data: &[u8], width: usize, height: usize, image: &mut [u32]) -> Answer {
     match number {
-        4 => etc::decode_eacr(data, width, height, image),
-        5 => etc::decode_eacr_signed(data, width, height, image),
-        6 => etc::decode_eacrg(data, width, height, image),
-        _ => etc::decode_eacrg_signed(data, width, height, image),
+        4 => readers::decode_eacr(data, width, height, image),
+        5 => readers::decode_eacr_signed(data, width, height, image),
+        6 => readers::decode_eacrg(data, width, height, image),
+        _ => readers::decode_eacrg_signed(data, width, height, image),
     }
 }
 
 fn desktop(number: u32, data: &[u8], width: usize, height: usize, image: &mut [u32]) -> Answer {
     match number {
-        34 => etc::decode_bc1(data, width, height, image),
-        35 => etc::decode_bc1a(data, width, height, image),
-        36 => etc::decode_bc3(data, width, height, image),
-        _ => etc::decode_bc7(data, width, height, image),
+        34 => readers::decode_bc1(data, width, height, image),
+        35 => readers::decode_bc1a(data, width, height, image),
+        36 => readers::decode_bc3(data, width, height, image),
+        _ => readers::decode_bc7(data, width, height, image),
     }
 }
 
 fn colour_block(number: u32, data: &[u8], image: &mut [u32]) -> Answer {
     match number {
-        16 => etc::decode_etc1_block(data, image),
-        17 => etc::decode_etc2_rgb_block(data, image),
-        18 => etc::decode_etc2_rgba1_block(data, image),
-        19 => etc::decode_etc2_a8_block(data, image),
-        _ => etc::decode_etc2_rgba8_block(data, image),
+        16 => readers::decode_etc1_block(data, image),
+        17 => readers::decode_etc2_rgb_block(data, image),
+        18 => readers::decode_etc2_rgba1_block(data, image),
+        19 => readers::decode_etc2_a8_block(data, image),
+        _ => readers::decode_etc2_rgba8_block(data, image),
     }
 }
 
 fn channel_block(number: u32, channel: usize, data: &[u8], image: &mut [u32]) -> Answer {
     match number {
-        21 => etc::decode_eac_block(data, channel, image),
-        22 => etc::decode_eac_signed_block(data, channel, image),
-        23 => etc::decode_eacr_block(data, image),
-        24 => etc::decode_eacr_signed_block(data, image),
-        25 => etc::decode_eacrg_block(data, image),
-        _ => etc::decode_eacrg_signed_block(data, image),
+        21 => readers::decode_eac_block(data, channel, image),
+        22 => readers::decode_eac_signed_block(data, channel, image),
+        23 => readers::decode_eacr_block(data, image),
+        24 => readers::decode_eacr_signed_block(data, image),
+        25 => readers::decode_eacrg_block(data, image),
+        _ => readers::decode_eacrg_signed_block(data, image),
     }
 }
 
 fn desktop_block(number: u32, channel: usize, data: &[u8], image: &mut [u32]) -> Answer {
     match number {
-        27 => etc::decode_bc1_block(data, image),
-        28 => etc::decode_bc1a_block(data, image),
-        29 => etc::decode_bc3_block(data, image),
-        30 => etc::decode_bc3_alpha(data, channel, image),
-        _ => etc::decode_bc7_block(data, image),
+        27 => readers::decode_bc1_block(data, image),
+        28 => readers::decode_bc1a_block(data, image),
+        29 => readers::decode_bc3_block(data, image),
+        30 => readers::decode_bc3_alpha(data, channel, image),
+        _ => readers::decode_bc7_block(data, image),
     }
 }

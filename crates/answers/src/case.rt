@@ -40,5 +40,5 @@ pub fn answered(
         m,
     );
     wire::pack(image, m, shown);
-    wire::spelled(etc::number(answer), wire::block(answer))
+    wire::spelled(readers::number(answer), wire::block(answer))
 }

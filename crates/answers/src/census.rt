@@ -4,7 +4,7 @@ use rules::RgbCensus;
 use rules::Rgba1Census;
 
 pub fn rgb(data: &[u8], width: usize, height: usize, image: &mut [u32]) -> Answer {
-    match etc::census_etc2_rgb(data, width, height) {
+    match readers::census_etc2_rgb(data, width, height) {
         RgbCensus::TooLarge => Answer::TooLarge,
         RgbCensus::ShortData => Answer::ShortData,
         RgbCensus::Counted(c) => {
@@ -15,7 +15,7 @@ pub fn rgb(data: &[u8], width: usize, height: usize, image: &mut [u32]) -> Answe
 }
 
 pub fn rgba1(data: &[u8], width: usize, height: usize, image: &mut [u32]) -> Answer {
-    match etc::census_etc2_rgba1(data, width, height) {
+    match readers::census_etc2_rgba1(data, width, height) {
         Rgba1Census::TooLarge => Answer::TooLarge,
         Rgba1Census::ShortData => Answer::ShortData,
         Rgba1Census::Counted(c) => {

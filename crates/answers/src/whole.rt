@@ -48,9 +48,9 @@ fn widened(values: &[u16], image: &mut [u32]) {
 
 fn read(number: u32, data: &[u8], pic: Picture, values: &mut [u16]) -> Answer {
     match number {
-        9 => etc::decode_eacr11_pitched(data, pic, values),
-        10 => etc::decode_eacr11_signed_pitched(data, pic, values),
-        11 => etc::decode_eacrg11_pitched(data, pic, values),
-        _ => etc::decode_eacrg11_signed_pitched(data, pic, values),
+        9 => readers::decode_eacr11_pitched(data, pic, values),
+        10 => readers::decode_eacr11_signed_pitched(data, pic, values),
+        11 => readers::decode_eacrg11_pitched(data, pic, values),
+        _ => readers::decode_eacrg11_signed_pitched(data, pic, values),
     }
 }

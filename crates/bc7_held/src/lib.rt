@@ -1,6 +1,8 @@
 // A whole BC7 block through the bit reader: sixteen reads of eight bits. It shows what the fast reader shows, and takes longer.
+mod bits;
+
+use bc7::rest::Rest;
 use bits::BitReader;
-use rest::Rest;
 use rules::Answer;
 use rules::Bits;
 ghost use mathlib.Core.Path.{_≡_};

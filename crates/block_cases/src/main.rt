@@ -8,10 +8,10 @@ fn read(reader: u8, channel: usize, data: &[u8], image: &mut [u32]) -> Answer {
         return colour(reader, data, image);
     }
     if reader == 5 {
-        return etc::decode_eac_block(data, channel, image);
+        return readers::decode_eac_block(data, channel, image);
     }
     if reader == 6 {
-        return etc::decode_eac_signed_block(data, channel, image);
+        return readers::decode_eac_signed_block(data, channel, image);
     }
     if reader < 11 {
         return red_and_green(reader, data, image);
@@ -22,32 +22,32 @@ fn read(reader: u8, channel: usize, data: &[u8], image: &mut [u32]) -> Answer {
 // Readers 0 to 4.
 fn colour(reader: u8, data: &[u8], image: &mut [u32]) -> Answer {
     match reader {
-        0 => etc::decode_etc1_block(data, image),
-        1 => etc::decode_etc2_rgb_block(data, image),
-        2 => etc::decode_etc2_rgba1_block(data, image),
-        3 => etc::decode_etc2_a8_block(data, image),
-        _ => etc::decode_etc2_rgba8_block(data, image),
+        0 => readers::decode_etc1_block(data, image),
+        1 => readers::decode_etc2_rgb_block(data, image),
+        2 => readers::decode_etc2_rgba1_block(data, image),
+        3 => readers::decode_etc2_a8_block(data, image),
+        _ => readers::decode_etc2_rgba8_block(data, image),
     }
 }
 
 // Readers 7 to 10.
 fn red_and_green(reader: u8, data: &[u8], image: &mut [u32]) -> Answer {
     match reader {
-        7 => etc::decode_eacr_block(data, image),
-        8 => etc::decode_eacr_signed_block(data, image),
-        9 => etc::decode_eacrg_block(data, image),
-        _ => etc::decode_eacrg_signed_block(data, image),
+        7 => readers::decode_eacr_block(data, image),
+        8 => readers::decode_eacr_signed_block(data, image),
+        9 => readers::decode_eacrg_block(data, image),
+        _ => readers::decode_eacrg_signed_block(data, image),
     }
 }
 
 // Readers 11 to 15.
 fn desktop(reader: u8, channel: usize, data: &[u8], image: &mut [u32]) -> Answer {
     match reader {
-        11 => etc::decode_bc1_block(data, image),
-        12 => etc::decode_bc1a_block(data, image),
-        13 => etc::decode_bc3_block(data, image),
-        14 => etc::decode_bc3_alpha(data, channel, image),
-        _ => etc::decode_bc7_block(data, image),
+        11 => readers::decode_bc1_block(data, image),
+        12 => readers::decode_bc1a_block(data, image),
+        13 => readers::decode_bc3_block(data, image),
+        14 => readers::decode_bc3_alpha(data, channel, image),
+        _ => readers::decode_bc7_block(data, image),
     }
 }
 

@@ -1,8 +1,15 @@
 // The formats: blocks that stand beside each other in a picture, painted one after another, and the sixteen pixels of one block. Each
 // kind of block has one caller, its own loop, so that its pixels go from the registers into the image (docs/PERFORMANCE.md); one block
 // alone is a picture of 4 by 4.
+use bc::bc1;
+use bc::bc3;
+use eac::values;
+use etc_alpha::channel;
+use etc_colour::etc2;
+use pixel::place;
 use rules::Format;
 use rules::Picture;
+use tables::consts;
 ghost use mathlib.Core.Path.{_≡_};
 ghost use mathlib.Core.Bool.{true, false};
 ghost use Prim.Native.Nat.{ℕ, _+_, _*_, _≤_};
@@ -14,9 +21,9 @@ ghost use Rattle.rules.specs.Desktop.{bc1Pixel, bc3Pixel};
 ghost use Rattle.rules.specs.Bc7.{bc7Pixel};
 ghost use Rattle.rules.specs.Formats.{sizeOf, showsOf};
 ghost use Rattle.laws.specs.Painted.{Painted};
-ghost use Rattle.consts.specs.Tables.{signedSteps};
-ghost use Rattle.channel.specs.Alphas.{eightAlphas};
-ghost use Rattle.place.specs.Tile.{InTile, Room, numberIn};
+ghost use Rattle.tables.specs.consts.Tables.{signedSteps};
+ghost use Rattle.etc_alpha.specs.channel.Alphas.{eightAlphas};
+ghost use Rattle.pixel.specs.place.Tile.{InTile, Room, numberIn};
 ghost use Rattle.blocks.specs.Run.{Whole, PaintsRow};
 ghost use Rattle.blocks.specs.Colour.{colourSize, coloursFrom, colourShows};
 

@@ -15,7 +15,7 @@ use Rattle.rules.specs.declared.Answer.the-variants.{Done, ShortImage}
 use Rattle.rules.specs.declared.Picture.{Picture}
 use Rattle.laws.proofs.Judged.{Clear, numbered, all-pass, passed, halted}
 use Rattle.laws.proofs.Outcome.{unchanged, done}
-use Rattle.told.specs.Told.{Told}
+use Rattle.capi.specs.pictures.Told.{Told}
 use Rattle.lay.specs.Lays.{laid, Lays}
 use Rattle.capi.specs.Census.{roomChecks, CountsInto}
 

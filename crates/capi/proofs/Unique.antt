@@ -17,7 +17,7 @@ use Rattle.rules.specs.declared.Sheet.{Sheet}
 use Rattle.rules.specs.declared.Written.{Written}
 use Rattle.laws.proofs.Unique.{no-second-outcome}
 use Rattle.sheet.proofs.Unique.{one-head, one-written}
-use Rattle.told.specs.Told.{Told, answerNumber, blockOr}
+use Rattle.capi.specs.pictures.Told.{Told, answerNumber, blockOr}
 use Rattle.capi.specs.Told.{headOr, HeadTold, WriterTold, BakingTold}
 
 module _ (verdict after old : List ℕ) where

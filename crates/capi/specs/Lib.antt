@@ -1,2 +1,5 @@
 pub mod Told
 pub mod Census
+pub mod pictures
+pub mod pieces_lent
+pub mod degrees_lent

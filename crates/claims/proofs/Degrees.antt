@@ -20,9 +20,9 @@ use Rattle.rules.specs.declared.Legend.the-variants.{Level, Line, Bend}
 use Rattle.rules.specs.declared.Reading.{Reading}
 use Rattle.rules.specs.declared.Reply.{Reply}
 use Rattle.rules.specs.declared.Reply.the-variants.{Read, NotMeasured, BadLegend, BadDigit, BadMeasurement}
-use Rattle.floats.proofs.Predicted.{predicted-within}
-use Rattle.floats.proofs.Within.{less-within}
-use Rattle.floats.proofs.Unique.{same-float, one-reply}
+use Rattle.degrees.proofs.floats.Predicted.{predicted-within}
+use Rattle.degrees.proofs.floats.Within.{less-within}
+use Rattle.degrees.proofs.floats.Unique.{same-float, one-reply}
 
 -- no second answer satisfies the promise
 pub degrees-determined :

@@ -1,4 +1,8 @@
 // From colour to degrees: what a legend predicts at a pixel, beside what was measured.
+pub mod floats;
+mod legend;
+mod ranges;
+
 use rules::Legend;
 use rules::Reading;
 use rules::Reply;

@@ -1,5 +1,7 @@
 // Whole pictures: the checks, then every block in its place, said once for all formats; and the readers of older viewers, which look
 // at every block before they paint one, said once for both.
+pub mod paint;
+
 use guard::Viewer;
 use rules::Answer;
 use rules::Format;

@@ -13,7 +13,7 @@ fn read(reader: usize, data: &[u8], width: usize, height: usize, image: &mut [u3
         return channels(reader, data, width, height, image);
     }
     if reader == 8 {
-        return etc::decode_etc1_strict(data, width, height, image);
+        return readers::decode_etc1_strict(data, width, height, image);
     }
     desktop(reader, data, width, height, image)
 }
@@ -21,30 +21,30 @@ fn read(reader: usize, data: &[u8], width: usize, height: usize, image: &mut [u3
 // Readers 9 to 12.
 fn desktop(reader: usize, data: &[u8], width: usize, height: usize, image: &mut [u32]) -> Answer {
     match reader {
-        9 => etc::decode_bc1(data, width, height, image),
-        10 => etc::decode_bc1a(data, width, height, image),
-        11 => etc::decode_bc3(data, width, height, image),
-        _ => etc::decode_bc7(data, width, height, image),
+        9 => readers::decode_bc1(data, width, height, image),
+        10 => readers::decode_bc1a(data, width, height, image),
+        11 => readers::decode_bc3(data, width, height, image),
+        _ => readers::decode_bc7(data, width, height, image),
     }
 }
 
 // Readers 0 to 3.
 fn colour(reader: usize, data: &[u8], width: usize, height: usize, image: &mut [u32]) -> Answer {
     match reader {
-        0 => etc::decode_etc1(data, width, height, image),
-        1 => etc::decode_etc2_rgb(data, width, height, image),
-        2 => etc::decode_etc2_rgba1(data, width, height, image),
-        _ => etc::decode_etc2_rgba8(data, width, height, image),
+        0 => readers::decode_etc1(data, width, height, image),
+        1 => readers::decode_etc2_rgb(data, width, height, image),
+        2 => readers::decode_etc2_rgba1(data, width, height, image),
+        _ => readers::decode_etc2_rgba8(data, width, height, image),
     }
 }
 
 // Readers 4 to 7.
 fn channels(reader: usize, data: &[u8], width: usize, height: usize, image: &mut [u32]) -> Answer {
     match reader {
-        4 => etc::decode_eacr(data, width, height, image),
-        5 => etc::decode_eacr_signed(data, width, height, image),
-        6 => etc::decode_eacrg(data, width, height, image),
-        _ => etc::decode_eacrg_signed(data, width, height, image),
+        4 => readers::decode_eacr(data, width, height, image),
+        5 => readers::decode_eacr_signed(data, width, height, image),
+        6 => readers::decode_eacrg(data, width, height, image),
+        _ => readers::decode_eacrg_signed(data, width, height, image),
     }
 }
 

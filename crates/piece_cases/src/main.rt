@@ -53,19 +53,19 @@ fn format_of(n: usize) -> Format {
 // What the plain reader of a format makes of the same bytes.
 fn plain_colour(n: usize, data: &[u8], pic: Picture, image: &mut [u32]) -> Answer {
     match n {
-        0 => etc::decode_etc1_pitched(data, pic, image),
-        1 => etc::decode_etc2_rgb_pitched(data, pic, image),
-        2 => etc::decode_etc2_rgba1_pitched(data, pic, image),
-        _ => etc::decode_etc2_rgba8_pitched(data, pic, image),
+        0 => readers::decode_etc1_pitched(data, pic, image),
+        1 => readers::decode_etc2_rgb_pitched(data, pic, image),
+        2 => readers::decode_etc2_rgba1_pitched(data, pic, image),
+        _ => readers::decode_etc2_rgba8_pitched(data, pic, image),
     }
 }
 
 fn plain_channels(n: usize, data: &[u8], pic: Picture, image: &mut [u32]) -> Answer {
     match n {
-        4 => etc::decode_eacr_pitched(data, pic, image),
-        5 => etc::decode_eacr_signed_pitched(data, pic, image),
-        6 => etc::decode_eacrg_pitched(data, pic, image),
-        _ => etc::decode_eacrg_signed_pitched(data, pic, image),
+        4 => readers::decode_eacr_pitched(data, pic, image),
+        5 => readers::decode_eacr_signed_pitched(data, pic, image),
+        6 => readers::decode_eacrg_pitched(data, pic, image),
+        _ => readers::decode_eacrg_signed_pitched(data, pic, image),
     }
 }
 
@@ -129,11 +129,11 @@ fn least(a: usize, b: usize) -> usize
 
 // 1 where an answer is a refusal.
 fn refusal(answer: Answer) -> usize {
-    if etc::number(answer) == 0 { 0 } else { 1 }
+    if readers::number(answer) == 0 { 0 } else { 1 }
 }
 
 fn begin(f: Format, image: &[u32]) -> Course {
-    let started = etc::start_pieces(f, description(), image);
+    let started = readers::start_pieces(f, description(), image);
     let progress = started.progress;
     let answer = started.answer;
     Course {
@@ -151,7 +151,7 @@ fn follow(c: Course, n: usize, data: &[u8], image: &mut [u32], shown: &[u32; 29]
     let end = least(sum(c.at, n), data.len());
     let at = least(c.at, end);
     let state = c.progress;
-    let taken = etc::take_piece(state, &data[at..end], image);
+    let taken = readers::take_piece(state, &data[at..end], image);
     let after = taken.progress;
     let answer = taken.answer;
     let painted = sum(c.painted, taken.painted);
@@ -168,7 +168,7 @@ fn follow(c: Course, n: usize, data: &[u8], image: &mut [u32], shown: &[u32; 29]
 // A course that has ended, added to the sums.
 fn added(c: Course, sums: Sums) -> Sums {
     let state = c.progress;
-    let refused = sum(c.refused, refusal(etc::end_pieces(state)));
+    let refused = sum(c.refused, refusal(readers::end_pieces(state)));
     Sums {
         courses: sum(sums.courses, 1),
         painted: sum(sums.painted, c.painted),
@@ -359,8 +359,8 @@ fn answered(width: usize, height: usize, pitch: usize, image: &mut [u32]) {
         pitch: pitch,
     };
     let data = [0u8; 3];
-    let started = etc::start_pieces(Format::Etc1, pic, image);
-    let taken = etc::take_piece(started.progress, &data, image);
+    let started = readers::start_pieces(Format::Etc1, pic, image);
+    let taken = readers::take_piece(started.progress, &data, image);
     let starts = started.answer;
     let takes = taken.answer;
     printing::say_answer(starts);
@@ -369,7 +369,7 @@ fn answered(width: usize, height: usize, pitch: usize, image: &mut [u32]) {
     printing::say(b" unused ");
     printing::say_number(taken.unused);
     printing::say(b" ");
-    printing::say_answer(etc::end_pieces(taken.progress));
+    printing::say_answer(readers::end_pieces(taken.progress));
     printing::say(b"\n");
 }
 

@@ -1,6 +1,9 @@
 // A picture whose bytes arrive in pieces of any length: each block is painted as soon as it is whole, and between two pieces at most
 // 15 bytes are kept. The state goes in by value and comes back. Every value of it is a state, so a forged one is answered like any
 // other, and nothing is asked of the caller.
+mod joined;
+pub mod kept;
+
 use rules::Answer;
 use rules::Format;
 use rules::Picture;
@@ -12,7 +15,7 @@ ghost use Prim.Native.Nat.{_≤_, min};
 ghost use lib.ListN.{length};
 ghost use Rattle.rules.specs.Answers.{said, limit, verdict};
 ghost use Rattle.rules.specs.Pieces.{startChecks, Starts, Takes, Ends};
-ghost use Rattle.place.specs.Tile.{Room};
+ghost use Rattle.pixel.specs.place.Tile.{Room};
 ghost use Rattle.pieces.specs.Took.{Took};
 
 // The checks of starting and of each piece: 1, 12, 3.

@@ -15,7 +15,7 @@ fn read(reader: usize, data: &[u8], pic: Picture, image: &mut [u32]) -> Answer {
         return channels(reader, data, pic, image);
     }
     if reader == 8 {
-        return etc::decode_etc1_strict_pitched(data, pic, image);
+        return readers::decode_etc1_strict_pitched(data, pic, image);
     }
     desktop(reader, data, pic, image)
 }
@@ -23,28 +23,28 @@ fn read(reader: usize, data: &[u8], pic: Picture, image: &mut [u32]) -> Answer {
 // Readers 9 to 12.
 fn desktop(reader: usize, data: &[u8], pic: Picture, image: &mut [u32]) -> Answer {
     match reader {
-        9 => etc::decode_bc1_pitched(data, pic, image),
-        10 => etc::decode_bc1a_pitched(data, pic, image),
-        11 => etc::decode_bc3_pitched(data, pic, image),
-        _ => etc::decode_bc7_pitched(data, pic, image),
+        9 => readers::decode_bc1_pitched(data, pic, image),
+        10 => readers::decode_bc1a_pitched(data, pic, image),
+        11 => readers::decode_bc3_pitched(data, pic, image),
+        _ => readers::decode_bc7_pitched(data, pic, image),
     }
 }
 
 fn colour(reader: usize, data: &[u8], pic: Picture, image: &mut [u32]) -> Answer {
     match reader {
-        0 => etc::decode_etc1_pitched(data, pic, image),
-        1 => etc::decode_etc2_rgb_pitched(data, pic, image),
-        2 => etc::decode_etc2_rgba1_pitched(data, pic, image),
-        _ => etc::decode_etc2_rgba8_pitched(data, pic, image),
+        0 => readers::decode_etc1_pitched(data, pic, image),
+        1 => readers::decode_etc2_rgb_pitched(data, pic, image),
+        2 => readers::decode_etc2_rgba1_pitched(data, pic, image),
+        _ => readers::decode_etc2_rgba8_pitched(data, pic, image),
     }
 }
 
 fn channels(reader: usize, data: &[u8], pic: Picture, image: &mut [u32]) -> Answer {
     match reader {
-        4 => etc::decode_eacr_pitched(data, pic, image),
-        5 => etc::decode_eacr_signed_pitched(data, pic, image),
-        6 => etc::decode_eacrg_pitched(data, pic, image),
-        _ => etc::decode_eacrg_signed_pitched(data, pic, image),
+        4 => readers::decode_eacr_pitched(data, pic, image),
+        5 => readers::decode_eacr_signed_pitched(data, pic, image),
+        6 => readers::decode_eacrg_pitched(data, pic, image),
+        _ => readers::decode_eacrg_signed_pitched(data, pic, image),
     }
 }
 

@@ -20,10 +20,10 @@ fn say_element(element: u32) {
 
 // Prints an answer's number, and the block that refusal 4 or 11 names.
 pub fn say_answer(answer: Answer) {
-    say_number(spoken::number(answer) as usize);
-    if spoken::names(answer) {
+    say_number(answer_numbers::number(answer) as usize);
+    if answer_numbers::names(answer) {
         say(b" block ");
-        say_number(spoken::block_or(answer, 0));
+        say_number(answer_numbers::block_or(answer, 0));
     }
 }
 

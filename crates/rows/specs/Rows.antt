@@ -10,7 +10,7 @@ use Rattle.rules.specs.Readers.{ReadsPicture}
 use Rattle.rules.specs.declared.Format.{Format}
 use Rattle.rules.specs.declared.Answer.{Answer}
 use Rattle.rules.specs.declared.Answer.the-variants.{Done}
-use Rattle.strips.specs.Rows.{high, rowBytes, rowPixels}
+use Rattle.bands.specs.Rows.{high, rowBytes, rowPixels}
 
 -- A reader of row j of blocks: a picture reader of that row alone, which promises as much as any; and where its bytes are
 -- those of row j of some picture and it accepts, what it paints in front is what that row shows in the whole picture.

@@ -18,7 +18,7 @@ pub fn read_row(
     requires { ⌜ j * 4 < height ⌝ }
     ensures { λ r. ⌜ ReadsRow f (now (bytes .entry)) width height j (now (image .entry)) r (now (image .exit)) ⌝ }
 {
-    let tall = strips::high(height, j);
+    let tall = bands::high(height, j);
     let row = Picture {
         width: width,
         height: tall,

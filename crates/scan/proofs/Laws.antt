@@ -17,14 +17,14 @@ use Rattle.rules.specs.Guards.{Guard}
 use Rattle.rules.specs.declared.Answer.{Answer}
 use Rattle.rules.specs.declared.Answer.the-variants.{Done, ShortData}
 use Rattle.laws.proofs.Guards.{finds, finds-none}
-use Rattle.place.proofs.Grid.{wide}
+use Rattle.pixel.proofs.place.Grid.{wide}
 use Rattle.guard.specs.Viewers.{guardOf}
 use Rattle.guard.specs.declared.Viewer.{Viewer}
 use Rattle.guard.specs.declared.Viewer.the-variants as viewer
 use Rattle.guard.proofs.Scan.{sound}
 use Rattle.textures.specs.Textures.{fileLimit}
-use Rattle.strips.specs.Rows.{scanned, scannedRow}
-use Rattle.strips.proofs.Scanned.{after-row, settled}
+use Rattle.bands.specs.Rows.{scanned, scannedRow}
+use Rattle.bands.proofs.Scanned.{after-row, settled}
 use Rattle.textures.specs.declared.Texture.{Texture}
 use Rattle.scan.specs.Scan.{isAsked, viewerOf, leftOver, numberOf, ScansRow, Scans, Looked, Judges}
 

@@ -20,7 +20,7 @@ use Rattle.textures.specs.declared.Texture.{Texture}
 use Rattle.guard.specs.Viewers.{guardOf}
 use Rattle.guard.specs.declared.Viewer.{Viewer}
 use Rattle.guard.specs.declared.Viewer.the-variants as viewer
-use Rattle.strips.specs.Rows.{scanned, scannedRow}
+use Rattle.bands.specs.Rows.{scanned, scannedRow}
 
 -- the formats of which an older viewer is asked, and which: one that knows ETC1 alone of ETC1 and RGB, an opaque-only one of RGBA1
 abbrev pub isAsked : Format → Bool

@@ -11,7 +11,7 @@ ghost use lib.ListN.{length};
 ghost use Rattle.rules.specs.Places.{sized};
 ghost use Rattle.rules.specs.Answers.{said};
 ghost use Rattle.textures.specs.Textures.{fileLimit};
-ghost use Rattle.strips.specs.Rows.{scannedRow};
+ghost use Rattle.bands.specs.Rows.{scannedRow};
 ghost use Rattle.guard.specs.Viewers.{guardOf};
 ghost use Rattle.scan.specs.Scan.{isAsked, viewerOf, leftOver, numberOf, ScansRow, Scans, Judges};
 
@@ -42,8 +42,8 @@ fn scan_rows(viewer: Viewer, fd: i32, width: usize, height: usize) -> Answer
     requires { ⌜ (width ≤ fileLimit) × (height ≤ fileLimit) ⌝ }
     ensures { λ r. ⌜ Scans viewer (sized width height) r ⌝ }
 {
-    let n = strips::across(width);
-    let rows = strips::across(height);
+    let n = bands::across(width);
+    let rows = bands::across(height);
     let mut room = io::large_buffer();
     let bytes: &mut [u8] = &mut room;
     let mut j: usize = 0;
@@ -61,7 +61,7 @@ fn scan_rows(viewer: Viewer, fd: i32, width: usize, height: usize) -> Answer
 fn number(answer: Answer) -> u64
     ensures { λ r. ⌜ r ≡ numberOf answer ⌝ }
 {
-    spoken::number(answer) as u64
+    answer_numbers::number(answer) as u64
 }
 
 // Says what a viewer's reader says of a picture: the words follow from the answer alone.
@@ -70,8 +70,8 @@ fn say(viewer: Viewer, answer: Answer, width: usize, height: usize)
 {
     match answer {
         Answer::Done => words::accepted(viewer),
-        Answer::OutOfRange(block) => words::refused_block(viewer, block, strips::across(width)),
-        Answer::NotOpaque(block) => words::refused_block(viewer, block, strips::across(width)),
+        Answer::OutOfRange(block) => words::refused_block(viewer, block, bands::across(width)),
+        Answer::NotOpaque(block) => words::refused_block(viewer, block, bands::across(width)),
         _ => words::refusal(number(answer)),
     }
 }

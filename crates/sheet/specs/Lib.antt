@@ -1,1 +1,5 @@
 pub mod Shown
+pub mod records
+pub mod first
+pub mod later
+pub mod write

@@ -69,9 +69,9 @@ fn read_case(case: &[u8], said: &mut [u8; 512])
     let end = 24 + at_most(488, numbers::little4(case, 16));
     let m = at_most(122, numbers::little4(case, 20));
     let mut image = [0x11111111u32; 122];
-    tell_head(etc::sheet_head(&case[24..end]), said);
-    let answer = etc::read_sheet(&case[24..end], &mut image[..m]);
-    put_word(said, 16, etc::number(answer) as usize);
+    tell_head(readers::sheet_head(&case[24..end]), said);
+    let answer = readers::read_sheet(&case[24..end], &mut image[..m]);
+    put_word(said, 16, readers::number(answer) as usize);
     show(&image, m, said);
 }
 
@@ -83,7 +83,7 @@ fn tell_head(sheet: Sheet, said: &mut [u8; 512]) {
             put_word(said, 12, head.height);
         }
         Sheet::Refused(answer) => {
-            put_word(said, 0, etc::number(answer) as usize);
+            put_word(said, 0, readers::number(answer) as usize);
         }
     }
 }
@@ -105,7 +105,7 @@ fn write_case(case: &[u8], said: &mut [u8; 512])
     let end = 24 + at_most(488, numbers::little4(case, 16));
     let m = at_most(488, numbers::little4(case, 20));
     let mut out = [0xEEu8; 488];
-    let written = etc::write_sheet(
+    let written = readers::write_sheet(
         numbers::little4(case, 4),
         numbers::little4(case, 8),
         numbers::little4(case, 12),
@@ -113,7 +113,7 @@ fn write_case(case: &[u8], said: &mut [u8; 512])
         &mut out[..m],
     );
     let answer = written.answer;
-    put_word(said, 0, etc::number(answer) as usize);
+    put_word(said, 0, readers::number(answer) as usize);
     put_word(said, 16, written.bytes);
     copy(&out, m, said);
 }

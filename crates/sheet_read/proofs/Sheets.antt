@@ -14,9 +14,9 @@ use Rattle.rules.specs.Records.{Records, recordsOf, first, later, kept}
 use Rattle.rules.specs.Sheets.{blockBytes, formatIn, sizeIn, afterHead, walkVerdict, headIn, TellsHead, ReadsSheet}
 use Rattle.sheet.specs.Shown.{walk, Halts, Refuses}
 use Rattle.sheet.proofs.Shown as shown
-use Rattle.sheet_first.specs.Heads.{Headed}
-use Rattle.sheet_first.proofs.Heads.{head-then}
-use Rattle.sheet_later.specs.Follows.{behind, Blocked}
+use Rattle.sheet.specs.first.Heads.{Headed}
+use Rattle.sheet.proofs.first.Heads.{head-then}
+use Rattle.sheet.specs.later.Follows.{behind, Blocked}
 use Rattle.sheet_read.specs.Found.{Sheeted}
 
 -- behind a head within the limit, what follows decides

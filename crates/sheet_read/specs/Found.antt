@@ -5,7 +5,7 @@ use Prim.Native.Nat.{ℕ, _+_, _≤_}
 use lib.ListN.{length, take, drop}
 use Rattle.rules.specs.declared.Head.{Head}
 use Rattle.sheet.specs.Shown.{walk, Refuses, Shown}
-use Rattle.sheet_first.specs.declared.Found as found
+use Rattle.sheet.specs.declared.first.Found as found
 
 -- a sheet without a fault, whose blocks are the n bytes from place s on
 pub record Sheeted (d : List ℕ) (h : Head) (s n : ℕ) : Type 0 where

@@ -2,8 +2,10 @@
 use rules::Answer;
 use rules::Picture;
 use rules::Sheet;
-use sheet_first::Found;
-use sheet_later::Blocks;
+use sheet::first;
+use sheet::first::Found;
+use sheet::later;
+use sheet::later::Blocks;
 ghost use Rattle.rules.specs.Sheets.{TellsHead, ReadsSheet};
 ghost use Rattle.sheet_read.specs.Found.{Finds};
 
@@ -11,10 +13,10 @@ ghost use Rattle.sheet_read.specs.Found.{Finds};
 fn find(d: &[u8]) -> Found
     ensures { λ r. ⌜ Finds (now (d .entry)) r ⌝ }
 {
-    let head = sheet_first::first_record(d);
+    let head = first::first_record(d);
     match head {
         Found::At(h, at, n) => {
-            let blocks = sheet_later::after_head(d, at, n);
+            let blocks = later::after_head(d, at, n);
             match blocks {
                 Blocks::At(start) => Found::At(h, start, n),
                 Blocks::Refused(answer) => Found::Refused(answer),

@@ -117,7 +117,7 @@ pub fn is_case(head: &[u8; 24]) -> bool
 pub fn block(answer: Answer) -> u32
     ensures { λ r. ⌜ r ≡ getD (said answer) 1 0 % 0x100000000 ⌝ }
 {
-    (spoken::block_or(answer, 0) % 0x100000000) as u32
+    (answer_numbers::block_or(answer, 0) % 0x100000000) as u32
 }
 
 // The first eight bytes of an answer: two words, of which the first is below 256.

@@ -207,7 +207,7 @@ fn fault(viewer: Viewer) {
 pub fn refused_block(viewer: Viewer, block: usize, n: usize)
     requires { ⌜ (0 < n) × (block < 0x1000000) ⌝ }
 {
-    let corner = strips::corner_of(block, n);
+    let corner = bands::corner_of(block, n);
     who(viewer);
     tell(b" must not show this picture: block ");
     count(block as u64);

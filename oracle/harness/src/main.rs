@@ -95,6 +95,8 @@ fn compare(options: &Options) -> Result<bool> {
     same &= compare_specimens(options)?;
     same &= examples::of_crate(&options.program)?;
     same &= examples::crate_has_no_such_refusal();
+    same &= examples::modeless_are_refused(&options.program)?;
+    same &= examples::lowest_base_counted();
     same &= census::by_hand(&options.program)?;
     let asked = |reader: &u32| options.only.is_empty() || options.only == readers::name(*reader);
     for reader in readers::PICTURES.into_iter().chain(readers::BLOCKS).chain(readers::CENSUSES).filter(asked) {

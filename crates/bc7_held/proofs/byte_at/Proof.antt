@@ -2,7 +2,7 @@
 -- Assumes nothing.
 use mathlib.Core.Path.{_∙_}
 use denote.Ref.{now}
-use Rattle.bc7_held.proofs.Bits.{value, not-refused}
+use Rattle.bc7_held.proofs.ByteReads.{value, not-refused}
 use borrow.Author.Needs.{needs}
 use Rattle.bc7_held.proofs.byte_at.Statement.{statement}
 use Rattle.bc7_held.proofs.byte_at.Tie as tie

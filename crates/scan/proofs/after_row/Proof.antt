@@ -3,7 +3,7 @@
 use Prim.Native.Nat.{_*_, _≤_}
 use native.Mathlib.Omega.{arith}
 use native.Mathlib.Nat.{mul-le-mul}
-use Rattle.strips.specs.Rows.{scannedRow}
+use Rattle.bands.specs.Rows.{scannedRow}
 use Rattle.scan.proofs.after_row.Statement.{statement}
 use Rattle.scan.proofs.after_row.Tie as tie
 

@@ -2,7 +2,7 @@
 -- Assumes nothing.
 use Prim.Native.Nat.{_-_}
 use denote.Ref.{now}
-use Rattle.sheet_first.specs.Heads.{Headed}
+use Rattle.sheet.specs.first.Heads.{Headed}
 use Rattle.sheet_read.proofs.Sheets.{sheeted, lost}
 use borrow.Author.Needs.{needs}
 use Rattle.sheet_read.proofs.find.Statement.{statement}
