@@ -6,7 +6,7 @@ use mathlib.Core.List.{List, [], _∷_}
 use Prim.Native.Nat.{ℕ, zero, suc, _/_, _%_}
 use lib.Dec.{T}
 use Rattle.rules.specs.Notation.{build}
-use Rattle.rules.specs.Bptc.{two, three, anchorOfTwo, anchorOfThree1, anchorOfThree2, weightsOf, subset, anchor}
+use Rattle.rules.specs.Bptc.{two, three, anchorOfTwo, anchorOfThree1, anchorOfThree2, weightRows, weightsOf, subset, anchor}
 use Rattle.rules.specs.Bc7.{modeTable}
 use Rattle.rules.proofs.Rows.{same}
 
@@ -85,14 +85,10 @@ digits : ℕ → ℕ → ℕ → List ℕ
 digits b zero n = []
 digits b (suc k) n = n % b ∷ digits b k (n / b)
 
--- from partition p on, the subsets of the sixteen pixels
-subsets : ℕ → ℕ → ℕ → List ℕ → Bool
-subsets n b p [] = true
-subsets n b p (w ∷ ws) = same (build 16 (λ i. subset n p i)) (digits b 16 w) && subsets n b (suc p) ws
-
--- the anchors of subset s in the 64 partitions
-anchors : ℕ → ℕ → List ℕ → Bool
-anchors n s l = same (build 64 (λ p. anchor n p s)) l
+-- the rows of a table of partitions
+rowsOf : ℕ → List ℕ → List (List ℕ)
+rowsOf b [] = []
+rowsOf b (w ∷ ws) = digits b 16 w ∷ rowsOf b ws
 
 -- two tables have the same rows
 alike : List (List ℕ) → List (List ℕ) → Bool
@@ -101,17 +97,35 @@ alike [] (y ∷ ys) = false
 alike (x ∷ xs) [] = false
 alike (x ∷ xs) (y ∷ ys) = same x y && alike xs ys
 
+-- every table has the crate's entries, and no more and no fewer
 same-tables : Bool
 same-tables =
-    subsets 2 2 0 partitionsOfTwo
-    && subsets 3 4 0 partitionsOfThree
+    alike two (rowsOf 2 partitionsOfTwo)
+    && alike three (rowsOf 4 partitionsOfThree)
+    && same anchorOfTwo secondOfTwo
+    && same anchorOfThree1 secondOfThree
+    && same anchorOfThree2 thirdOfThree
+    && alike weightRows weights
+    && alike modeTable modes
+
+-- and from partition p on, each is looked up in its own place: the subsets of sixteen pixels, the anchors of subset s, the weights
+subsets : ℕ → ℕ → List (List ℕ) → Bool
+subsets n p [] = true
+subsets n p (r ∷ rs) = same (build 16 (λ i. subset n p i)) r && subsets n (suc p) rs
+
+anchors : ℕ → ℕ → List ℕ → Bool
+anchors n s l = same (build 64 (λ p. anchor n p s)) l
+
+looked-up : Bool
+looked-up =
+    subsets 2 0 (rowsOf 2 partitionsOfTwo)
+    && subsets 3 0 (rowsOf 4 partitionsOfThree)
     && anchors 2 1 secondOfTwo
     && anchors 3 1 secondOfThree
     && anchors 3 2 thirdOfThree
     && alike (weightsOf 2 ∷ weightsOf 3 ∷ weightsOf 4 ∷ []) weights
-    && alike modeTable modes
 
-hold : T same-tables
-unfolding same-tables partitionsOfTwo partitionsOfThree secondOfTwo secondOfThree thirdOfThree weights modes digits subsets anchors alike
-    two three anchorOfTwo anchorOfThree1 anchorOfThree2 subset anchor modeTable
+hold : T (same-tables && looked-up)
+unfolding same-tables looked-up partitionsOfTwo partitionsOfThree secondOfTwo secondOfThree thirdOfThree weights modes digits rowsOf
+    subsets anchors alike two three anchorOfTwo anchorOfThree1 anchorOfThree2 subset anchor modeTable
 hold = tt
