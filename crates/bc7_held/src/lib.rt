@@ -1,5 +1,5 @@
 // A whole BC7 block through the bit reader: sixteen reads of eight bits. It shows what the fast reader shows, and takes longer.
-mod bits;
+pub mod bits;
 
 use bc7::rest::Rest;
 use bits::BitReader;
