@@ -1,5 +1,5 @@
 // Counts handed over in a room that a caller from C has lent.
-ghost use Rattle.lay.specs.Lays.{Lays};
+ghost use Rattle.capi.specs.census_lent.Lays.{Lays};
 
 // Lays counts into the room lent for them, where there is enough.
 pub fn lay(counts: &[usize], room: &mut [usize]) -> u32

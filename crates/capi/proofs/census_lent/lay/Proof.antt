@@ -1,4 +1,4 @@
--- `lay::lay` meets its contract. The loop has laid the counts before i.
+-- `capi::census_lent::lay` meets its contract. The loop has laid the counts before i.
 -- Assumes nothing.
 use mathlib.Core.Path.{_≡_, _∙_, refl, ap}
 use mathlib.Core.List.{_++_}
@@ -9,9 +9,9 @@ use borrow.Author.Tests.{lt-ltb, le-ltb}
 use denote.Ref.{now}
 use lib.ListN.{length, take, drop}
 use lib.Seq.{take-length}
-use Rattle.lay.proofs.Laid.{next, long}
-use Rattle.lay.proofs.lay.Statement.{statement}
-use Rattle.lay.proofs.lay.Tie as tie
+use Rattle.capi.proofs.census_lent.Laid.{next, long}
+use Rattle.capi.proofs.census_lent.lay.Statement.{statement}
+use Rattle.capi.proofs.census_lent.lay.Tie as tie
 
 abbrev Inv-loop : tie.InvT-loop
 Inv-loop counts room₀ i₀ room i = (i ≤ length counts) × (room ≡ take i counts ++ drop i room₀)
