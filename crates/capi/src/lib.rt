@@ -1,6 +1,7 @@
 // The public readers of crates/readers under C names, for `rt staticlib`: a slice is a pointer and a length, and the answer is document 01's
 // number of it. Each owes what the reader that it calls owes, and has no requires; that a C caller's pointers are what the types say,
 // nothing can check. include/yalivucu.h tells a C programmer the same in words.
+mod census_lent;
 mod degrees_lent;
 mod pictures;
 mod pieces_lent;
@@ -765,7 +766,7 @@ pub extern "C" fn yalivucu_census_etc2_rgb(
         RgbCensus::ShortData => 2,
         RgbCensus::Counted(c) => {
             let five = [c.individual, c.differential, c.t, c.h, c.planar];
-            lay::lay(&five, counts)
+            census_lent::lay(&five, counts)
         }
     }
 }
@@ -797,7 +798,7 @@ pub extern "C" fn yalivucu_census_etc2_rgba1(
                 u.h,
                 u.planar,
             ];
-            lay::lay(&eight, counts)
+            census_lent::lay(&eight, counts)
         }
     }
 }

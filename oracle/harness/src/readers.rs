@@ -8,47 +8,64 @@ pub const EACR: u32 = 4;
 pub const EACR_SIGNED: u32 = 5;
 pub const EACRG: u32 = 6;
 pub const EACRG_SIGNED: u32 = 7;
-pub const STRICT: u32 = 8;
+pub const STRICT: u32 = 24;
 /// EAC as whole values of eleven bits, for a program that has those readers.
-pub const WIDE_EACR: u32 = 9;
-pub const WIDE_EACRG: u32 = 11;
-pub const WIDE_EACRG_SIGNED: u32 = 12;
+pub const WIDE_EACR: u32 = 28;
+pub const WIDE_EACRG: u32 = 30;
+pub const WIDE_EACRG_SIGNED: u32 = 31;
 /// RGBA1 for an opaque-only viewer.
-pub const OPAQUE: u32 = 13;
-pub const BC1: u32 = 34;
-pub const BC1A: u32 = 35;
-pub const BC3: u32 = 36;
-pub const BC7: u32 = 37;
+pub const OPAQUE: u32 = 25;
+pub const BC1: u32 = 8;
+pub const BC1A: u32 = 9;
+pub const BC3: u32 = 10;
+pub const BC7: u32 = 11;
 
-pub const BLOCK_ETC1: u32 = 16;
-pub const BLOCK_RGB: u32 = 17;
-pub const BLOCK_RGBA1: u32 = 18;
-pub const BLOCK_A8: u32 = 19;
-pub const BLOCK_RGBA8: u32 = 20;
-pub const BLOCK_EAC: u32 = 21;
-pub const BLOCK_EAC_SIGNED: u32 = 22;
-pub const BLOCK_EACR: u32 = 23;
-pub const BLOCK_EACR_SIGNED: u32 = 24;
-pub const BLOCK_EACRG: u32 = 25;
-pub const BLOCK_EACRG_SIGNED: u32 = 26;
-pub const BLOCK_BC1: u32 = 27;
-pub const BLOCK_BC1A: u32 = 28;
-pub const BLOCK_BC3: u32 = 29;
-pub const BLOCK_BC3_ALPHA: u32 = 30;
-pub const BLOCK_BC7: u32 = 31;
+pub const BLOCK_ETC1: u32 = 64;
+pub const BLOCK_RGB: u32 = 65;
+pub const BLOCK_RGBA1: u32 = 66;
+pub const BLOCK_A8: u32 = 88;
+pub const BLOCK_RGBA8: u32 = 67;
+pub const BLOCK_EAC: u32 = 89;
+pub const BLOCK_EAC_SIGNED: u32 = 90;
+pub const BLOCK_EACR: u32 = 68;
+pub const BLOCK_EACR_SIGNED: u32 = 69;
+pub const BLOCK_EACRG: u32 = 70;
+pub const BLOCK_EACRG_SIGNED: u32 = 71;
+pub const BLOCK_BC1: u32 = 72;
+pub const BLOCK_BC1A: u32 = 73;
+pub const BLOCK_BC3: u32 = 74;
+pub const BLOCK_BC3_ALPHA: u32 = 91;
+pub const BLOCK_BC7: u32 = 75;
 
 /// Censuses of blocks; what they lend is room for the counts.
-pub const CENSUS_RGB: u32 = 32;
-pub const CENSUS_RGBA1: u32 = 33;
+pub const CENSUS_RGB: u32 = 160;
+pub const CENSUS_RGBA1: u32 = 161;
 
 /// A picture reader that takes a pitch has its twin's number and so many more.
-pub const PITCHED: u32 = 40;
+pub const PITCHED: u32 = 32;
 
 /// The formats: those of document 01 in its order, M-106's and M-108's.
 pub const FORMATS: [u32; 12] = [ETC1, RGB, RGBA1, RGBA8, EACR, EACR_SIGNED, EACRG, EACRG_SIGNED, BC1, BC1A, BC3, BC7];
 pub const PICTURES: [u32; 14] =
     [ETC1, RGB, RGBA1, RGBA8, EACR, EACR_SIGNED, EACRG, EACRG_SIGNED, STRICT, OPAQUE, BC1, BC1A, BC3, BC7];
-pub const BLOCKS: std::ops::RangeInclusive<u32> = BLOCK_ETC1..=BLOCK_BC7;
+pub const BLOCKS: [u32; 16] = [
+    BLOCK_ETC1,
+    BLOCK_RGB,
+    BLOCK_RGBA1,
+    BLOCK_A8,
+    BLOCK_RGBA8,
+    BLOCK_EAC,
+    BLOCK_EAC_SIGNED,
+    BLOCK_EACR,
+    BLOCK_EACR_SIGNED,
+    BLOCK_EACRG,
+    BLOCK_EACRG_SIGNED,
+    BLOCK_BC1,
+    BLOCK_BC1A,
+    BLOCK_BC3,
+    BLOCK_BC3_ALPHA,
+    BLOCK_BC7,
+];
 pub const CENSUSES: std::ops::RangeInclusive<u32> = CENSUS_RGB..=CENSUS_RGBA1;
 
 pub fn name(reader: u32) -> &'static str {

@@ -153,7 +153,7 @@ fn at_every_base(reader: u32, options: &crate::Options) -> Result<bool> {
 }
 
 // The reader of whole values of a format of EAC.
-fn wide(reader: u32) -> u32 {
+pub fn wide(reader: u32) -> u32 {
     reader + WIDE_EACR - EACR
 }
 
@@ -168,7 +168,7 @@ fn every_channel(reader: u32, base: u8) -> Case {
     Case { reader, channel: 0, width: 512, height: 8, data: blocks.collect(), image: vec![0; 512 * 8] }
 }
 
-fn for_ours(mut case: Case, asked: u32) -> Case {
+pub fn for_ours(mut case: Case, asked: u32) -> Case {
     if asked == WIDE_EACRG || asked == WIDE_EACRG_SIGNED {
         case.image.extend_from_within(..);
     }

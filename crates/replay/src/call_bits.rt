@@ -1,0 +1,46 @@
+// The bit reader, and the BC7 block that is read through it.
+use super::call;
+use super::case::Said;
+use super::elements;
+use bc7_held::bits;
+use rules::Answer;
+use rules::Bits;
+
+// Some bits at a place: they and the place behind them, in two elements, are the first three elements.
+pub fn read(place: usize, n: usize, data: &[u8], image: &mut [u32]) -> Said {
+    let after = bits::place_after(data, place, n);
+    match bits::bits_at(data, place, n) {
+        Bits::Value(b) => {
+            let values = [numbers::wide(b), after, after / 0x100000000];
+            call::told(elements::put(&values, image))
+        }
+        Bits::Refused => {
+            let values = [after, after / 0x100000000];
+            elements::put(&values, image);
+            call::told(Answer::ShortData)
+        }
+    }
+}
+
+// A block that begins at any bit.
+pub fn block(place: usize, data: &[u8], image: &mut [u32]) -> Said {
+    let read = bc7_held::block_from(data, place);
+    let pixels = read.pixels;
+    let answer = read.answer;
+    if readers::number(answer) == 0 {
+        return call::told(painted(&pixels, image));
+    }
+    call::told(answer)
+}
+
+fn painted(pixels: &[u32; 16], image: &mut [u32]) -> Answer {
+    if image.len() < 16 {
+        return Answer::ShortImage;
+    }
+    let mut i: usize = 0;
+    while i < 16 {
+        image[i] = pixels[i];
+        i += 1;
+    }
+    Answer::Done
+}
