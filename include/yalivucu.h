@@ -27,17 +27,17 @@
  *   3  refused: image_len is less than (height - 1) * pitch + width, which is width * height where
  *      there is no gap (and 0 where a side is 0), or out_len or tile_len less than 16, or counts_len less than
  *      the census has counts.
- *   4  refused by yalivucu_decode_etc1_strict and its _pitched twin alone: a block's base plus step is
+ *   4  refused by yalivucu_decode_etc1_strict, its _pitched twin and its check alone: a block's base plus step is
  *      out of range.
  *   5  refused: the channel is above 3.
- *   6  refused by yalivucu_decode_etc1_strict and its _pitched twin alone: there are more bytes than the
+ *   6  refused by yalivucu_decode_etc1_strict, its _pitched twin and its check alone: there are more bytes than the
  *      blocks need. Every other reader ignores what follows its blocks.
  *   7  refused, of a sheet: a record is cut short, or there are no bytes at all.
  *   8  refused: the first record is not of kind 1, not 9 bytes long, or its format is above 7;
  *      of the writer: the format is above 7.
  *   9  refused: a record of another kind, a second one of kind 1 included.
  *  10  refused: no record of blocks, a second one, or blocks that are not of the exact length.
- *  11  refused by yalivucu_decode_etc2_rgba1_opaque and its _pitched twin alone: a block's opaque bit is
+ *  11  refused by yalivucu_decode_etc2_rgba1_opaque, its _pitched twin and its check alone: a block's opaque bit is
  *      clear.
  *  12  refused: the pitch is below the width.
  *  13  refused, of degrees: a low or level of the legend does not lie in -720 to 720, or a step not in
@@ -169,6 +169,13 @@ static inline struct yalivucu_strict yalivucu_etc1_strict_pitched(const uint8_t 
  * is ignored. block is not NULL and points into neither data nor image. */
 uint32_t yalivucu_decode_etc2_rgba1_opaque(const uint8_t *data, size_t data_len, size_t width, size_t height, uint32_t *image, size_t image_len, size_t *block);
 uint32_t yalivucu_decode_etc2_rgba1_opaque_pitched(const uint8_t *data, size_t data_len, size_t width, size_t height, size_t pitch, uint32_t *image, size_t image_len, size_t *block);
+
+/* The checks of yalivucu_decode_etc1_strict and of yalivucu_decode_etc2_rgba1_opaque, without an image:
+ * where an image is long enough, each answers as its reader does, with the same *block, and paints
+ * nothing. With answer 4, or 11, *block is the number of the first bad block; with any other answer *block
+ * is not written. block is not NULL and does not point into data. */
+uint32_t yalivucu_check_strict(const uint8_t *data, size_t data_len, size_t width, size_t height, size_t *block);
+uint32_t yalivucu_check_opaque(const uint8_t *data, size_t data_len, size_t width, size_t height, size_t *block);
 
 /* One block of 8 bytes, into out[0] to out[15]. */
 uint32_t yalivucu_decode_etc1_block(const uint8_t *data, size_t data_len, uint32_t *out, size_t out_len);

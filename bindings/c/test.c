@@ -206,6 +206,28 @@ static void nothing(void)
     untouched("nothing", 0);
 }
 
+/* Without an image: a block of red, one out of range, and one of zeros, whose opaque bit is clear. */
+static void checks(void)
+{
+    uint8_t data[24] = {0xf8, 0, 0, 0x02};
+    size_t block = 77;
+    memcpy(data + 8, TWO, 8);
+    same("check strict, too large", yalivucu_check_strict(data, 24, 65537, 1, &block), YALIVUCU_TOO_LARGE);
+    same("check strict, short", yalivucu_check_strict(data, 23, 9, 1, &block), YALIVUCU_SHORT_DATA);
+    same("check strict, left over", yalivucu_check_strict(data, 9, 4, 1, &block), YALIVUCU_LONG_DATA);
+    same("check strict, accepted", yalivucu_check_strict(data, 8, 4, 1, &block), YALIVUCU_DONE);
+    same("check strict, nothing", yalivucu_check_strict(NULL, 0, 65536, 0, &block), YALIVUCU_DONE);
+    same("check opaque, too large", yalivucu_check_opaque(data, 24, 1, 65537, &block), YALIVUCU_TOO_LARGE);
+    same("check opaque, short", yalivucu_check_opaque(data, 23, 9, 1, &block), YALIVUCU_SHORT_DATA);
+    same("check opaque, accepted", yalivucu_check_opaque(data, 24, 8, 1, &block), YALIVUCU_DONE);
+    same("check opaque, nothing", yalivucu_check_opaque(NULL, 0, 0, 0, &block), YALIVUCU_DONE);
+    same("checks, block kept", (uint32_t)block, 77);
+    same("check strict, refused", yalivucu_check_strict(data, 24, 9, 1, &block), YALIVUCU_OUT_OF_RANGE);
+    same("check strict, block", (uint32_t)block, 1);
+    same("check opaque, refused", yalivucu_check_opaque(data, 24, 9, 1, &block), YALIVUCU_NOT_OPAQUE);
+    same("check opaque, block", (uint32_t)block, 2);
+}
+
 static void strict(void)
 {
     uint8_t data[16];
@@ -536,6 +558,7 @@ int main(void)
     strict();
     strict_pitched();
     opaque();
+    checks();
     blocks();
     channels();
     desktop();

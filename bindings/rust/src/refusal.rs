@@ -13,14 +13,14 @@ pub enum Refusal {
     /// Refusal 3: there are fewer elements than the picture or the block has pixels; of the
     /// writer of sheets: less room than the sheet needs.
     ShortImage,
-    /// Refusal 4, of the strict reader alone: a base plus its step lies outside 0 to 31.
+    /// Refusal 4, of the strict reader and its check alone: a base plus its step lies outside 0 to 31.
     OutOfRange {
         /// The first such block, counted from 0.
         block: usize,
     },
     /// Refusal 5: the channel is above 3.
     NoChannel,
-    /// Refusal 6, of the strict reader alone: there are more bytes than the blocks need.
+    /// Refusal 6, of the strict reader and its check alone: there are more bytes than the blocks need.
     LongData,
     /// Refusal 7, of a sheet: a record is cut short, or there are no bytes at all.
     CutShort,
@@ -30,7 +30,7 @@ pub enum Refusal {
     OtherKind,
     /// Refusal 10, of a sheet: no block record, a second one, or blocks of a wrong length.
     WrongBlocks,
-    /// Refusal 11, of the opaque-only reader alone: a block's opaque bit is clear.
+    /// Refusal 11, of the opaque-only reader and its check alone: a block's opaque bit is clear.
     NotOpaque {
         /// The first such block, counted from 0.
         block: usize,

@@ -4,6 +4,7 @@
 pub type Picture = unsafe extern "C" fn(*const u8, usize, usize, usize, usize, *mut u32, usize) -> u32;
 pub type Whole<T> = unsafe extern "C" fn(*const u8, usize, usize, usize, usize, *mut T, usize) -> u32;
 pub type Guarded = unsafe extern "C" fn(*const u8, usize, usize, usize, usize, *mut u32, usize, *mut usize) -> u32;
+pub type Check = unsafe extern "C" fn(*const u8, usize, usize, usize, *mut usize) -> u32;
 pub type Start = unsafe extern "C" fn(usize, usize, usize, *const u32, usize, *mut [usize; 5], *mut [u8; 15]) -> u32;
 pub type Block = unsafe extern "C" fn(*const u8, usize, *mut u32, usize) -> u32;
 pub type Channel = unsafe extern "C" fn(*const u8, usize, usize, *mut u32, usize) -> u32;
@@ -16,6 +17,11 @@ macro_rules! declared {
 macro_rules! declared_whole {
     ($($name:ident: $number:ty,)*) => {$(
         pub fn $name(data: *const u8, data_len: usize, width: usize, height: usize, pitch: usize, image: *mut $number, image_len: usize) -> u32;
+    )*};
+}
+macro_rules! declared_check {
+    ($($name:ident)*) => {$(
+        pub fn $name(data: *const u8, data_len: usize, width: usize, height: usize, block: *mut usize) -> u32;
     )*};
 }
 macro_rules! declared_block {
@@ -59,6 +65,10 @@ extern "C" {
         yalivucu_decode_eacr11_signed_pitched: i16,
         yalivucu_decode_eacrg11_pitched: u16,
         yalivucu_decode_eacrg11_signed_pitched: i16,
+    }
+    declared_check! {
+        yalivucu_check_strict
+        yalivucu_check_opaque
     }
     declared_block! {
         yalivucu_decode_etc1_block

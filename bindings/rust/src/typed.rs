@@ -287,6 +287,48 @@ fn guarded(reader: sys::Guarded, data: &[u8], picture: Picture, image: &mut [u32
     Refusal::answered(number, block)
 }
 
+/// Checks an ETC1 picture as [`read_strict`] does, without an image: where one is long enough, the two answer
+/// the same.
+///
+/// Refuses with [`Refusal::TooLarge`], [`Refusal::ShortData`], [`Refusal::LongData`] or
+/// [`Refusal::OutOfRange`], tested in that order.
+///
+/// ```
+/// use yalivucu::typed::{check_strict, Refusal};
+///
+/// let red = [0xf8, 0, 0, 0x02, 0, 0, 0, 0];
+/// assert_eq!(check_strict(&red, 4, 4), Ok(()));
+/// let t = [0x04, 0, 0, 0x02, 0, 0, 0, 0];
+/// assert_eq!(check_strict(&[red, t].concat(), 8, 4), Err(Refusal::OutOfRange { block: 1 }));
+/// ```
+pub fn check_strict(data: &[u8], width: usize, height: usize) -> Result<(), Refusal> {
+    checked(sys::yalivucu_check_strict, data, width, height)
+}
+
+/// Checks an ETC2 RGBA1 picture as [`read_opaque`] does, without an image: where one is long enough, the two
+/// answer the same.
+///
+/// Refuses with [`Refusal::TooLarge`], [`Refusal::ShortData`] or [`Refusal::NotOpaque`], tested in that order.
+///
+/// ```
+/// use yalivucu::typed::{check_opaque, Refusal};
+///
+/// let red = [0xf8, 0, 0, 0x02, 0, 0, 0, 0];
+/// assert_eq!(check_opaque(&red, 4, 4), Ok(()));
+/// assert_eq!(check_opaque(&[red, [0; 8]].concat(), 8, 4), Err(Refusal::NotOpaque { block: 1 }));
+/// ```
+pub fn check_opaque(data: &[u8], width: usize, height: usize) -> Result<(), Refusal> {
+    checked(sys::yalivucu_check_opaque, data, width, height)
+}
+
+fn checked(check: sys::Check, data: &[u8], width: usize, height: usize) -> Result<(), Refusal> {
+    let mut block = 0;
+    // SAFETY: the pointer and the length are those of a slice that lives through the call, and `block` is a
+    // local of its own.
+    let number = unsafe { check(data.as_ptr(), data.len(), width, height, &mut block) };
+    Refusal::answered(number, block)
+}
+
 /// Reads one block of any format into the elements 0 to 15 of `out`, row by row.
 ///
 /// Refuses with [`Refusal::ShortData`] or, for fewer than 16 elements, [`Refusal::ShortImage`],

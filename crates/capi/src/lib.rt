@@ -17,6 +17,7 @@ ghost use mathlib.Core.Bool.{true, false};
 ghost use lib.ListN.{length};
 ghost use Rattle.rules.specs.Places.{sized, pitched};
 ghost use Rattle.rules.specs.Readers.{ReadsPicture, ReadsStrict, ReadsOpaque, ReadsBlock, ReadsAlpha, ReadsChannel, ReplacesChannel};
+ghost use Rattle.rules.specs.Readers.{ChecksStrict, ChecksOpaque};
 ghost use Rattle.rules.specs.Census.{rgbTests, rgba1Tests};
 ghost use Rattle.rules.specs.Whole.{ReadsWhole};
 ghost use Rattle.rules.specs.Sheets.{ReadsSheet};
@@ -491,6 +492,38 @@ pub extern "C" fn yalivucu_decode_etc2_rgba1_opaque_pitched(
         pitch: pitch,
     };
     pictures::opaque(data, pic, image, block)
+}
+
+// Checks an ETC1 picture as the strict reader does, with no image. Where it refuses for a block out of range, `block` is its number;
+// otherwise `block` stays as it was.
+#[no_mangle]
+pub extern "C" fn yalivucu_check_strict(
+    data: &[u8],
+    width: usize,
+    height: usize,
+    block: &mut usize,
+) -> u32
+    ensures { λ r. ⌜ Told
+        (λ a. ChecksStrict (now («data» .entry)) (sized width height) a × (now (block .exit) ≡ blockOr a (now (block .entry))))
+        r ⌝ }
+{
+    pictures::check_strict(data, width, height, block)
+}
+
+// Checks an ETC2 RGBA1 picture as the reader of an opaque-only viewer does, with no image. Where it refuses for a block whose opaque bit
+// is clear, `block` is its number; otherwise `block` stays as it was.
+#[no_mangle]
+pub extern "C" fn yalivucu_check_opaque(
+    data: &[u8],
+    width: usize,
+    height: usize,
+    block: &mut usize,
+) -> u32
+    ensures { λ r. ⌜ Told
+        (λ a. ChecksOpaque (now («data» .entry)) (sized width height) a × (now (block .exit) ≡ blockOr a (now (block .entry))))
+        r ⌝ }
+{
+    pictures::check_opaque(data, width, height, block)
 }
 
 // Reads all eleven bits of an EAC R picture, 0 to 2047, into 16-bit numbers.

@@ -3,8 +3,8 @@ use rules::Answer;
 use rules::Format;
 use rules::Picture;
 ghost use mathlib.Core.Path.{_≡_};
-ghost use Rattle.rules.specs.Places.{pitched};
-ghost use Rattle.rules.specs.Readers.{ReadsPicture, ReadsStrict, ReadsOpaque};
+ghost use Rattle.rules.specs.Places.{sized, pitched};
+ghost use Rattle.rules.specs.Readers.{ReadsPicture, ReadsStrict, ReadsOpaque, ChecksStrict, ChecksOpaque};
 ghost use Rattle.rules.specs.Whole.{ReadsWhole};
 ghost use Rattle.whole.specs.Lanes.{lanes};
 ghost use Rattle.capi.specs.pictures.Told.{Told, answerNumber, blockOr};
@@ -81,4 +81,22 @@ pub fn opaque(data: &[u8], pic: Picture, image: &mut [u32], block: &mut usize) -
         r ⌝ }
 {
     handed(picture::read_opaque(data, pic, image), block)
+}
+
+// The check of the strict reader without an image, and the block that it names.
+pub fn check_strict(data: &[u8], width: usize, height: usize, block: &mut usize) -> u32
+    ensures { λ r. ⌜ Told
+        (λ a. ChecksStrict (now («data» .entry)) (sized width height) a × (now (block .exit) ≡ blockOr a (now (block .entry))))
+        r ⌝ }
+{
+    handed(picture::check_strict(data, width, height), block)
+}
+
+// That of the reader of an opaque-only viewer, likewise.
+pub fn check_opaque(data: &[u8], width: usize, height: usize, block: &mut usize) -> u32
+    ensures { λ r. ⌜ Told
+        (λ a. ChecksOpaque (now («data» .entry)) (sized width height) a × (now (block .exit) ≡ blockOr a (now (block .entry))))
+        r ⌝ }
+{
+    handed(picture::check_opaque(data, width, height), block)
 }

@@ -7,6 +7,7 @@ pub mod Guarded
 pub mod Strict
 pub mod Leftovers
 pub mod Opaque
+pub mod Unpainted
 pub mod Older
 pub mod Blocks
 pub mod Census

@@ -1,6 +1,6 @@
 // The public list: that of src/etc.rs, BC1, BC3 and BC7. Sixteen block readers, twelve picture readers, strict ETC1 and RGBA1 for an
 // opaque-only viewer, each of these fourteen with a twin that takes the description with its pitch; four readers of EAC's whole values,
-// likewise; two censuses; the readers and the writer of sheets; the reader of a picture in pieces; the reader of degrees; and the checker
+// likewise; the checks of strict ETC1 and of an opaque-only viewer without an image; two censuses; the readers and the writer of sheets; the reader of a picture in pieces; the reader of degrees; and the checker
 // and the baker of ETC1 blocks. None asks anything of its caller. Each promises the answer and every element of what it is lent
 // afterwards, for all inputs; what that is, crates/rules/specs/Readers.antt, Whole.antt, Census.antt, Sheets.antt, Pieces.antt,
 // Degrees.antt, Checking.antt and Baking.antt say for all of them. Refusals: 1 width,
@@ -32,6 +32,7 @@ ghost use Rattle.rules.specs.Places.{sized};
 ghost use Rattle.rules.specs.Answers.{said};
 ghost use Rattle.rules.specs.Census.{CountsRgb, CountsRgba1};
 ghost use Rattle.rules.specs.Readers.{ReadsPicture, ReadsStrict, ReadsOpaque, ReadsBlock, ReadsAlpha, ReadsChannel, ReplacesChannel};
+ghost use Rattle.rules.specs.Readers.{ChecksStrict, ChecksOpaque};
 ghost use Rattle.rules.specs.Whole.{ReadsWhole};
 ghost use Rattle.rules.specs.Sheets.{TellsHead, ReadsSheet, WritesSheet};
 ghost use Rattle.rules.specs.Pieces.{Starts, Takes, Ends};
@@ -272,6 +273,20 @@ pub fn decode_etc2_rgba1_opaque_pitched(data: &[u8], pic: Picture, image: &mut [
     ensures { λ r. ⌜ ReadsOpaque (now («data» .entry)) pic (now (image .entry)) r (now (image .exit)) ⌝ }
 {
     picture::read_opaque(data, pic, image)
+}
+
+// Checks an ETC1 picture as `decode_etc1_strict` does, with no image: where one is long enough, the two answer the same.
+pub fn check_strict(data: &[u8], width: usize, height: usize) -> Answer
+    ensures { λ r. ⌜ ChecksStrict (now («data» .entry)) (sized width height) r ⌝ }
+{
+    picture::check_strict(data, width, height)
+}
+
+// Checks an ETC2 RGBA1 picture as `decode_etc2_rgba1_opaque` does, with no image: likewise.
+pub fn check_opaque(data: &[u8], width: usize, height: usize) -> Answer
+    ensures { λ r. ⌜ ChecksOpaque (now («data» .entry)) (sized width height) r ⌝ }
+{
+    picture::check_opaque(data, width, height)
 }
 
 // Reads whole values of EAC by a picture's width and height: of red, or of red and green. Its rows have no gap.

@@ -98,6 +98,14 @@ exactChecks s p bytes elements =
     ∷ imageCheck (needed p) elements
     ∷ []
 
+-- the checks of what is lent no image: 1 and 2, "in that order", and where the length must be exact, 6 after them
+abbrev pub dataChecks : ℕ → Picture → ℕ → List Check
+dataChecks s p bytes = sidesCheck limit p ∷ dataCheck (blocks p * s) bytes ∷ []
+
+abbrev pub exactDataChecks : ℕ → Picture → ℕ → List Check
+exactDataChecks s p bytes =
+    sidesCheck limit p ∷ dataCheck (blocks p * s) bytes ∷ leftoverCheck (blocks p * s) bytes ∷ []
+
 -- the verdict of a reader that has nothing more to check
 abbrev pub verdict : List Check → List ℕ
 verdict checks = judged checks (0 ∷ [])
