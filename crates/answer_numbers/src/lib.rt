@@ -25,6 +25,16 @@ pub fn number(answer: Answer) -> u32
         Answer::WrongBlocks => 10,
         Answer::NotOpaque(_) => 11,
         Answer::ShortPitch => 12,
+        Answer::HeaderCut => 20,
+        Answer::UnknownContainer => 21,
+        Answer::UnknownVersion => 22,
+        Answer::UnknownFormat => 23,
+        Answer::SizesDisagree => 24,
+        Answer::NotFlat => 25,
+        Answer::NoPixel => 26,
+        Answer::LevelsMissing => 37,
+        Answer::NoLevel => 38,
+        Answer::Supercompressed => 41,
     }
 }
 
@@ -46,6 +56,16 @@ pub fn names(answer: Answer) -> bool
         Answer::WrongBlocks => false,
         Answer::NotOpaque(_) => true,
         Answer::ShortPitch => false,
+        Answer::HeaderCut => false,
+        Answer::UnknownContainer => false,
+        Answer::UnknownVersion => false,
+        Answer::UnknownFormat => false,
+        Answer::SizesDisagree => false,
+        Answer::NotFlat => false,
+        Answer::NoPixel => false,
+        Answer::LevelsMissing => false,
+        Answer::NoLevel => false,
+        Answer::Supercompressed => false,
     }
 }
 
@@ -67,6 +87,16 @@ pub fn block_or(answer: Answer, stood: usize) -> usize
         Answer::WrongBlocks => stood,
         Answer::NotOpaque(block) => block,
         Answer::ShortPitch => stood,
+        Answer::HeaderCut => stood,
+        Answer::UnknownContainer => stood,
+        Answer::UnknownVersion => stood,
+        Answer::UnknownFormat => stood,
+        Answer::SizesDisagree => stood,
+        Answer::NotFlat => stood,
+        Answer::NoPixel => stood,
+        Answer::LevelsMissing => stood,
+        Answer::NoLevel => stood,
+        Answer::Supercompressed => stood,
     }
 }
 

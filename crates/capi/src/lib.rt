@@ -23,6 +23,7 @@ ghost use Rattle.rules.specs.Whole.{ReadsWhole};
 ghost use Rattle.rules.specs.Sheets.{ReadsSheet};
 ghost use Rattle.rules.specs.Pieces.{Ends};
 ghost use Rattle.rules.specs.Checking.{Checks};
+ghost use Rattle.file.specs.lent.Lent.{FileTold, LevelTold};
 ghost use Rattle.rules.specs.Baking.{Bakes};
 ghost use Rattle.capi.specs.pieces_lent.Lent.{stateIn, StartLent, PieceLent};
 ghost use Rattle.capi.specs.degrees_lent.Lent.{legendAt, DegreesTold};
@@ -1271,4 +1272,21 @@ pub extern "C" fn yalivucu_bake_etc1_block(
         r ⌝ }
 {
     readers::baking_number(readers::bake_etc1_block(*first, *second, flip, tile, block))
+}
+
+// Opens a texture file. With answer 0 alone, nine numbers are written: the container, the format, 1 where it is sRGB, the width, the height,
+// the number of levels, 1 where the greatest byte is first, the orientation, and the bytes that are left over.
+#[no_mangle]
+pub extern "C" fn yalivucu_open_file(data: &[u8], out: &mut [usize; 9]) -> u32
+    ensures { λ r. ⌜ FileTold (now («data» .entry)) (now (out .entry)) r (now (out .exit)) ⌝ }
+{
+    file::lent::open_file(data, out)
+}
+
+// A level of a texture file. With answer 0 alone, four numbers are written: the width, the height, the start and the length.
+#[no_mangle]
+pub extern "C" fn yalivucu_file_level(data: &[u8], level: usize, out: &mut [usize; 4]) -> u32
+    ensures { λ r. ⌜ LevelTold (now («data» .entry)) level (now (out .entry)) r (now (out .exit)) ⌝ }
+{
+    file::lent::file_level(data, level, out)
 }

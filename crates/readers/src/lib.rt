@@ -1,20 +1,16 @@
-// The public list: that of src/etc.rs, BC1, BC3 and BC7. Sixteen block readers, twelve picture readers, strict ETC1 and RGBA1 for an
-// opaque-only viewer, each of these fourteen with a twin that takes the description with its pitch; four readers of EAC's whole values,
-// likewise; the checks of strict ETC1 and of an opaque-only viewer without an image; two censuses; the readers and the writer of sheets; the reader of a picture in pieces; the reader of degrees; and the checker
-// and the baker of ETC1 blocks. None asks anything of its caller. Each promises the answer and every element of what it is lent
-// afterwards, for all inputs; what that is, crates/rules/specs/Readers.antt, Whole.antt, Census.antt, Sheets.antt, Pieces.antt,
-// Degrees.antt, Checking.antt and Baking.antt say for all of them. Refusals: 1 width,
-// height or pitch above 65,536 (of a sheet: width or height above 16,384); 12 a pitch below the width; 2 too few bytes; 6 too many (strict
-// only); 3 too few elements, or too little room for a sheet; 4 a block out of range, with its number (strict only); 5 a channel above 3; of
-// sheets, 7 a record cut short, 8 no head, 9 another kind, 10 not exactly the blocks; 11 a block whose opaque bit is clear, with its
-// number (opaque only); of degrees, 13 the legend, 14 the digits, 15 the measurement; 16 a base channel above 15 or a flip above 1 (baker
-// only). A refusal changes nothing. 18 is no refusal: the checker does not accept the block.
+// The public list: the readers of pictures, single blocks, whole EAC values, pictures in pieces, sheets and texture files; the checks
+// for older viewers; the censuses; the reader of degrees; the checker and the baker of ETC1 blocks.
+// No function has a precondition. Each promises its answer, and every element of what it is lent, for all inputs, as Readers.antt,
+// Whole.antt, Census.antt, Sheets.antt, Pieces.antt, Degrees.antt, Checking.antt, Baking.antt and Files.antt of crates/rules/specs say.
+// A refusal changes nothing; docs/API.md lists the refusals by number.
 use bake::baker;
 use block_readers::Joined;
 use rules::Answer;
 use rules::Baking;
 use rules::Format;
+use rules::FoundLevel;
 use rules::Legend;
+use rules::Opened;
 use rules::Picture;
 use rules::Progress;
 use rules::Reply;
@@ -36,6 +32,7 @@ ghost use Rattle.rules.specs.Readers.{ChecksStrict, ChecksOpaque};
 ghost use Rattle.rules.specs.Whole.{ReadsWhole};
 ghost use Rattle.rules.specs.Sheets.{TellsHead, ReadsSheet, WritesSheet};
 ghost use Rattle.rules.specs.Pieces.{Starts, Takes, Ends};
+ghost use Rattle.rules.specs.Files.{OpensFile, FindsLevel};
 ghost use Rattle.rules.specs.Degrees.{ReadsDegrees};
 ghost use Rattle.rules.specs.Checking.{bakingSaid, Checks};
 ghost use Rattle.rules.specs.Baking.{Bakes};
@@ -590,4 +587,18 @@ pub fn bake_etc1_block(
     ensures { λ r. ⌜ Bakes first second flip (now (tile .entry)) r (now (block .entry)) (now (block .exit)) ⌝ }
 {
     baker::bake(first, second, flip, tile, block)
+}
+
+// Opens a texture file, PKM, KTX 1, KTX 2 or DDS: what it holds, or why it is refused.
+pub fn open_file(bytes: &[u8]) -> Opened
+    ensures { λ r. ⌜ OpensFile (now (bytes .entry)) r ⌝ }
+{
+    file::open_file(bytes)
+}
+
+// Level n of a texture file: its size and where its blocks are, or why there is none.
+pub fn file_level(bytes: &[u8], n: usize) -> FoundLevel
+    ensures { λ r. ⌜ FindsLevel (now (bytes .entry)) n r ⌝ }
+{
+    file::file_level(bytes, n)
 }

@@ -28,6 +28,8 @@ use Rattle.rules.specs.Readers.{blockVerdict, blockPainted, ReadsBlock, 
 use Rattle.rules.specs.Readers.{replacedPainted, ReplacesChannel}
 use Rattle.rules.specs.declared.Answer.{Answer}
 use Rattle.rules.specs.declared.Answer.the-variants.{Done, TooLarge, ShortData, ShortImage, OutOfRange, NoChannel, LongData, NotOpaque, ShortPitch}
+use Rattle.rules.specs.declared.Answer.the-variants.{HeaderCut, UnknownContainer, UnknownVersion, UnknownFormat, SizesDisagree}
+use Rattle.rules.specs.declared.Answer.the-variants.{NotFlat, NoPixel, LevelsMissing, NoLevel, Supercompressed}
 use Rattle.rules.specs.declared.Format.the-variants.{Etc2Rgb, Etc2Rgba1}
 use Rattle.rules.proofs.Rows.{Reader, picture, strict, opaque, padded, paddedStrict, paddedOpaque, block, alphaHalf, channel, alphaInto, Row}
 use Rattle.rules.proofs.Rows.{shows, packed, joins, refuses, answers}
@@ -146,6 +148,16 @@ numbers =
     && same (said LongData) (6 ∷ [])
     && same (said (NotOpaque 7)) (11 ∷ 7 ∷ [])
     && same (said ShortPitch) (12 ∷ [])
+    && same (said HeaderCut) (20 ∷ [])
+    && same (said UnknownContainer) (21 ∷ [])
+    && same (said UnknownVersion) (22 ∷ [])
+    && same (said UnknownFormat) (23 ∷ [])
+    && same (said SizesDisagree) (24 ∷ [])
+    && same (said NotFlat) (25 ∷ [])
+    && same (said NoPixel) (26 ∷ [])
+    && same (said LevelsMissing) (37 ∷ [])
+    && same (said NoLevel) (38 ∷ [])
+    && same (said Supercompressed) (41 ∷ [])
 
 -- the order in which strict ETC1 tests: no row can tell 2 and 6 apart, which are never both due; and that of the opaque-only viewer
 numbersOf : List Check → List ℕ

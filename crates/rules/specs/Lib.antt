@@ -37,3 +37,12 @@ pub mod Checking
 pub mod Baking
 -- all eleven bits of EAC, of document 02
 pub mod Whole
+-- files: PKM, KTX 1, KTX 2, DDS and sheets
+pub mod FileFormats
+pub mod FileLevels
+pub mod Pkm
+pub mod Ktx1
+pub mod Ktx2
+pub mod Dds
+pub mod SheetFile
+pub mod Files

@@ -66,3 +66,10 @@ unfoldable pub kept : Records → Records
 kept (more r rs) = cond (isSkipped r) (kept rs) (more r (kept rs))
 kept ended = ended
 kept short = short
+
+-- where the payload of the first record begins that is not skipped, of records that begin at a byte: behind the six bytes of its own,
+-- and behind the records before it
+unfoldable pub payloadAt : ℕ → Records → ℕ
+payloadAt at (more r rs) = cond (isSkipped r) (payloadAt (at + 6 + length (r .payload)) rs) (at + 6)
+payloadAt at ended = at
+payloadAt at short = at

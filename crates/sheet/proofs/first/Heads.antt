@@ -6,7 +6,7 @@ use mathlib.Core.List.{List, [], _∷_}
 use Prim.Native.Nat.{ℕ, _+_, _≤_, _<_}
 use native.Mathlib.Omega.{arith}
 use native.Mathlib.Nat.{add-zero}
-use borrow.Author.Tests.{eq-eqb, ne-eqb, lt-ltb, le-ltb}
+use borrow.Author.Tests.{eq-eqb, ne-eqb, lt-ltb, le-ltb, lt-leb}
 use lib.ListN.{length, take, drop, getD, length-drop}
 use lib.Seq.{length-take-le, getD-take, getD-drop}
 use types.Run.{OneOf, miss}
@@ -15,10 +15,11 @@ use Rattle.rules.specs.Places.{sized}
 use Rattle.rules.specs.Answers.{refusal, judged, tooLarge}
 use Rattle.rules.specs.declared.Answer.the-variants.{CutShort, NoHead, TooLarge}
 use Rattle.numbers.specs.Numbers.{little}
-use Rattle.rules.specs.Records.{Record, Records, more, recordsOf, first, kept}
+use Rattle.rules.specs.Records.{Record, Records, more, recordsOf, first, kept, payloadAt}
 use Rattle.sheet.specs.records.Turns.{at, all, Turn, Stands}
 use Rattle.sheet.specs.declared.records.Met as met
 use Rattle.sheet.proofs.records.Met.{the-type}
+use Rattle.sheet.proofs.records.Turns.{begins}
 use Rattle.numbers.proofs.Little.{moved, inside}
 use Rattle.rules.specs.Sheets.{sheetLimit, blockBytes, formatIn, sizeIn, isHead, afterHead, walkVerdict, headIn}
 use Rattle.checks.proofs.Checks.{within}
@@ -106,6 +107,11 @@ module _ (d : List ℕ) (k s n : ℕ) (t : Turn all d 0 k s n) where
             refused = refl;
           }
 
+      -- the head's payload begins behind six bytes
+      sixth : s ≡ 6
+      unfolding payloadAt
+      sixth = sym (begins all d 0 k s n t (omega arith)) ∙ ap (payloadAt 0) (t .meets) ∙ rw (lt-leb 32768 k (omega arith))
+
       pub headed : tooLarge sheetLimit (sized w h) ≡ false → (m : ℕ) → m ≡ blockBytes f (sized w h) → Headed d (record { format = f; width = w; height = h }) (s + n) m
       headed x m b =
           let i : headIn d ≡ r = ap first (t .meets) in
@@ -121,5 +127,6 @@ module _ (d : List ℕ) (k s n : ℕ) (t : Turn all d 0 k s n) where
             fits = ap (λ (z : Record). tooLarge sheetLimit (sizeIn z)) i ∙ ap (tooLarge sheetLimit) size-at ∙ x;
             meets = t .meets ∙ ap (λ (z : Record). more z rest) (sym i);
             within = t .within;
+            fifteen = omega (arith, sixth);
             bytes = b;
           }

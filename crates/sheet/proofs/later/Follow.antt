@@ -13,6 +13,7 @@ use Rattle.rules.specs.declared.Answer.{Answer}
 use Rattle.rules.specs.declared.Answer.the-variants.{Done, CutShort, OtherKind, WrongBlocks}
 use Rattle.rules.specs.Records.{Records, ended, short, recordsOf, first, kept}
 use Rattle.sheet.specs.records.Turns.{Turn}
+use Rattle.sheet.proofs.records.Turns.{begins}
 use Rattle.rules.specs.Sheets.{afterBlocks, afterHead}
 use Rattle.sheet.specs.Shown.{Refuses}
 use Rattle.sheet.specs.later.Follows.{Judges, behind, Blocked}
@@ -84,4 +85,5 @@ module _ (d : List ℕ) (from : ℕ) where
               passes = λ then. through then ∙ g then;
               payload = ap (λ (z : Records). first z .payload) (t .meets) ∙ ap (λ (z : ℕ). take z (drop s d)) exact;
               within = omega (arith, t .within);
+              start = begins kept d from k s n t (omega arith);
             }

@@ -1,15 +1,15 @@
 -- One turn of the walk at a place, from what is read there; and a turn over records that are skipped.
 -- Assumes nothing.
-use mathlib.Core.Path.{_≡_, _∙_, sym, ap, subst}
+use mathlib.Core.Path.{_≡_, _∙_, refl, sym, ap, subst}
 use mathlib.Core.List.{List, [], _∷_}
 use Prim.Native.Nat.{ℕ, _+_, _-_, _≤_, _<_}
 use native.Mathlib.Omega.{arith}
 use native.Mathlib.Nat.{add-zero}
 use borrow.Author.Tests.{le-leb, lt-leb}
 use lib.ListN.{length, take, drop, length-drop}
-use lib.Seq.{drop-drop}
+use lib.Seq.{drop-drop, length-take-le}
 use Rattle.numbers.specs.Numbers.{little}
-use Rattle.rules.specs.Records.{Records, more, ended, short, lengthIn, recordIn, behind, recordsOf, kept}
+use Rattle.rules.specs.Records.{Records, more, ended, short, lengthIn, recordIn, behind, recordsOf, kept, payloadAt}
 use Rattle.numbers.proofs.Little.{moved}
 use Rattle.sheet.proofs.records.Walk.{at-the-end, cut-short, whole}
 use types.Run.{OneOf, miss}
@@ -45,16 +45,13 @@ module _ (d : List ℕ) (from : ℕ) (h : from ≤ length d) where
         let s : drop 6 (drop from d) ≡ drop (from + 6) d = drop-drop 6 from d in
         let i : from + (6 + n) ≡ from + 6 + n = omega arith in
         let t : drop (6 + n) (drop from d) ≡ drop (from + 6 + n) d = drop-drop (6 + n) from d ∙ ap (λ (z : ℕ). drop z d) i in
-        record {
-          meets =
-              w
-              ∙ ap (λ (z : ℕ). more (record { kind = z; payload = take (little 4 0 (drop from d)) (drop 6 (drop from d)) }) (recordsOf (behind (drop from d)))) a
-              ∙ ap (λ (z : ℕ). more (record { kind = k; payload = take z (drop 6 (drop from d)) }) (recordsOf (drop (6 + z) (drop from d)))) b
-              ∙ ap (λ (z : List ℕ). more (record { kind = k; payload = take n z }) (recordsOf (drop (6 + n) (drop from d)))) s
-              ∙ ap (λ (z : List ℕ). more (at d k (from + 6) n) (recordsOf z)) t;
-          within = omega arith;
-          beyond = omega arith;
-        }
+        let m : recordsOf (drop from d) ≡ more (at d k (from + 6) n) (recordsOf (drop (from + 6 + n) d)) =
+        w
+        ∙ ap (λ (z : ℕ). more (record { kind = z; payload = take (little 4 0 (drop from d)) (drop 6 (drop from d)) }) (recordsOf (behind (drop from d)))) a
+        ∙ ap (λ (z : ℕ). more (record { kind = k; payload = take z (drop 6 (drop from d)) }) (recordsOf (drop (6 + z) (drop from d)))) b
+        ∙ ap (λ (z : List ℕ). more (record { kind = k; payload = take n z }) (recordsOf (drop (6 + n) (drop from d)))) s
+        ∙ ap (λ (z : List ℕ). more (at d k (from + 6) n) (recordsOf z)) t in
+        record { meets = m; within = omega arith; beyond = omega arith; front = from; six = refl; there = m; passed = refl }
 
 -- a record that is skipped leaves what the walk still meets; any other is met
 pub skips : (d : List ℕ) (from k s n : ℕ) → Turn all d from k s n → 32768 ≤ k → kept (recordsOf (drop from d)) ≡ kept (recordsOf (drop (s + n) d))
@@ -64,7 +61,30 @@ skips d from k s n t h = ap kept (t .meets) ∙ rw (le-leb 32768 k h)
 pub stays : (d : List ℕ) (from k s n : ℕ) → Turn all d from k s n → k < 32768 → Turn kept d from k s n
 unfolding kept
 stays d from k s n t h =
-    record { meets = ap kept (t .meets) ∙ rw (lt-leb 32768 k h); within = t .within; beyond = t .beyond }
+    record {
+      meets = ap kept (t .meets) ∙ rw (lt-leb 32768 k h);
+      within = t .within;
+      beyond = t .beyond;
+      front = t .front;
+      six = t .six;
+      there = t .there;
+      passed = t .passed;
+    }
+
+-- where the first payload begins that is not skipped: this one's, or behind this one
+module _ (see : Records → Records) (d : List ℕ) (from k s n : ℕ) (t : Turn see d from k s n) where
+  pub begins : k < 32768 → payloadAt from (recordsOf (drop from d)) ≡ s
+  unfolding payloadAt
+  begins h = t .passed ∙ ap (payloadAt (t .front)) (t .there) ∙ rw (lt-leb 32768 k h) (sym (t .six))
+
+  pub begins-behind : 32768 ≤ k → payloadAt from (recordsOf (drop from d)) ≡ payloadAt (s + n) (recordsOf (drop (s + n) d))
+  unfolding payloadAt
+  begins-behind h =
+      let long : length (take n (drop s d)) ≡ n = length-take-le n (drop s d) (omega (arith, length-drop s d, t .within)) in
+      let e : t .front + 6 + length (take n (drop s d)) ≡ s + n = omega (arith, t .six) in
+      t .passed
+      ∙ ap (payloadAt (t .front)) (t .there)
+      ∙ rw (le-leb 32768 k h) (ap (λ (z : ℕ). payloadAt z (recordsOf (drop (s + n) d))) e)
 
 -- where no record is met, none is met that is kept
 pub none-kept : (d : List ℕ) (from : ℕ) (f : Met) → Stands d from f → OneOf (1 ∷ 2 ∷ []) (Declared.tagOf the-type f) → Meets d from f
@@ -74,10 +94,20 @@ none-kept d from End m z = ap kept m
 none-kept d from Cut m z = ap kept m
 
 -- what is met from a later place is met from an earlier one, where all between is skipped
-pub sooner : (d : List ℕ) (from now : ℕ) (f : Met) → from ≤ now → kept (recordsOf (drop from d)) ≡ kept (recordsOf (drop now d)) → Meets d now f → Meets d from f
-sooner d from now (Whole k s n) h e m = record { meets = e ∙ m .meets; within = m .within; beyond = omega (arith, m .beyond) }
-sooner d from now End h e m = e ∙ m
-sooner d from now Cut h e m = e ∙ m
+pub sooner : (d : List ℕ) (from now : ℕ) (f : Met) → from ≤ now → kept (recordsOf (drop from d)) ≡ kept (recordsOf (drop now d))
+    → payloadAt from (recordsOf (drop from d)) ≡ payloadAt now (recordsOf (drop now d)) → Meets d now f → Meets d from f
+sooner d from now (Whole k s n) h e p m =
+    record {
+      meets = e ∙ m .meets;
+      within = m .within;
+      beyond = omega (arith, m .beyond);
+      front = m .front;
+      six = m .six;
+      there = m .there;
+      passed = p ∙ m .passed;
+    }
+sooner d from now End h e p m = e ∙ m
+sooner d from now Cut h e p m = e ∙ m
 
 -- the turn at a record that was told
 pub turn-of : (see : Records → Records) (d : List ℕ) (from : ℕ) (f : Met) {k s n : ℕ} → f ≡ Whole k s n → Sees see d from f → Turn see d from k s n

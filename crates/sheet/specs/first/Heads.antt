@@ -19,6 +19,7 @@ pub record Headed (d : List ℕ) (h : Head) (from n : ℕ) : Type 0 where
   pub fits : tooLarge sheetLimit (sizeIn (headIn d)) ≡ false
   pub meets : recordsOf d ≡ more (headIn d) (recordsOf (drop from d))
   pub within : from ≤ length d
+  pub fifteen : from ≡ 15
   pub bytes : n ≡ blockBytes (h .format) (sizeOfHead h)
 
 abbrev pub Heads : List ℕ → found.Found → Type 0

@@ -7,7 +7,7 @@ use Prim.Native.Nat.{ℕ, _+_, _≤_}
 use lib.ListN.{length, take, drop}
 use Rattle.rules.specs.Answers.{said, accepts}
 use Rattle.rules.specs.declared.Answer.{Answer}
-use Rattle.rules.specs.Records.{recordsOf, first, kept}
+use Rattle.rules.specs.Records.{recordsOf, first, kept, payloadAt}
 use Rattle.rules.specs.Sheets.{afterHead}
 use Rattle.sheet.specs.Shown.{Passes, Refuses}
 use Rattle.sheet.specs.declared.later.Blocks as blocks
@@ -25,6 +25,7 @@ pub record Blocked (d : List ℕ) (from n s : ℕ) : Type 0 where
   pub passes : Passes (behind d from n)
   pub payload : first (kept (recordsOf (drop from d))) .payload ≡ take n (drop s d)
   pub within : s + n ≤ length d
+  pub start : payloadAt from (recordsOf (drop from d)) ≡ s
 
 abbrev pub Follows : List ℕ → ℕ → ℕ → blocks.Blocks → Type 0
 Follows d from n (blocks.the-variants.At s) = Blocked d from n s

@@ -4,7 +4,7 @@ use mathlib.Core.Path.{_≡_}
 use mathlib.Core.List.{List}
 use Prim.Native.Nat.{ℕ, _+_, _≤_, _<_}
 use lib.ListN.{length, take, drop}
-use Rattle.rules.specs.Records.{Record, Records, more, ended, short, recordsOf, kept}
+use Rattle.rules.specs.Records.{Record, Records, more, ended, short, recordsOf, kept, payloadAt}
 use Rattle.sheet.specs.declared.records.Met.{Met}
 use Rattle.sheet.specs.declared.records.Met.the-variants.{Whole, End, Cut}
 
@@ -17,6 +17,11 @@ pub record Turn (see : Records → Records) (d : List ℕ) (from k s n : ℕ) : 
   pub meets : see (recordsOf (drop from d)) ≡ more (at d k s n) (see (recordsOf (drop (s + n) d)))
   pub within : s + n ≤ length d
   pub beyond : from < s
+  -- it begins six bytes before its payload, and all before it is skipped
+  pub front : ℕ
+  pub six : s ≡ front + 6
+  pub there : recordsOf (drop front d) ≡ more (at d k s n) (recordsOf (drop (s + n) d))
+  pub passed : payloadAt from (recordsOf (drop from d)) ≡ payloadAt front (recordsOf (drop front d))
 
 abbrev pub Sees : (Records → Records) → List ℕ → ℕ → Met → Type 0
 Sees see d from (Whole k s n) = Turn see d from k s n

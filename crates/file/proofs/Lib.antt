@@ -1,0 +1,4 @@
+pub mod Picks
+pub mod Words
+pub mod Walk
+pub mod Files
