@@ -1,4 +1,5 @@
-/* ETC1, ETC2, EAC, BC1, BC3 and BC7 textures, and the degrees that their colours mean, read by proved code.
+/* ETC1, ETC2, EAC, BC1, BC3 and BC7 textures, the files that hold them, and the degrees that their colours mean, read by
+ * proved code.
  *
  * Link with the static library that `bindings/archive FILE.a` writes. Every function may be
  * called from several threads at once, allocates nothing, keeps nothing between calls but in what
@@ -47,6 +48,16 @@
  *  16  refused by yalivucu_bake_etc1_block alone: a channel of a base is above 15, or the flip above 1.
  *  17  not measured: the pixel's alpha is 0.
  *  18  by yalivucu_check_etc1_block alone, and no refusal: the block is not accepted.
+ *  20  refused, of a file, as are those below: it ends before its header does.
+ *  21  its first bytes are those of no container that is known.
+ *  22  a version or a byte order that nobody defined.
+ *  23  a format that is not read here.
+ *  24  its sizes contradict each other.
+ *  25  a volume, an array or a cube.
+ *  26  its picture has no pixel.
+ *  37  it has fewer levels, or bytes of them, than it tells.
+ *  38  by yalivucu_file_level alone: there is no level of that number.
+ *  41  supercompressed (KTX 2): its levels are compressed once more.
  * Pictures test 1, 12, 2, 6, 3, 4 or 11 in that order, blocks 5, 2, 3, censuses 1, 2, 3. A sheet is walked
  * front to back and the first fault is the answer, 3 last; the writer tests 8, 1, 10, 3. Degrees test
  * 13, 14, 15, 17; the checker of a block 2, 3, its baker 16, 2, 3. A refusal touches no element. Pictures in
@@ -90,7 +101,17 @@ enum yalivucu_answer {
     YALIVUCU_BAD_MEASUREMENT = 15,
     YALIVUCU_NO_BASE = 16,
     YALIVUCU_NOT_MEASURED = 17,
-    YALIVUCU_NOT_ACCEPTED = 18
+    YALIVUCU_NOT_ACCEPTED = 18,
+    YALIVUCU_CUT_HEADER = 20,
+    YALIVUCU_NO_TEXTURE = 21,
+    YALIVUCU_NO_VERSION = 22,
+    YALIVUCU_NO_FORMAT = 23,
+    YALIVUCU_SIZES_DISAGREE = 24,
+    YALIVUCU_NOT_FLAT = 25,
+    YALIVUCU_NO_PIXELS = 26,
+    YALIVUCU_LEVELS_MISSING = 37,
+    YALIVUCU_NO_LEVEL = 38,
+    YALIVUCU_SUPERCOMPRESSED = 41
 };
 
 /* Pictures in blocks of 8 bytes. The last of three BC1 colours is black in bc1, and 0, transparent, in bc1a. */
@@ -258,6 +279,74 @@ uint32_t yalivucu_read_sheet(const uint8_t *sheet, size_t sheet_len, uint32_t *i
  * number of its bytes; with any other answer it is not written. Here answer 3 means that room_len
  * is less than that. */
 uint32_t yalivucu_write_sheet(size_t format, size_t width, size_t height, const uint8_t *blocks, size_t blocks_len, uint8_t *room, size_t room_len, size_t *written);
+
+/* A texture file: PKM 1.0 and 2.0, KTX 1 in either byte order, KTX 2, DDS, and sheets. data, data_len are the whole
+ * file, which the first opens and in which the second finds level 0, 1, .., the largest first:
+ *
+ *     struct yalivucu_file file;
+ *     struct yalivucu_level level;
+ *     uint32_t answer = yalivucu_open_file(data, data_len, &file);
+ *     if (!answer) answer = yalivucu_file_level(data, data_len, 0, &level);
+ *     if (!answer && file.format == YALIVUCU_ETC2_RGBA8) answer = yalivucu_decode_etc2_rgba8(
+ *         data + level.start, level.length, level.width, level.height, image, image_len);
+ *
+ * With answer 0 alone *file and *out are written, all members of them. Then bytes start to start + length - 1
+ * lie inside the file and are exactly the level's blocks, and every level below file.levels is found. Where the
+ * first refuses, the second gives the same answer; otherwise it refuses with 38 alone. What decides no pixel
+ * refuses no file: a wrong glType or base format of KTX 1, a wrong linearSize of DDS, key and value data that
+ * cannot be read. A sheet is refused as yalivucu_sheet_head refuses it. file and out are not NULL and do not
+ * point into data; where data_len is 0 data may be NULL. */
+enum yalivucu_container {
+    YALIVUCU_PKM = 1,
+    YALIVUCU_KTX1 = 2,
+    YALIVUCU_KTX2 = 3,
+    YALIVUCU_DDS = 4,
+    YALIVUCU_SHEET = 5
+};
+
+/* The first eight are a sheet's numbers. */
+enum yalivucu_format {
+    YALIVUCU_ETC1 = 0,
+    YALIVUCU_ETC2_RGB = 1,
+    YALIVUCU_ETC2_RGBA1 = 2,
+    YALIVUCU_ETC2_RGBA8 = 3,
+    YALIVUCU_EAC_R = 4,
+    YALIVUCU_EAC_R_SIGNED = 5,
+    YALIVUCU_EAC_RG = 6,
+    YALIVUCU_EAC_RG_SIGNED = 7,
+    YALIVUCU_BC1 = 8,
+    YALIVUCU_BC1A = 9,
+    YALIVUCU_BC3 = 10,
+    YALIVUCU_BC7 = 11
+};
+
+enum yalivucu_orientation {
+    YALIVUCU_UNTOLD = 0,
+    YALIVUCU_TOP_DOWN = 1,
+    YALIVUCU_BOTTOM_UP = 2
+};
+
+struct yalivucu_file {
+    uint64_t container;   /* of enum yalivucu_container */
+    uint64_t format;      /* of enum yalivucu_format */
+    uint64_t srgb;        /* 1 where the file says that its colours are sRGB, else 0; no reader converts them */
+    uint64_t width;       /* of level 0, in pixels */
+    uint64_t height;
+    uint64_t levels;      /* how many there are: at least 1 */
+    uint64_t big_endian;  /* 1 where the header's numbers are big-endian (always in PKM), else 0 */
+    uint64_t orientation; /* of enum yalivucu_orientation: which row comes first, where the file tells */
+    uint64_t left_over;   /* how many bytes stand behind the last level */
+};
+
+struct yalivucu_level {
+    uint64_t width; /* in pixels */
+    uint64_t height;
+    uint64_t start;  /* where its blocks begin in data */
+    uint64_t length; /* how many bytes they are */
+};
+
+uint32_t yalivucu_open_file(const uint8_t *data, size_t data_len, struct yalivucu_file *file);
+uint32_t yalivucu_file_level(const uint8_t *data, size_t data_len, size_t level, struct yalivucu_level *out);
 
 /* A picture whose bytes arrive in pieces of any length, 0 included: each block is painted as soon
  * as it is whole, and at most 15 bytes are kept in between. The caller owns the state, which is of

@@ -505,6 +505,122 @@ static void pieces(void)
     }
 }
 
+/* A number of four bytes, the lowest first. */
+static void put4(uint8_t *at, uint32_t number)
+{
+    for (int k = 0; k < 4; k++) at[k] = (uint8_t)(number >> 8 * k);
+}
+
+/* Opens a file: the answer, and all that is told, with 77 in every member that was not written. */
+static void opened(const char *name, const uint8_t *data, size_t len, uint32_t answer, struct yalivucu_file due)
+{
+    struct yalivucu_file told;
+    struct yalivucu_level level;
+    const struct yalivucu_file none = {77, 77, 77, 77, 77, 77, 77, 77, 77};
+    const struct yalivucu_level no_level = {77, 77, 77, 77};
+    told = none, level = no_level;
+    same(name, yalivucu_open_file(data, len, &told), answer);
+    if (answer) due = none;
+    same(name, memcmp(&told, &due, sizeof due) != 0, 0);
+    same(name, yalivucu_file_level(data, len, answer ? 0 : due.levels, &level), answer ? answer : YALIVUCU_NO_LEVEL);
+    same(name, yalivucu_file_level(data, len, SIZE_MAX, &level), answer ? answer : YALIVUCU_NO_LEVEL);
+    same(name, memcmp(&level, &no_level, sizeof level) != 0, 0);
+}
+
+static void level_is(const char *name, const uint8_t *data, size_t len, size_t n, struct yalivucu_level due)
+{
+    struct yalivucu_level level = {77, 77, 77, 77};
+    same(name, yalivucu_file_level(data, len, n, &level), YALIVUCU_DONE);
+    same(name, memcmp(&level, &due, sizeof due) != 0, 0);
+}
+
+static const struct yalivucu_file NOTHING;
+
+static void pkm(void)
+{
+    uint8_t file[25] = {'P', 'K', 'M', ' ', '1', '0', 0, 0, 0, 4, 0, 4, 0, 3, 0, 2, 0x04, 0, 0, 0x02};
+    const struct yalivucu_file due = {YALIVUCU_PKM, YALIVUCU_ETC1, 0, 3, 2, 1, 1, YALIVUCU_UNTOLD, 1};
+    opened("PKM", file, 25, YALIVUCU_DONE, due);
+    level_is("PKM, level", file, 25, 0, (struct yalivucu_level){3, 2, 16, 8});
+    opened("PKM, no bytes", NULL, 0, YALIVUCU_NO_TEXTURE, NOTHING);
+    opened("PKM, header", file, 15, YALIVUCU_CUT_HEADER, NOTHING);
+    opened("PKM, bytes", file, 23, YALIVUCU_LEVELS_MISSING, NOTHING);
+    file[13] = 5;
+    opened("PKM, sizes", file, 25, YALIVUCU_SIZES_DISAGREE, NOTHING);
+    file[13] = file[9] = 0;
+    opened("PKM, no pixel", file, 25, YALIVUCU_NO_PIXELS, NOTHING);
+    file[4] = '3';
+    opened("PKM, version", file, 25, YALIVUCU_NO_VERSION, NOTHING);
+    file[0] = 'Q';
+    opened("no texture", file, 25, YALIVUCU_NO_TEXTURE, NOTHING);
+}
+
+/* ETC2 RGBA8 in sRGB, 5 by 3 and a level of 2 by 1, as mipgen writes it: with a type of 1401 hex. */
+static void ktx1(void)
+{
+    static const uint8_t head[16] = {0xAB, 'K', 'T', 'X', ' ', '1', '1', 0xBB, 13, 10, 26, 10, 1, 2, 3, 4};
+    uint8_t file[64 + 4 + 32 + 4 + 16] = {0};
+    const struct yalivucu_file due = {YALIVUCU_KTX1, YALIVUCU_ETC2_RGBA8, 1, 5, 3, 2, 0, YALIVUCU_UNTOLD, 0};
+    memcpy(file, head, sizeof head);
+    put4(file + 16, 0x1401), put4(file + 28, 0x9279), put4(file + 36, 5), put4(file + 40, 3), put4(file + 52, 1), put4(file + 56, 2);
+    put4(file + 64, 32), put4(file + 100, 16);
+    opened("KTX 1", file, sizeof file, YALIVUCU_DONE, due);
+    level_is("KTX 1, level 0", file, sizeof file, 0, (struct yalivucu_level){5, 3, 68, 32});
+    level_is("KTX 1, level 1", file, sizeof file, 1, (struct yalivucu_level){2, 1, 104, 16});
+    opened("KTX 1, bytes", file, sizeof file - 1, YALIVUCU_LEVELS_MISSING, NOTHING);
+    put4(file + 60, 0xFFFFFFFC);
+    opened("KTX 1, keys", file, sizeof file, YALIVUCU_LEVELS_MISSING, NOTHING);
+    put4(file + 60, 0), put4(file + 64, 31);
+    opened("KTX 1, length", file, sizeof file, YALIVUCU_SIZES_DISAGREE, NOTHING);
+    put4(file + 52, 6);
+    opened("KTX 1, cube", file, sizeof file, YALIVUCU_NOT_FLAT, NOTHING);
+    put4(file + 52, 1), put4(file + 28, 0x93B0);
+    opened("KTX 1, format", file, sizeof file, YALIVUCU_NO_FORMAT, NOTHING);
+}
+
+/* BC7 in one level, which begins in the middle of nowhere. */
+static void ktx2(void)
+{
+    static const uint8_t head[12] = {0xAB, 'K', 'T', 'X', ' ', '2', '0', 0xBB, 13, 10, 26, 10};
+    uint8_t file[104 + 16] = {0};
+    const struct yalivucu_file due = {YALIVUCU_KTX2, YALIVUCU_BC7, 0, 4, 4, 1, 0, YALIVUCU_UNTOLD, 0};
+    memcpy(file, head, sizeof head);
+    put4(file + 12, 145), put4(file + 20, 4), put4(file + 24, 4), put4(file + 36, 1), put4(file + 80, 104), put4(file + 88, 16);
+    opened("KTX 2", file, sizeof file, YALIVUCU_DONE, due);
+    level_is("KTX 2, level", file, sizeof file, 0, (struct yalivucu_level){4, 4, 104, 16});
+    memset(file + 80, 0xFF, 8);
+    opened("KTX 2, offset", file, sizeof file, YALIVUCU_LEVELS_MISSING, NOTHING);
+    put4(file + 44, 2);
+    opened("KTX 2, Zstandard", file, sizeof file, YALIVUCU_SUPERCOMPRESSED, NOTHING);
+}
+
+static void dds(void)
+{
+    uint8_t file[128 + 8] = {'D', 'D', 'S', ' ', 124};
+    const struct yalivucu_file due = {YALIVUCU_DDS, YALIVUCU_BC1A, 0, 4, 1, 1, 0, YALIVUCU_UNTOLD, 0};
+    put4(file + 12, 1), put4(file + 16, 4), put4(file + 76, 32), put4(file + 80, 4);
+    memcpy(file + 84, "DXT1", 4);
+    opened("DDS", file, sizeof file, YALIVUCU_DONE, due);
+    level_is("DDS, level", file, sizeof file, 0, (struct yalivucu_level){4, 1, 128, 8});
+    opened("DDS, header", file, 127, YALIVUCU_CUT_HEADER, NOTHING);
+    opened("DDS, bytes", file, 135, YALIVUCU_LEVELS_MISSING, NOTHING);
+    put4(file + 16, 65537);
+    opened("DDS, too large", file, sizeof file, YALIVUCU_TOO_LARGE, NOTHING);
+    put4(file + 112, 0x200);
+    opened("DDS, cube", file, sizeof file, YALIVUCU_NOT_FLAT, NOTHING);
+}
+
+static void sheet_file(void)
+{
+    uint8_t room[40] = {0};
+    size_t written = 0;
+    const struct yalivucu_file due = {YALIVUCU_SHEET, YALIVUCU_EAC_RG, 0, 4, 3, 1, 0, YALIVUCU_UNTOLD, 0};
+    same("sheet", yalivucu_write_sheet(6, 4, 3, ZERO, 16, room, sizeof room, &written), YALIVUCU_DONE);
+    opened("sheet", room, written, YALIVUCU_DONE, due);
+    level_is("sheet, level", room, written, 0, (struct yalivucu_level){4, 3, 21, 16});
+    opened("sheet, cut", room, written - 1, YALIVUCU_CUT_SHORT, NOTHING);
+}
+
 static uint32_t bits_of(float value)
 {
     uint32_t bits;
@@ -567,6 +683,11 @@ int main(void)
     baking();
     sheets();
     pieces();
+    pkm();
+    ktx1();
+    ktx2();
+    dds();
+    sheet_file();
     degrees();
     puts(failures ? "C: FAILED" : "C: passed");
     return failures != 0;

@@ -37,6 +37,7 @@ mod baking;
 mod bands;
 mod census;
 mod degrees;
+mod file;
 mod pieces;
 mod refusal;
 mod sheet;

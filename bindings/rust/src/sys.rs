@@ -9,6 +9,31 @@ pub type Start = unsafe extern "C" fn(usize, usize, usize, *const u32, usize, *m
 pub type Block = unsafe extern "C" fn(*const u8, usize, *mut u32, usize) -> u32;
 pub type Channel = unsafe extern "C" fn(*const u8, usize, usize, *mut u32, usize) -> u32;
 
+/// `struct yalivucu_file`.
+#[repr(C)]
+#[derive(Default)]
+pub struct File {
+    pub container: u64,
+    pub format: u64,
+    pub srgb: u64,
+    pub width: u64,
+    pub height: u64,
+    pub levels: u64,
+    pub big_endian: u64,
+    pub orientation: u64,
+    pub left_over: u64,
+}
+
+/// `struct yalivucu_level`.
+#[repr(C)]
+#[derive(Default)]
+pub struct Level {
+    pub width: u64,
+    pub height: u64,
+    pub start: u64,
+    pub length: u64,
+}
+
 macro_rules! declared {
     ($($name:ident)*) => {$(
         pub fn $name(data: *const u8, data_len: usize, width: usize, height: usize, pitch: usize, image: *mut u32, image_len: usize) -> u32;
@@ -128,6 +153,8 @@ extern "C" {
         image_len: usize,
         block: *mut usize,
     ) -> u32;
+    pub fn yalivucu_open_file(data: *const u8, data_len: usize, file: *mut File) -> u32;
+    pub fn yalivucu_file_level(data: *const u8, data_len: usize, level: usize, out: *mut Level) -> u32;
     pub fn yalivucu_sheet_head(
         sheet: *const u8,
         sheet_len: usize,
