@@ -1,5 +1,4 @@
 // BC4 and BC5: a half of eight values for red, or one for red and one for green. The values are BC3's alphas, of bytes or of signed ones.
-use super::alpha_lanes;
 use super::alphas;
 use super::bc1;
 ghost use mathlib.Core.Path.{_≡_};
@@ -12,7 +11,7 @@ ghost use Rattle.rules.specs.Desktop.{alphaIndexIn};
 ghost use Rattle.rules.specs.Rgtc.{greatest as greatestOf, endpoint as endpointOf, valuesIn, bc4Pixel, bc5Pixel};
 
 // The greatest value: -127 to 127 are 0 to 254.
-fn greatest(signed: bool) -> u16
+fn greatest(signed: bool) -> u32
     ensures { λ r. ⌜ (r ≡ greatestOf signed) × (r < 256) ⌝ }
 {
     if signed { 254 } else { 255 }
@@ -35,7 +34,7 @@ fn endpoint(signed: bool, b: u8) -> u8
     if signed { moved(b) } else { b }
 }
 
-fn least(a: u16, b: u16) -> u16
+fn least(a: u32, b: u32) -> u32
     ensures { λ r. ⌜ r ≡ min a b ⌝ }
 {
     if a < b { a } else { b }
@@ -43,14 +42,14 @@ fn least(a: u16, b: u16) -> u16
 
 // The eight values as bytes of a channel, whose lowest bit is `unit`, above `rest`: done for eight in place of sixteen. Of the alphas only
 // the 255 is above the greatest value.
-fn lit(a: [u16; 16], top: u16, unit: u32, rest: u32) -> [u32; 8]
+fn lit(a: [u32; 8], top: u32, unit: u32, rest: u32) -> [u32; 8]
     requires { ⌜ (top < 256) × (unit ≤ 0x10000) × (rest ≤ 0xFF000000) ⌝ }
     ensures { λ r. ⌜ r ≡ build 8 (λ k. min (getD a k 0) top * unit + rest) ⌝ }
 {
     let mut out = [0u32; 8];
     let mut i: usize = 0;
     while i < 8 {
-        out[i] = least(a[i], top) as u32 * unit + rest;
+        out[i] = least(a[i], top) * unit + rest;
         i += 1;
     }
     out
@@ -63,7 +62,7 @@ fn values_in(signed: bool, w: u64, unit: u32, rest: u32) -> [u32; 8]
 {
     let a = endpoint(signed, alphas::first(w));
     let b = endpoint(signed, alphas::second(w));
-    lit(alpha_lanes::all_alphas(a, b), greatest(signed), unit, rest)
+    lit(alphas::alphas(a, b), greatest(signed), unit, rest)
 }
 
 // Each pixel's word, row by row: its three bits stand from bit 16 on, the first pixel's lowest.

@@ -79,10 +79,10 @@ of-half s w k h =
     capped (greatest s) (ltb b a) a b (top s) (fits s (bits 7 0 w) (omega arith)) (fits s (bits 15 8 w) (omega arith)) k h
 
 pub made : (s : Bool) (w p q t u r : ℕ) (l : List ℕ) → p ≡ endpoint s (bits 7 0 w) → q ≡ endpoint s (bits 15 8 w) → t ≡ greatest s
-    → ((k : ℕ) → k < 8 → getD l k 0 ≡ getD (alphas (ltb q p) p q) k 0)
+    → l ≡ alphas (ltb q p) p q
     → build 8 (λ k. min (getD l k 0) t * u + r) ≡ build 8 (λ k. getD (valuesIn s w) k 0 * u + r)
 made s w p q t u r l ep eq et el =
-    build-same 0 _ _ 8 (λ k h. ap (λ (n : ℕ). n * u + r) (ap (λ (n : ℕ). min n t) (el k h) ∙ at k h))
+    build-same 0 _ _ 8 (λ k h. ap (λ (n : ℕ). n * u + r) (ap (λ (m : List ℕ). min (getD m k 0) t) el ∙ at k h))
   where
     at : (k : ℕ) → k < 8 → min (getD (alphas (ltb q p) p q) k 0) t ≡ getD (valuesIn s w) k 0
     at k h = rw (ep, eq, et) (of-half s w k h)

@@ -29,9 +29,6 @@ array-read-least c = omega arith
 least-requires : tie.Need-least-requires Inv-loop μ-loop
 least-requires c κs = search needs
 
-cast-out : tie.Need-cast-out Inv-loop μ-loop
-cast-out c = search needs
-
 -- a byte of a channel
 few : (a r t u : ℕ) → r ≡ min a t → t < 256 → u ≤ 0x10000 → r * u ≤ 0xFF0000
 few a r t u e h k = mul-le-mul {n₁ = r} {m₁ = u} {n₂ = 255} {m₂ = 0x10000} (omega (arith, e)) k
@@ -77,7 +74,6 @@ lit-spec =
     mul-least
     array-read-least
     least-requires
-    cast-out
     mul-out
     add-out
     mul-out-2

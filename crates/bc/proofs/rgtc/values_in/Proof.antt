@@ -19,8 +19,8 @@ second-requires c κs = search needs
 endpoint-requires-2 : tie.Need-endpoint-requires-2
 endpoint-requires-2 c κs = search needs
 
-all-alphas-requires : tie.Need-all-alphas-requires
-all-alphas-requires c κs = search needs
+alphas-requires : tie.Need-alphas-requires
+alphas-requires c κs = search needs
 
 greatest-requires : tie.Need-greatest-requires
 greatest-requires c κs = search needs
@@ -38,11 +38,11 @@ returns c =
     let m = p .before in
     let a = m .before .args in
     c .lit .ensures
-    ∙ made (a .signed) (a .w) (p .endpoint .result) (q .endpoint2 .result) (g .greatest .result) (a .unit) (a .rest) (l .all-alphas .result)
+    ∙ made (a .signed) (a .w) (p .endpoint .result) (q .endpoint2 .result) (g .greatest .result) (a .unit) (a .rest) (l .alphas .result)
     (p .endpoint .ensures ∙ ap (endpoint (a .signed)) (m .first .ensures))
     (q .endpoint2 .ensures ∙ ap (endpoint (a .signed)) (n .second .ensures))
     (g .greatest .ensures .0)
-    (l .all-alphas .ensures)
+    (l .alphas .ensures)
 
 pub values-in-spec : {M : Type 1} → statement M
 values-in-spec =
@@ -52,7 +52,7 @@ values-in-spec =
     endpoint-requires
     second-requires
     endpoint-requires-2
-    all-alphas-requires
+    alphas-requires
     greatest-requires
     lit-requires
     returns)
