@@ -104,7 +104,7 @@ pub fn of_seconds(mesa: &str, android: &str, program: &str) -> Result<bool> {
 pub fn crate_has_no_such_refusal() -> bool {
     let hook = take_hook();
     set_hook(Box::new(|_| ()));
-    let short = BLOCKS.into_iter().all(|reader| {
+    let short = block_readers().all(|reader| {
         let size = block_size(reader);
         let few = reader == BLOCK_BC3_ALPHA || stops(&refused(reader, 0, size, 15));
         stops(&refused(reader, 0, size - 1, 16)) && few

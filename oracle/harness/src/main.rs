@@ -97,7 +97,7 @@ fn compare(options: &Options) -> Result<bool> {
     same &= examples::crate_has_no_such_refusal();
     same &= census::by_hand(&options.program)?;
     let asked = |reader: &u32| options.only.is_empty() || options.only == readers::name(*reader);
-    for reader in readers::PICTURES.into_iter().chain(readers::BLOCKS).chain(readers::CENSUSES).filter(asked) {
+    for reader in readers::PICTURES.into_iter().chain(readers::block_readers()).chain(readers::CENSUSES).filter(asked) {
         let shapes = cases::plan(reader, options.seed, options.blocks);
         same &= compare_reader(readers::name(reader).to_string(), shapes, options)?;
     }

@@ -53,7 +53,7 @@ pub fn record(options: &crate::Options) -> Result<bool> {
     list.group("document 01's specimens", &document(&options.listed)?);
     let mut added = Vec::new();
     let mut shown = Vec::new();
-    for reader in PICTURES.into_iter().chain(BLOCKS) {
+    for reader in PICTURES.into_iter().chain(block_readers()) {
         let cases = stored_plan(reader, options.seed).into_iter().map(|shape| shape.case());
         let answered = cases.map(|case| (case.clone(), expected(&case, &options.listed).answer));
         let (theirs, ours): (Vec<Pair>, Vec<Pair>) = answered.partition(|(case, _)| is_of_crate(case));

@@ -75,8 +75,9 @@ fn gapped(reader: u32, options: &crate::Options, other: &str, label: &str) -> Re
     let seen = ask(other, cases.iter().map(gathered).collect())?;
     for ((dense, seen), (case, got)) in seen.into_iter().zip(ask(&options.program, cases)?) {
         let left = if label == "Android" { Vec::new() } else { wrapped_halves(&dense) };
-        let mut shown = if label == "Android" { seen } else { from_mesa(&dense, seen, reader) };
+        let shown = if label == "Android" { seen } else { from_mesa(&dense, seen, reader) };
         let painted = pixels(&case, &got.image);
+        let mut shown = rounded(&dense, shown, &painted);
         left.iter().for_each(|&k| shown.image[k] = painted[k]);
         let due = Answer { image: put_back(&case, &shown.image), ..shown };
         report.count(&case, &due, &got, left.len());
@@ -119,7 +120,8 @@ fn against(reader: u32, options: &crate::Options, other: &str, label: &str, aske
             "Pillow" => without_a_mode(&case),
             _ => wrapped_halves(&case),
         };
-        let mut due = if label == "Android" { seen } else { from_mesa(&case, seen, asked) };
+        let due = if label == "Android" { seen } else { from_mesa(&case, seen, asked) };
+        let mut due = rounded(&case, due, &got.image);
         left.iter().for_each(|&k| due.image[k] = got.image[k]);
         report.count(&as_asked, &due, &got, left.len());
     }
@@ -179,11 +181,29 @@ fn for_ours(mut case: Case, asked: u32) -> Case {
 /// Mesa's answer in the form of the reader asked.
 pub fn from_mesa(case: &Case, seen: Answer, asked: u32) -> Answer {
     let image = match case.reader {
-        ETC1 | RGB | RGBA1 | RGBA8 | BC1 | BC1A | BC3 | BC7 => seen.image,
+        reader if !is_eac(reader) => seen.image,
         reader if asked == reader => seen.image.iter().map(|&both| pixel(reader, both)).collect(),
         reader => seen.image.iter().flat_map(|&both| values(reader, both)).collect(),
     };
     Answer { image, ..seen }
+}
+
+/// Mesa rounds the signed values of BC4 and BC5 towards zero and takes -128 as it is, so it may be one from ours; and it has -127 above -128,
+/// which the Khronos text leaves open. There ours are taken as answered.
+pub fn rounded(case: &Case, mut seen: Answer, ours: &[u32]) -> Answer {
+    if half(case.reader, false) != Half::Rgtc || !is_signed(case.reader) {
+        return seen;
+    }
+    let (width, size) = (case.width as usize, block_size(case.reader));
+    for (k, (theirs, &ours)) in seen.image.iter_mut().zip(ours).enumerate() {
+        let at = size * (k / width / 4 * blocks_across(case.width) + k % width / 4);
+        let open = case.data[at..at + size].chunks(8).any(|half| half[..2] == [0x81, 0x80]);
+        let near = theirs.to_le_bytes().into_iter().zip(ours.to_le_bytes()).all(|(a, b)| a.abs_diff(b) <= 1);
+        if open || near {
+            *theirs = ours;
+        }
+    }
+    seen
 }
 
 // Of ETC1 blocks with a sum out of range Mesa does not wrap the second base, so their
