@@ -1,10 +1,10 @@
-/* libsquish as a decoder, speaking PROTOCOL.md for BC1 with alpha and for BC3, and accepted cases alone. */
+/* libsquish as a decoder, speaking PROTOCOL.md for BC1 with alpha, for BC2 and for BC3, and accepted cases alone. */
 #include <squish.h>
 #include <cstdint>
 #include <cstdio>
 #include <cstdlib>
 
-enum { MOST_DATA = 262144, MOST_IMAGE = 65536, BC1A = 35, BC3 = 36 };
+enum { MOST_DATA = 262144, MOST_IMAGE = 65536, BC1A = 35, BC3 = 36, BC2 = 80 };
 
 static void need(bool fact, const char *what)
 {
@@ -32,14 +32,15 @@ int main()
     static uint32_t head[6], image[MOST_IMAGE];
     const uint32_t done[2] = {0, 0};
     while (fread(head, 4, 6, stdin) == 6) {
-        need((head[0] == BC1A || head[0] == BC3) && head[4] <= MOST_DATA && head[5] <= MOST_IMAGE, "no such case here");
+        need((head[0] == BC1A || head[0] == BC2 || head[0] == BC3) && head[4] <= MOST_DATA && head[5] <= MOST_IMAGE, "no such case here");
         need(fread(data, 1, head[4], stdin) == head[4], "data cut short");
         need(fread(image, 4, head[5], stdin) == head[5], "image cut short");
         need(head[5] == head[2] * head[3], "only pictures of the exact length");
-        const uint32_t size = head[0] == BC3 ? 16 : 8, across = (head[2] + 3) / 4, down = (head[3] + 3) / 4;
+        const uint32_t size = head[0] == BC1A ? 8 : 16, across = (head[2] + 3) / 4, down = (head[3] + 3) / 4;
         need(head[4] >= across * down * size, "only whole pictures");
+        const int flags = head[0] == BC1A ? squish::kDxt1 : head[0] == BC2 ? squish::kDxt3 : squish::kDxt5;
         for (uint32_t n = 0; n < across * down; n++)
-            block(data + n * size, head[0] == BC3 ? squish::kDxt5 : squish::kDxt1, n % across * 4, n / across * 4, head, image);
+            block(data + n * size, flags, n % across * 4, n / across * 4, head, image);
         fwrite(done, 4, 2, stdout);
         fwrite(image, 4, head[5], stdout);
         fflush(stdout);

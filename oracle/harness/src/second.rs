@@ -22,7 +22,7 @@ pub fn mesa(options: &crate::Options) -> Result<bool> {
     Ok(same)
 }
 
-/// One format alone, by Mesa, EAC also by the readers of whole values and at every base, and BC7 by Pillow too.
+/// One format alone, by Mesa, EAC also by the readers of whole values and at every base, and BC4, BC5 and BC7 by Pillow too.
 pub fn only(options: &crate::Options) -> Result<bool> {
     let mut same = true;
     for reader in FORMATS.into_iter().filter(|&reader| name(reader) == options.only) {
@@ -31,8 +31,12 @@ pub fn only(options: &crate::Options) -> Result<bool> {
             same &= against(reader, options, &options.mesa, "Mesa, eleven bits,", wide(reader))?;
             same &= at_every_base(reader, options)?;
         }
+        same &= pillow(options)?;
+        if reader == BC2 {
+            same &= against(reader, options, &options.squish, "squish", reader)?;
+        }
         if reader == BC7 {
-            same &= pillow(options)? & crate::desktop::compare(options)?;
+            same &= crate::desktop::compare(options)?;
         }
     }
     Ok(same)
@@ -43,18 +47,23 @@ pub fn android(options: &crate::Options) -> Result<bool> {
     against(ETC1, options, &options.android, "Android", ETC1)
 }
 
-/// libsquish, which has one rule for BC1, with alpha, and reads BC3.
+/// libsquish, which has one rule for BC1, with alpha, and reads BC2 and BC3.
 pub fn squish(options: &crate::Options) -> Result<bool> {
     let mut same = true;
-    for reader in [BC1A, BC3] {
+    for reader in [BC1A, BC2, BC3] {
         same &= against(reader, options, &options.squish, "squish", reader)?;
     }
     Ok(same)
 }
 
-/// Pillow, for BC7. Of a block without a mode it makes opaque black, so those are left to Mesa.
+/// Pillow, for BC4, BC5 and BC7. Of a BC7 block without a mode it makes opaque black, so those are left to Mesa; its signed BC5 has another
+/// range.
 pub fn pillow(options: &crate::Options) -> Result<bool> {
-    against(BC7, options, &options.pillow, "Pillow", BC7)
+    let mut same = true;
+    for reader in [BC4, BC5, BC7].into_iter().filter(|&reader| options.only.is_empty() || options.only == name(reader)) {
+        same &= against(reader, options, &options.pillow, "Pillow", reader)?;
+    }
+    Ok(same)
 }
 
 /// Pictures with a pitch, in all formats by Mesa, and in ETC1 by Android too. The other decoder is given
@@ -117,7 +126,7 @@ fn against(reader: u32, options: &crate::Options, other: &str, label: &str, aske
     while let (Some((case, seen)), Some((as_asked, got))) = (theirs.next()?, ours.next()?) {
         let left = match label {
             "Android" => Vec::new(),
-            "Pillow" => without_a_mode(&case),
+            "Pillow" if reader == BC7 => without_a_mode(&case),
             _ => wrapped_halves(&case),
         };
         let due = if label == "Android" { seen } else { from_mesa(&case, seen, asked) };
