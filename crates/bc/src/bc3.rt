@@ -56,13 +56,13 @@ fn four_lanes(p: u16, q: u16) -> [u8; 16]
     out
 }
 
-pub fn palette_in(w: u64) -> [u32; 4]
+fn palette_in(w: u64) -> [u32; 4]
     ensures { λ r. ⌜ r ≡ paletteIn true false w ⌝ }
 {
     bc1::words(four_lanes(bc1::first(w), bc1::second(w)))
 }
 
-pub fn hues(c: [u32; 4]) -> [u32; 4]
+fn hues(c: [u32; 4]) -> [u32; 4]
     ensures { λ r. ⌜ r ≡ build 4 (λ k. getD c k 0 % 0x1000000) ⌝ }
 {
     let mut out = [0u32; 4];

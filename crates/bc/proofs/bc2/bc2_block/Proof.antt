@@ -1,13 +1,12 @@
 -- The words of the two halves, the colours of the second, and what each turn makes.
 -- Assumes nothing.
 use mathlib.Core.Path.{_∙_, ap}
-use mathlib.Core.List.{List}
+use mathlib.Core.Bool.{true, false}
 use Prim.Native.Nat.{ℕ, _%_, _<_, _≤_}
 use native.Mathlib.Omega.{arith}
 use lib.ListN.{getD}
 use denote.Ref.{now}
-use Rattle.rules.specs.Notation.{build}
-use Rattle.rules.specs.Desktop.{halfWord}
+use Rattle.rules.specs.Desktop.{halfWord, paletteIn}
 use Rattle.laws.proofs.Parts.{rest}
 use Rattle.bc.proofs.bc2.Shown.{shown}
 use Rattle.bc.proofs.bc3.Turns.{at-most}
@@ -30,30 +29,27 @@ part-half-word-end c = search needs
 half-word-requires-2 : tie.Need-half-word-requires-2
 half-word-requires-2 c κs = search needs
 
-palette-in-requires : tie.Need-palette-in-requires
-palette-in-requires c κs = search needs
-
-hues-requires : tie.Need-hues-requires
-hues-requires c κs = search needs
+hues-in-requires : tie.Need-hues-in-requires
+hues-in-requires c κs = search needs
 
 below : (a : ℕ) → a ≤ 0xFFFFFF → a < 0x1000000
 below a h = omega arith
 
 both-requires : tie.Need-both-requires
 both-requires c κs =
-    λ k. below _ (at-most (λ k. getD (c .before .palette-in .result) k 0 % 0x1000000) 0xFFFFFF 4 (c .hues .result) (c .hues .ensures) (λ k. omega arith) k)
+    let w = c .before .half-word2 .result in
+    λ k. below _ (at-most (λ k. getD (paletteIn true false w) k 0 % 0x1000000) 0xFFFFFF 4 (c .hues-in .result) (c .hues-in .ensures) (λ k. omega arith) k)
 
 returns : tie.Need-returns
 returns c =
     let h = c .before in
-    let p = h .before in
-    let w = p .before in
+    let w = h .before in
     let v = w .before .before in
     let d = now (v .before .before .args .d) in
     c .both .ensures
-    ∙ shown d (v .half-word .result) (w .half-word2 .result) (h .hues .result) (v .half-word .ensures)
+    ∙ shown d (v .half-word .result) (w .half-word2 .result) (h .hues-in .result) (v .half-word .ensures)
     (w .half-word2 .ensures ∙ ap halfWord (rest 8 d))
-    (h .hues .ensures ∙ ap (λ (l : List ℕ). build 4 (λ k. getD l k 0 % 0x1000000)) (p .palette-in .ensures))
+    (h .hues-in .ensures)
 
 pub bc2-block-spec : {M : Type 1} → statement M
 bc2-block-spec =
@@ -64,7 +60,6 @@ bc2-block-spec =
     part-half-word-start
     part-half-word-end
     half-word-requires-2
-    palette-in-requires
-    hues-requires
+    hues-in-requires
     both-requires
     returns)
