@@ -92,7 +92,7 @@ enum yalivucu_answer {
 };
 
 /* Pictures in blocks of 8 bytes. The last of three BC1 colours is black in bc1, and 0, transparent, in bc1a.
- * The byte of a signed channel, in EAC and in BC4 and BC5, is its value plus 127: 0 stands at 127. */
+ * A signed channel's byte has 0 at 127 and the least value at 0, in EAC as in BC4 and BC5. */
 uint32_t yalivucu_decode_etc1(const uint8_t *data, size_t data_len, size_t width, size_t height, uint32_t *image, size_t image_len);
 uint32_t yalivucu_decode_etc2_rgb(const uint8_t *data, size_t data_len, size_t width, size_t height, uint32_t *image, size_t image_len);
 uint32_t yalivucu_decode_etc2_rgba1(const uint8_t *data, size_t data_len, size_t width, size_t height, uint32_t *image, size_t image_len);

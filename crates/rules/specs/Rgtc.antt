@@ -1,6 +1,5 @@
 -- BC4 and BC5, which Khronos calls RGTC: one half as BC3's alphas have it, for red, or two, for red and green; unsigned and signed.
--- The sentences in quotes are those of the Khronos extension text EXT_texture_compression_rgtc; docs/DECISIONS.md says what it leaves
--- open, and what is chosen here.
+-- The Khronos text of RGTC is not at hand; what is known of it stands in docs/DECISIONS.md, with what it leaves open and is chosen here.
 -- Assumes nothing.
 use mathlib.Core.Bool.{Bool, true, false, cond}
 use mathlib.Core.List.{List}
@@ -18,13 +17,13 @@ use Rattle.rules.specs.Desktop.{halfWord, eightUpTo, alphaIndexIn}
 abbrev pub greatest : Bool → ℕ
 greatest signed = cond signed 254 255
 
--- the first and the second value of a half: a byte, or "signed values", of which -128 is -1.0 as -127 is
+-- the first and the second value of a half: a byte, or a signed one, of which -128 is read as -127, as the base of signed EAC is
 abbrev pub endpoint : Bool → ℕ → ℕ
 endpoint false b = b
 endpoint true b = clamp 254 (signedBase b +ℤ pos 127)
 
--- "extracted in the same way": the eight values of a half. What lies between two rounds down, and that is the same of the values and of
--- the bytes, each 127 above its value.
+-- The eight values of a half, as BC3's alphas. What lies between two rounds down, and that is the same of the values and of the bytes,
+-- each 127 above its value.
 abbrev pub valuesIn : Bool → ℕ → List ℕ
 valuesIn signed w =
     eightUpTo (greatest signed) (ltb (endpoint signed (bits 15 8 w)) (endpoint signed (bits 7 0 w))) (endpoint signed (bits 7 0 w))
