@@ -114,7 +114,8 @@ enum yalivucu_answer {
     YALIVUCU_SUPERCOMPRESSED = 41
 };
 
-/* Pictures in blocks of 8 bytes. The last of three BC1 colours is black in bc1, and 0, transparent, in bc1a. */
+/* Pictures in blocks of 8 bytes. The last of three BC1 colours is black in bc1, and 0, transparent, in bc1a.
+ * A signed channel's byte has 0 at 127 and the least value at 0, in EAC as in BC4 and BC5. */
 uint32_t yalivucu_decode_etc1(const uint8_t *data, size_t data_len, size_t width, size_t height, uint32_t *image, size_t image_len);
 uint32_t yalivucu_decode_etc2_rgb(const uint8_t *data, size_t data_len, size_t width, size_t height, uint32_t *image, size_t image_len);
 uint32_t yalivucu_decode_etc2_rgba1(const uint8_t *data, size_t data_len, size_t width, size_t height, uint32_t *image, size_t image_len);
@@ -122,6 +123,8 @@ uint32_t yalivucu_decode_eacr(const uint8_t *data, size_t data_len, size_t width
 uint32_t yalivucu_decode_eacr_signed(const uint8_t *data, size_t data_len, size_t width, size_t height, uint32_t *image, size_t image_len);
 uint32_t yalivucu_decode_bc1(const uint8_t *data, size_t data_len, size_t width, size_t height, uint32_t *image, size_t image_len);
 uint32_t yalivucu_decode_bc1a(const uint8_t *data, size_t data_len, size_t width, size_t height, uint32_t *image, size_t image_len);
+uint32_t yalivucu_decode_bc4(const uint8_t *data, size_t data_len, size_t width, size_t height, uint32_t *image, size_t image_len);
+uint32_t yalivucu_decode_bc4_signed(const uint8_t *data, size_t data_len, size_t width, size_t height, uint32_t *image, size_t image_len);
 
 /* Pictures in blocks of 16 bytes. */
 uint32_t yalivucu_decode_etc2_rgba8(const uint8_t *data, size_t data_len, size_t width, size_t height, uint32_t *image, size_t image_len);
@@ -129,6 +132,9 @@ uint32_t yalivucu_decode_eacrg(const uint8_t *data, size_t data_len, size_t widt
 uint32_t yalivucu_decode_eacrg_signed(const uint8_t *data, size_t data_len, size_t width, size_t height, uint32_t *image, size_t image_len);
 uint32_t yalivucu_decode_bc3(const uint8_t *data, size_t data_len, size_t width, size_t height, uint32_t *image, size_t image_len);
 uint32_t yalivucu_decode_bc7(const uint8_t *data, size_t data_len, size_t width, size_t height, uint32_t *image, size_t image_len);
+uint32_t yalivucu_decode_bc2(const uint8_t *data, size_t data_len, size_t width, size_t height, uint32_t *image, size_t image_len);
+uint32_t yalivucu_decode_bc5(const uint8_t *data, size_t data_len, size_t width, size_t height, uint32_t *image, size_t image_len);
+uint32_t yalivucu_decode_bc5_signed(const uint8_t *data, size_t data_len, size_t width, size_t height, uint32_t *image, size_t image_len);
 
 /* The same with a pitch, for an image whose rows have a gap. With pitch = width each does what the
  * function without one does. */
@@ -144,6 +150,11 @@ uint32_t yalivucu_decode_bc1_pitched(const uint8_t *data, size_t data_len, size_
 uint32_t yalivucu_decode_bc1a_pitched(const uint8_t *data, size_t data_len, size_t width, size_t height, size_t pitch, uint32_t *image, size_t image_len);
 uint32_t yalivucu_decode_bc3_pitched(const uint8_t *data, size_t data_len, size_t width, size_t height, size_t pitch, uint32_t *image, size_t image_len);
 uint32_t yalivucu_decode_bc7_pitched(const uint8_t *data, size_t data_len, size_t width, size_t height, size_t pitch, uint32_t *image, size_t image_len);
+uint32_t yalivucu_decode_bc2_pitched(const uint8_t *data, size_t data_len, size_t width, size_t height, size_t pitch, uint32_t *image, size_t image_len);
+uint32_t yalivucu_decode_bc4_pitched(const uint8_t *data, size_t data_len, size_t width, size_t height, size_t pitch, uint32_t *image, size_t image_len);
+uint32_t yalivucu_decode_bc4_signed_pitched(const uint8_t *data, size_t data_len, size_t width, size_t height, size_t pitch, uint32_t *image, size_t image_len);
+uint32_t yalivucu_decode_bc5_pitched(const uint8_t *data, size_t data_len, size_t width, size_t height, size_t pitch, uint32_t *image, size_t image_len);
+uint32_t yalivucu_decode_bc5_signed_pitched(const uint8_t *data, size_t data_len, size_t width, size_t height, size_t pitch, uint32_t *image, size_t image_len);
 
 /* All eleven bits of EAC, as 16-bit numbers: R in blocks of 8 bytes, RG in blocks of 16. Unsigned values
  * are 0 to 2047 and signed ones -1023 to 1023. R has one number to a pixel. RG has two, red then
@@ -206,6 +217,8 @@ uint32_t yalivucu_decode_eacr_block(const uint8_t *data, size_t data_len, uint32
 uint32_t yalivucu_decode_eacr_signed_block(const uint8_t *data, size_t data_len, uint32_t *out, size_t out_len);
 uint32_t yalivucu_decode_bc1_block(const uint8_t *data, size_t data_len, uint32_t *out, size_t out_len);
 uint32_t yalivucu_decode_bc1a_block(const uint8_t *data, size_t data_len, uint32_t *out, size_t out_len);
+uint32_t yalivucu_decode_bc4_block(const uint8_t *data, size_t data_len, uint32_t *out, size_t out_len);
+uint32_t yalivucu_decode_bc4_signed_block(const uint8_t *data, size_t data_len, uint32_t *out, size_t out_len);
 
 /* One block of 16 bytes, into out[0] to out[15]. */
 uint32_t yalivucu_decode_etc2_rgba8_block(const uint8_t *data, size_t data_len, uint32_t *out, size_t out_len);
@@ -213,6 +226,9 @@ uint32_t yalivucu_decode_eacrg_block(const uint8_t *data, size_t data_len, uint3
 uint32_t yalivucu_decode_eacrg_signed_block(const uint8_t *data, size_t data_len, uint32_t *out, size_t out_len);
 uint32_t yalivucu_decode_bc3_block(const uint8_t *data, size_t data_len, uint32_t *out, size_t out_len);
 uint32_t yalivucu_decode_bc7_block(const uint8_t *data, size_t data_len, uint32_t *out, size_t out_len);
+uint32_t yalivucu_decode_bc2_block(const uint8_t *data, size_t data_len, uint32_t *out, size_t out_len);
+uint32_t yalivucu_decode_bc5_block(const uint8_t *data, size_t data_len, uint32_t *out, size_t out_len);
+uint32_t yalivucu_decode_bc5_signed_block(const uint8_t *data, size_t data_len, uint32_t *out, size_t out_len);
 
 /* An alpha half of 8 bytes: replaces the top byte of out[0] to out[15] and keeps the rest. */
 uint32_t yalivucu_decode_etc2_a8_block(const uint8_t *data, size_t data_len, uint32_t *out, size_t out_len);
@@ -387,6 +403,11 @@ uint32_t yalivucu_start_bc1(size_t width, size_t height, size_t pitch, const uin
 uint32_t yalivucu_start_bc1a(size_t width, size_t height, size_t pitch, const uint32_t *image, size_t image_len, size_t *numbers, uint8_t *kept);
 uint32_t yalivucu_start_bc3(size_t width, size_t height, size_t pitch, const uint32_t *image, size_t image_len, size_t *numbers, uint8_t *kept);
 uint32_t yalivucu_start_bc7(size_t width, size_t height, size_t pitch, const uint32_t *image, size_t image_len, size_t *numbers, uint8_t *kept);
+uint32_t yalivucu_start_bc2(size_t width, size_t height, size_t pitch, const uint32_t *image, size_t image_len, size_t *numbers, uint8_t *kept);
+uint32_t yalivucu_start_bc4(size_t width, size_t height, size_t pitch, const uint32_t *image, size_t image_len, size_t *numbers, uint8_t *kept);
+uint32_t yalivucu_start_bc4_signed(size_t width, size_t height, size_t pitch, const uint32_t *image, size_t image_len, size_t *numbers, uint8_t *kept);
+uint32_t yalivucu_start_bc5(size_t width, size_t height, size_t pitch, const uint32_t *image, size_t image_len, size_t *numbers, uint8_t *kept);
+uint32_t yalivucu_start_bc5_signed(size_t width, size_t height, size_t pitch, const uint32_t *image, size_t image_len, size_t *numbers, uint8_t *kept);
 uint32_t yalivucu_take_piece(size_t *numbers, uint8_t *kept, const uint8_t *bytes, size_t bytes_len, uint32_t *image, size_t image_len, size_t *painted, size_t *unused);
 uint32_t yalivucu_end_pieces(const size_t *numbers, const uint8_t *kept);
 
@@ -437,6 +458,26 @@ static inline uint32_t yalivucu_pieces_bc3(struct yalivucu_pieces *state, size_t
 static inline uint32_t yalivucu_pieces_bc7(struct yalivucu_pieces *state, size_t width, size_t height, size_t pitch, const uint32_t *image, size_t image_len)
 {
     return yalivucu_start_bc7(width, height, pitch, image, image_len, state->numbers_, state->kept_);
+}
+static inline uint32_t yalivucu_pieces_bc2(struct yalivucu_pieces *state, size_t width, size_t height, size_t pitch, const uint32_t *image, size_t image_len)
+{
+    return yalivucu_start_bc2(width, height, pitch, image, image_len, state->numbers_, state->kept_);
+}
+static inline uint32_t yalivucu_pieces_bc4(struct yalivucu_pieces *state, size_t width, size_t height, size_t pitch, const uint32_t *image, size_t image_len)
+{
+    return yalivucu_start_bc4(width, height, pitch, image, image_len, state->numbers_, state->kept_);
+}
+static inline uint32_t yalivucu_pieces_bc4_signed(struct yalivucu_pieces *state, size_t width, size_t height, size_t pitch, const uint32_t *image, size_t image_len)
+{
+    return yalivucu_start_bc4_signed(width, height, pitch, image, image_len, state->numbers_, state->kept_);
+}
+static inline uint32_t yalivucu_pieces_bc5(struct yalivucu_pieces *state, size_t width, size_t height, size_t pitch, const uint32_t *image, size_t image_len)
+{
+    return yalivucu_start_bc5(width, height, pitch, image, image_len, state->numbers_, state->kept_);
+}
+static inline uint32_t yalivucu_pieces_bc5_signed(struct yalivucu_pieces *state, size_t width, size_t height, size_t pitch, const uint32_t *image, size_t image_len)
+{
+    return yalivucu_start_bc5_signed(width, height, pitch, image, image_len, state->numbers_, state->kept_);
 }
 static inline uint32_t yalivucu_pieces_take(struct yalivucu_pieces *state, const uint8_t *bytes, size_t bytes_len, uint32_t *image, size_t image_len, size_t *painted, size_t *unused)
 {

@@ -1,4 +1,4 @@
-/* Mesa as a decoder, speaking PROTOCOL.md for the twelve picture readers that have a format,
+/* Mesa as a decoder, speaking PROTOCOL.md for the seventeen picture readers that have a format,
    and accepted cases alone. Textures go in compressed; a shader hands out the bits of each texel as
    whole numbers, so nothing is rounded on the way back. Eight-bit formats come back as
    pixel words. Of EAC an element is red16 + 65536 * green16, the sixteen bits that Mesa
@@ -14,10 +14,11 @@
 
 enum { MOST_DATA = 262144, MOST_IMAGE = 65536 };
 
-/* By the numbers of the readers; the first is ETC1 from its own extension, then three are those of S3TC, and the last is BPTC's. */
-enum { S3TC = 8, READERS = 12 };
+/* By the numbers of the readers; the first is ETC1 from its own extension; three are those of S3TC and one BPTC's, then come S3TC's other
+   one and the four of RGTC. */
+enum { S3TC = 8, BC2 = 12, BC4_SIGNED = 14, BC5_SIGNED = 16, READERS = 17 };
 static const GLenum FORMAT[READERS] = {0x8D64, 0x9274, 0x9276, 0x9278, 0x9270, 0x9271, 0x9272, 0x9273,
-                                       0x83F0, 0x83F1, 0x83F3, 0x8E8C};
+                                       0x83F0, 0x83F1, 0x83F3, 0x8E8C, 0x83F2, 0x8DBB, 0x8DBC, 0x8DBD, 0x8DBE};
 
 static void need(int fact, const char *what)
 {
@@ -121,6 +122,9 @@ static int whole(float value, int most)
 
 static uint32_t element(int reader, const float *t)
 {
+    if (reader == BC4_SIGNED || reader == BC5_SIGNED) /* -127 to 127 as bytes from 0 on, so that 0 stands at 127 */
+        return 0xFF000000 | (uint32_t)(whole(t[0], 127) + 127) << 16 |
+               (uint32_t)(reader == BC5_SIGNED ? whole(t[1], 127) + 127 : 0) << 8;
     if (reader < 4 || reader >= S3TC)
         return (uint32_t)whole(t[3], 255) << 24 | (uint32_t)whole(t[0], 255) << 16 | (uint32_t)whole(t[1], 255) << 8 |
                (uint32_t)whole(t[2], 255);

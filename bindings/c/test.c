@@ -50,6 +50,11 @@ static void pictures(void)
         {"bc1a", yalivucu_decode_bc1a, 8, 0xff000000},
         {"bc3", yalivucu_decode_bc3, 16, 0x00000000},
         {"bc7", yalivucu_decode_bc7, 16, 0x00000000},
+        {"bc2", yalivucu_decode_bc2, 16, 0x00000000},
+        {"bc4", yalivucu_decode_bc4, 8, 0xff000000},
+        {"bc4_signed", yalivucu_decode_bc4_signed, 8, 0xff7f0000},
+        {"bc5", yalivucu_decode_bc5, 16, 0xff000000},
+        {"bc5_signed", yalivucu_decode_bc5_signed, 16, 0xff7f7f00},
     };
     for (size_t k = 0; k < sizeof row / sizeof *row; k++) {
         clear();
@@ -86,6 +91,11 @@ static void pitched(void)
         {"bc1a_pitched", yalivucu_decode_bc1a_pitched, 8, 0xff000000},
         {"bc3_pitched", yalivucu_decode_bc3_pitched, 16, 0x00000000},
         {"bc7_pitched", yalivucu_decode_bc7_pitched, 16, 0x00000000},
+        {"bc2_pitched", yalivucu_decode_bc2_pitched, 16, 0x00000000},
+        {"bc4_pitched", yalivucu_decode_bc4_pitched, 8, 0xff000000},
+        {"bc4_signed_pitched", yalivucu_decode_bc4_signed_pitched, 8, 0xff7f0000},
+        {"bc5_pitched", yalivucu_decode_bc5_pitched, 16, 0xff000000},
+        {"bc5_signed_pitched", yalivucu_decode_bc5_signed_pitched, 16, 0xff7f7f00},
     };
     for (size_t k = 0; k < sizeof row / sizeof *row; k++) {
         const char *name = row[k].name;
@@ -277,6 +287,11 @@ static void blocks(void)
         {"bc1a_block", yalivucu_decode_bc1a_block, 8, 0xff000000},
         {"bc3_block", yalivucu_decode_bc3_block, 16, 0x00000000},
         {"bc7_block", yalivucu_decode_bc7_block, 16, 0x00000000},
+        {"bc2_block", yalivucu_decode_bc2_block, 16, 0x00000000},
+        {"bc4_block", yalivucu_decode_bc4_block, 8, 0xff000000},
+        {"bc4_signed_block", yalivucu_decode_bc4_signed_block, 8, 0xff7f0000},
+        {"bc5_block", yalivucu_decode_bc5_block, 16, 0xff000000},
+        {"bc5_signed_block", yalivucu_decode_bc5_signed_block, 16, 0xff7f7f00},
     };
     for (size_t k = 0; k < sizeof row / sizeof *row; k++) {
         clear();
@@ -326,6 +341,35 @@ static void desktop(void)
     same("bc3_alpha", yalivucu_decode_bc3_alpha(block, 8, 2, image, MOST), YALIVUCU_DONE);
     same("bc3_alpha, red", image[15], 0x11ff1111);
     untouched("bc3_alpha", 16);
+}
+
+/* The alphas 0 and F0 of BC2, over the thirds; the eight values of BC4 and BC5, sevenths, fifths and both ends, unsigned and signed. */
+static void rest_of_the_desktop(void)
+{
+    const uint8_t four[16] = {0x1f, 0, 0, 0, 0, 0, 0, 0, 0, 0, 0xff, 0xff, 0xe4};
+    const uint8_t eight[16] = {0xff, 0x00, 0x88, 0xc6, 0xfa, 0, 0, 0, 0x80, 0x81, 0x88, 0xc6, 0xfa};
+    clear();
+    same("bc2", yalivucu_decode_bc2(four, 16, 4, 1, image, MOST), YALIVUCU_DONE);
+    same("bc2, fifteen", image[0], 0xff000000);
+    same("bc2, one", image[1], 0x11ffffff);
+    same("bc2, index 2", image[2], 0x00555555);
+    untouched("bc2", 4);
+    same("bc4", yalivucu_decode_bc4(eight, 8, 4, 2, image, MOST), YALIVUCU_DONE);
+    same("bc4, first", image[0], 0xffff0000);
+    same("bc4, six sevenths", image[2], 0xffda0000);
+    same("bc4, a seventh", image[7], 0xff240000);
+    same("bc4_signed", yalivucu_decode_bc4_signed(eight, 8, 4, 2, image, MOST), YALIVUCU_DONE);
+    same("bc4_signed, -1", image[0], 0xff7e0000);
+    same("bc4_signed, 0", image[1], 0xff7f0000);
+    same("bc4_signed, rounded down", image[2], 0xff7e0000);
+    same("bc4_signed, the greatest", image[7], 0xfffe0000);
+    same("bc5", yalivucu_decode_bc5(eight, 16, 4, 2, image, MOST), YALIVUCU_DONE);
+    same("bc5, ends of fifths", image[6], 0xff480000);
+    same("bc5, ends of fifths", image[7], 0xff24ff00);
+    same("bc5_signed", yalivucu_decode_bc5_signed(eight, 16, 4, 2, image, MOST), YALIVUCU_DONE);
+    same("bc5_signed, -128 as -127", image[0], 0xff7e0000);
+    same("bc5_signed, the greatest", image[7], 0xfffefe00);
+    untouched("bc5_signed", 8);
 }
 
 /* A BC7 block of mode 6 whose one colour has all bits set, then of mode 5 with alpha 0 in the place of red. */
@@ -462,6 +506,11 @@ static void pieces(void)
         {"pieces_bc1a", yalivucu_pieces_bc1a, yalivucu_decode_bc1a_pitched, 8},
         {"pieces_bc3", yalivucu_pieces_bc3, yalivucu_decode_bc3_pitched, 16},
         {"pieces_bc7", yalivucu_pieces_bc7, yalivucu_decode_bc7_pitched, 16},
+        {"pieces_bc2", yalivucu_pieces_bc2, yalivucu_decode_bc2_pitched, 16},
+        {"pieces_bc4", yalivucu_pieces_bc4, yalivucu_decode_bc4_pitched, 8},
+        {"pieces_bc4_signed", yalivucu_pieces_bc4_signed, yalivucu_decode_bc4_signed_pitched, 8},
+        {"pieces_bc5", yalivucu_pieces_bc5, yalivucu_decode_bc5_pitched, 16},
+        {"pieces_bc5_signed", yalivucu_pieces_bc5_signed, yalivucu_decode_bc5_signed_pitched, 16},
     };
     uint8_t data[67];
     uint32_t plain[MOST];
@@ -678,6 +727,7 @@ int main(void)
     blocks();
     channels();
     desktop();
+    rest_of_the_desktop();
     bptc();
     censuses();
     baking();

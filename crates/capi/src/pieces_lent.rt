@@ -25,6 +25,11 @@ fn format_at(n: usize) -> Format
         9 => Format::Bc1Alpha,
         10 => Format::Bc3,
         11 => Format::Bc7,
+        12 => Format::Bc2,
+        13 => Format::Bc4,
+        14 => Format::Bc4Signed,
+        15 => Format::Bc5,
+        16 => Format::Bc5Signed,
         _ => Format::Etc1,
     }
 }
@@ -46,6 +51,11 @@ fn number_of(f: Format) -> usize
         Format::Bc1Alpha => 9,
         Format::Bc3 => 10,
         Format::Bc7 => 11,
+        Format::Bc2 => 12,
+        Format::Bc4 => 13,
+        Format::Bc4Signed => 14,
+        Format::Bc5 => 15,
+        Format::Bc5Signed => 16,
     }
 }
 

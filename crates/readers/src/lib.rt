@@ -227,6 +227,76 @@ pub fn decode_bc7_pitched(data: &[u8], pic: Picture, image: &mut [u32]) -> Answe
     picture::read(Format::Bc7, data, pic, image)
 }
 
+// Reads a BC2 picture.
+pub fn decode_bc2(data: &[u8], width: usize, height: usize, image: &mut [u32]) -> Answer
+    ensures { λ r. ⌜ ReadsPicture Format.Bc2 (now («data» .entry)) (sized width height) (now (image .entry)) r (now (image .exit)) ⌝ }
+{
+    read(Format::Bc2, data, width, height, image)
+}
+
+// The same of a picture with a pitch.
+pub fn decode_bc2_pitched(data: &[u8], pic: Picture, image: &mut [u32]) -> Answer
+    ensures { λ r. ⌜ ReadsPicture Format.Bc2 (now («data» .entry)) pic (now (image .entry)) r (now (image .exit)) ⌝ }
+{
+    picture::read(Format::Bc2, data, pic, image)
+}
+
+// Reads a BC4 picture.
+pub fn decode_bc4(data: &[u8], width: usize, height: usize, image: &mut [u32]) -> Answer
+    ensures { λ r. ⌜ ReadsPicture Format.Bc4 (now («data» .entry)) (sized width height) (now (image .entry)) r (now (image .exit)) ⌝ }
+{
+    read(Format::Bc4, data, width, height, image)
+}
+
+// The same of a picture with a pitch.
+pub fn decode_bc4_pitched(data: &[u8], pic: Picture, image: &mut [u32]) -> Answer
+    ensures { λ r. ⌜ ReadsPicture Format.Bc4 (now («data» .entry)) pic (now (image .entry)) r (now (image .exit)) ⌝ }
+{
+    picture::read(Format::Bc4, data, pic, image)
+}
+
+// Reads a signed BC4 picture.
+pub fn decode_bc4_signed(data: &[u8], width: usize, height: usize, image: &mut [u32]) -> Answer
+    ensures { λ r. ⌜ ReadsPicture Format.Bc4Signed (now («data» .entry)) (sized width height) (now (image .entry)) r (now (image .exit)) ⌝ }
+{
+    read(Format::Bc4Signed, data, width, height, image)
+}
+
+// The same of a picture with a pitch.
+pub fn decode_bc4_signed_pitched(data: &[u8], pic: Picture, image: &mut [u32]) -> Answer
+    ensures { λ r. ⌜ ReadsPicture Format.Bc4Signed (now («data» .entry)) pic (now (image .entry)) r (now (image .exit)) ⌝ }
+{
+    picture::read(Format::Bc4Signed, data, pic, image)
+}
+
+// Reads a BC5 picture.
+pub fn decode_bc5(data: &[u8], width: usize, height: usize, image: &mut [u32]) -> Answer
+    ensures { λ r. ⌜ ReadsPicture Format.Bc5 (now («data» .entry)) (sized width height) (now (image .entry)) r (now (image .exit)) ⌝ }
+{
+    read(Format::Bc5, data, width, height, image)
+}
+
+// The same of a picture with a pitch.
+pub fn decode_bc5_pitched(data: &[u8], pic: Picture, image: &mut [u32]) -> Answer
+    ensures { λ r. ⌜ ReadsPicture Format.Bc5 (now («data» .entry)) pic (now (image .entry)) r (now (image .exit)) ⌝ }
+{
+    picture::read(Format::Bc5, data, pic, image)
+}
+
+// Reads a signed BC5 picture.
+pub fn decode_bc5_signed(data: &[u8], width: usize, height: usize, image: &mut [u32]) -> Answer
+    ensures { λ r. ⌜ ReadsPicture Format.Bc5Signed (now («data» .entry)) (sized width height) (now (image .entry)) r (now (image .exit)) ⌝ }
+{
+    read(Format::Bc5Signed, data, width, height, image)
+}
+
+// The same of a picture with a pitch.
+pub fn decode_bc5_signed_pitched(data: &[u8], pic: Picture, image: &mut [u32]) -> Answer
+    ensures { λ r. ⌜ ReadsPicture Format.Bc5Signed (now («data» .entry)) pic (now (image .entry)) r (now (image .exit)) ⌝ }
+{
+    picture::read(Format::Bc5Signed, data, pic, image)
+}
+
 // Reads an ETC1 picture that holds no block out of range and has no bytes behind its blocks; it refuses any other, where a block is out
 // of range with the number of the first such block. Each pixel that it paints is the one that the ETC2 RGB rule gives.
 pub fn decode_etc1_strict(data: &[u8], width: usize, height: usize, image: &mut [u32]) -> Answer
@@ -444,6 +514,41 @@ pub fn decode_bc7_block(data: &[u8], image: &mut [u32]) -> Answer
     ensures { λ r. ⌜ ReadsBlock Format.Bc7 (now («data» .entry)) (now (image .entry)) r (now (image .exit)) ⌝ }
 {
     block_readers::read_block(Format::Bc7, data, image)
+}
+
+// Reads a BC2 block of 16 bytes into the elements 0 to 15.
+pub fn decode_bc2_block(data: &[u8], image: &mut [u32]) -> Answer
+    ensures { λ r. ⌜ ReadsBlock Format.Bc2 (now («data» .entry)) (now (image .entry)) r (now (image .exit)) ⌝ }
+{
+    block_readers::read_block(Format::Bc2, data, image)
+}
+
+// Reads a BC4 block of 8 bytes into the elements 0 to 15.
+pub fn decode_bc4_block(data: &[u8], image: &mut [u32]) -> Answer
+    ensures { λ r. ⌜ ReadsBlock Format.Bc4 (now («data» .entry)) (now (image .entry)) r (now (image .exit)) ⌝ }
+{
+    block_readers::read_block(Format::Bc4, data, image)
+}
+
+// Reads a signed BC4 block of 8 bytes into the elements 0 to 15.
+pub fn decode_bc4_signed_block(data: &[u8], image: &mut [u32]) -> Answer
+    ensures { λ r. ⌜ ReadsBlock Format.Bc4Signed (now («data» .entry)) (now (image .entry)) r (now (image .exit)) ⌝ }
+{
+    block_readers::read_block(Format::Bc4Signed, data, image)
+}
+
+// Reads a BC5 block of 16 bytes into the elements 0 to 15.
+pub fn decode_bc5_block(data: &[u8], image: &mut [u32]) -> Answer
+    ensures { λ r. ⌜ ReadsBlock Format.Bc5 (now («data» .entry)) (now (image .entry)) r (now (image .exit)) ⌝ }
+{
+    block_readers::read_block(Format::Bc5, data, image)
+}
+
+// Reads a signed BC5 block of 16 bytes into the elements 0 to 15.
+pub fn decode_bc5_signed_block(data: &[u8], image: &mut [u32]) -> Answer
+    ensures { λ r. ⌜ ReadsBlock Format.Bc5Signed (now («data» .entry)) (now (image .entry)) r (now (image .exit)) ⌝ }
+{
+    block_readers::read_block(Format::Bc5Signed, data, image)
 }
 
 // Reads an alpha half of 8 bytes into the top bytes of the elements 0 to 15, and keeps the rest of them.

@@ -4,6 +4,7 @@ use super::call_bits;
 use super::call_blocks;
 use super::call_census;
 use super::call_degrees;
+use super::call_files;
 use super::call_pictures;
 use super::call_pieces;
 use super::call_pitched;
@@ -82,6 +83,18 @@ fn another(c: Case, data: &[u8], image: &mut [u32]) -> Said {
         167 => call_baking::bake(c.a, data, image),
         168 => call_bits::read(c.a, c.b, data, image),
         169 => call_bits::block(c.a, data, image),
+        _ => checked(c, data, image),
+    }
+}
+
+// The checks for older viewers, and texture files.
+fn checked(c: Case, data: &[u8], image: &mut [u32]) -> Said {
+    let number = c.number;
+    match number {
+        170 => told(readers::check_strict(data, c.width, c.height)),
+        171 => told(readers::check_opaque(data, c.width, c.height)),
+        172 => told(call_files::open(data, image)),
+        173 => told(call_files::level(data, c.a, image)),
         _ => unknown(),
     }
 }

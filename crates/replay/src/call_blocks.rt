@@ -8,8 +8,11 @@ pub fn read(k: usize, channel: usize, data: &[u8], image: &mut [u32]) -> Answer 
     if k < 8 {
         return eac(k, data, image);
     }
-    if k < 24 {
+    if k < 12 {
         return desktop(k, data, image);
+    }
+    if k < 24 {
+        return rgtc(k, data, image);
     }
     joined(k, channel, data, image)
 }
@@ -38,6 +41,16 @@ fn desktop(k: usize, data: &[u8], image: &mut [u32]) -> Answer {
         9 => readers::decode_bc1a_block(data, image),
         10 => readers::decode_bc3_block(data, image),
         _ => readers::decode_bc7_block(data, image),
+    }
+}
+
+fn rgtc(k: usize, data: &[u8], image: &mut [u32]) -> Answer {
+    match k {
+        12 => readers::decode_bc2_block(data, image),
+        13 => readers::decode_bc4_block(data, image),
+        14 => readers::decode_bc4_signed_block(data, image),
+        15 => readers::decode_bc5_block(data, image),
+        _ => readers::decode_bc5_signed_block(data, image),
     }
 }
 

@@ -9,8 +9,11 @@ pub fn read(k: usize, data: &[u8], width: usize, height: usize, image: &mut [u32
     if k < 8 {
         return eac(k, data, width, height, image);
     }
-    if k < 24 {
+    if k < 12 {
         return desktop(k, data, width, height, image);
+    }
+    if k < 24 {
+        return rgtc(k, data, width, height, image);
     }
     if k < 28 {
         return guarded(k, data, width, height, image);
@@ -42,6 +45,16 @@ fn desktop(k: usize, data: &[u8], width: usize, height: usize, image: &mut [u32]
         9 => readers::decode_bc1a(data, width, height, image),
         10 => readers::decode_bc3(data, width, height, image),
         _ => readers::decode_bc7(data, width, height, image),
+    }
+}
+
+fn rgtc(k: usize, data: &[u8], width: usize, height: usize, image: &mut [u32]) -> Answer {
+    match k {
+        12 => readers::decode_bc2(data, width, height, image),
+        13 => readers::decode_bc4(data, width, height, image),
+        14 => readers::decode_bc4_signed(data, width, height, image),
+        15 => readers::decode_bc5(data, width, height, image),
+        _ => readers::decode_bc5_signed(data, width, height, image),
     }
 }
 

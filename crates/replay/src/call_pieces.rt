@@ -36,6 +36,17 @@ fn format_of(k: usize) -> Format {
         9 => Format::Bc1Alpha,
         10 => Format::Bc3,
         11 => Format::Bc7,
+        _ => rgtc(k),
+    }
+}
+
+fn rgtc(k: usize) -> Format {
+    match k {
+        12 => Format::Bc2,
+        13 => Format::Bc4,
+        14 => Format::Bc4Signed,
+        15 => Format::Bc5,
+        16 => Format::Bc5Signed,
         _ => etc(k),
     }
 }

@@ -22,8 +22,11 @@ pub fn read(
     if k < 8 {
         return eac(k, data, pic, image);
     }
-    if k < 24 {
+    if k < 12 {
         return desktop(k, data, pic, image);
+    }
+    if k < 24 {
+        return rgtc(k, data, pic, image);
     }
     if k < 28 {
         return guarded(k, data, pic, image);
@@ -55,6 +58,16 @@ fn desktop(k: usize, data: &[u8], pic: Picture, image: &mut [u32]) -> Answer {
         9 => readers::decode_bc1a_pitched(data, pic, image),
         10 => readers::decode_bc3_pitched(data, pic, image),
         _ => readers::decode_bc7_pitched(data, pic, image),
+    }
+}
+
+fn rgtc(k: usize, data: &[u8], pic: Picture, image: &mut [u32]) -> Answer {
+    match k {
+        12 => readers::decode_bc2_pitched(data, pic, image),
+        13 => readers::decode_bc4_pitched(data, pic, image),
+        14 => readers::decode_bc4_signed_pitched(data, pic, image),
+        15 => readers::decode_bc5_pitched(data, pic, image),
+        _ => readers::decode_bc5_signed_pitched(data, pic, image),
     }
 }
 

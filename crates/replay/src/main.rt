@@ -6,6 +6,7 @@ mod call_bits;
 mod call_blocks;
 mod call_census;
 mod call_degrees;
+mod call_files;
 mod call_pictures;
 mod call_pieces;
 mod call_pitched;

@@ -17,7 +17,7 @@ type Example = (u32, u32, &'static [u8], usize, u32, u32);
 /// A red sum of 32.
 const WRAPPED: [u8; 8] = [0xf9, 0, 0, 2, 0, 0, 0, 0];
 
-const OF_CRATE: [Example; 22] = [
+const OF_CRATE: [Example; 25] = [
     (RGBA1, 4, &[0x80, 0, 0, 0, 0xff, 0xff, 0, 0], 0, 0x0084_0000, 0),
     (RGBA1, 1, &[0, 0, 0x08, 0, 0, 1, 0, 0], 0, 0x0000_0008, 0),
     (RGBA1, 1, &[0x04, 0, 0xf0, 0, 0, 1, 0, 0], 0, 0x00ff_0000, 0),
@@ -34,6 +34,9 @@ const OF_CRATE: [Example; 22] = [
     (BC3, 1, &[0, 0, 0, 0, 0, 0, 0, 0, 0, 0, 0xff, 0xff, 2, 0, 0, 0], 0, 0x007f_7f7f, 0x0055_5555),
     (BC3, 1, &[0, 0, 0, 0, 0, 0, 0, 0, 0, 0, 0xff, 0xff, 3, 0, 0, 0], 0, 0, 0x00aa_aaaa),
     (BC3, 1, &[0, 0, 0, 0, 0, 0, 0, 0, 0xff, 0xff, 0xff, 0xff, 3, 0, 0, 0], 0, 0, 0x00ff_ffff),
+    (BC2, 1, &[0, 0, 0, 0, 0, 0, 0, 0, 0, 0, 0xff, 0xff, 2, 0, 0, 0], 0, 0x007f_7f7f, 0x0055_5555),
+    (BC2, 1, &[0, 0, 0, 0, 0, 0, 0, 0, 0, 0, 0xff, 0xff, 3, 0, 0, 0], 0, 0, 0x00aa_aaaa),
+    (BC2, 1, &[0, 0, 0, 0, 0, 0, 0, 0, 0xff, 0xff, 0xff, 0xff, 3, 0, 0, 0], 0, 0, 0x00ff_ffff),
     (BLOCK_BC3_ALPHA, 4, &[1, 0, 0, 0, 0, 0, 0, 0], 16, 0x0100_0000, 0),
     (BLOCK_BC3, 4, &[1, 0, 0, 0, 0, 0, 0, 0, 0, 0, 0, 0, 0, 0, 0, 0], 16, 0x0100_0000, 0),
     (BC1, 1, THIRD, 0, 0xff00_0005, 0xff00_0005),
@@ -48,13 +51,15 @@ const HALF: &[u8] = &[0, 0, 4, 0, 2, 0, 0, 0];
 const SEVENTH: &[u8] = &[1, 0, 2, 0, 0, 0, 0, 0, 0, 0, 0, 0, 0, 0, 0, 0];
 const FIFTH: &[u8] = &[0, 1, 2, 0, 0, 0, 0, 0, 0, 0, 0, 0, 0, 0, 0, 0];
 
-const OF_MESA: [Example; 6] = [
+const OF_MESA: [Example; 8] = [
     (ETC1, 4, &WRAPPED, 2, 0xff0a_0202, 0xff02_0202),
     (EACR_SIGNED, 4, &LOWEST, 0, 0xff08_0000, 0xff08_0000),
     (BC1, 1, THIRD, 0, 0xff00_0005, 0xff00_0005),
     (BC1, 1, HALF, 0, 0xff00_0010, 0xff00_0010),
     (BC3, 1, SEVENTH, 0, 0, 0),
     (BC3, 1, FIFTH, 0, 0, 0),
+    (BC4_SIGNED, 1, &[0xff, 0, 2, 0, 0, 0, 0, 0], 0, 0xff7f_0000, 0xff7e_0000),
+    (BC4_SIGNED, 1, &[0x81, 0x80, 7, 0, 0, 0, 0, 0], 0, 0xff00_0000, 0xfffe_0000),
 ];
 
 const OF_ANDROID: [Example; 1] = [(ETC1, 4, &WRAPPED, 2, 0xff02_0202, 0xff02_0202)];

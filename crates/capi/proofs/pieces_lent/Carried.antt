@@ -7,7 +7,7 @@ use Prim.Native.Nat.{ℕ}
 use Rattle.rules.specs.Answers.{accepts}
 use Rattle.rules.specs.Pieces.{after, pieceVerdict, Starts, Takes}
 use Rattle.rules.specs.declared.Format.{Format}
-use Rattle.rules.specs.declared.Format.the-variants.{Etc1, Etc2Rgb, Etc2Rgba1, Etc2Rgba8, EacR, EacRSigned, EacRg, EacRgSigned, Bc1, Bc1Alpha, Bc3, Bc7}
+use Rattle.rules.specs.declared.Format.the-variants.{Etc1, Etc2Rgb, Etc2Rgba1, Etc2Rgba8, EacR, EacRSigned, EacRg, EacRgSigned, Bc1, Bc1Alpha, Bc3, Bc7, Bc2, Bc4, Bc4Signed, Bc5, Bc5Signed}
 use Rattle.rules.specs.declared.Picture.{Picture}
 use Rattle.rules.specs.declared.Progress.{Progress}
 use Rattle.rules.specs.declared.Started.{Started}
@@ -29,6 +29,11 @@ numbered Bc1 = refl
 numbered Bc1Alpha = refl
 numbered Bc3 = refl
 numbered Bc7 = refl
+numbered Bc2 = refl
+numbered Bc4 = refl
+numbered Bc4Signed = refl
+numbered Bc5 = refl
+numbered Bc5Signed = refl
 
 pub begun : (f : Format) (p : Picture) (n m : ℕ) (t : Started) → Starts f p n t → m ≡ numberOf f → StartLent f p n (t .answer) (m ∷ p .width ∷ p .height ∷ p .pitch ∷ 0 ∷ []) (t .progress .kept)
 begun f p n m t a e =

@@ -10,13 +10,15 @@ use Rattle.rules.specs.Pieces.{Starts, Takes}
 use Rattle.rules.specs.declared.Answer.{Answer}
 use Rattle.rules.specs.declared.Format.{Format}
 use Rattle.rules.specs.declared.Format.the-variants.{Etc1, Etc2Rgb, Etc2Rgba1, Etc2Rgba8, EacR, EacRSigned, EacRg, EacRgSigned}
-use Rattle.rules.specs.declared.Format.the-variants.{Bc1, Bc1Alpha, Bc3, Bc7}
+use Rattle.rules.specs.declared.Format.the-variants.{Bc1, Bc1Alpha, Bc3, Bc7, Bc2, Bc4, Bc4Signed, Bc5, Bc5Signed}
 use Rattle.rules.specs.declared.Picture.{Picture}
 use Rattle.rules.specs.declared.Progress.{Progress}
 
 -- the formats by their numbers here, a table of its own; a number behind it is read as the first
 abbrev pub formats : List Format
-formats = Etc1 ∷ Etc2Rgb ∷ Etc2Rgba1 ∷ Etc2Rgba8 ∷ EacR ∷ EacRSigned ∷ EacRg ∷ EacRgSigned ∷ Bc1 ∷ Bc1Alpha ∷ Bc3 ∷ Bc7 ∷ []
+formats =
+    Etc1 ∷ Etc2Rgb ∷ Etc2Rgba1 ∷ Etc2Rgba8 ∷ EacR ∷ EacRSigned ∷ EacRg ∷ EacRgSigned ∷ Bc1 ∷ Bc1Alpha ∷ Bc3 ∷ Bc7
+    ∷ Bc2 ∷ Bc4 ∷ Bc4Signed ∷ Bc5 ∷ Bc5Signed ∷ []
 
 unfoldable pub formatAt : ℕ → Format
 formatAt n = getD formats n Etc1
@@ -35,6 +37,11 @@ numberOf Bc1 = 8
 numberOf Bc1Alpha = 9
 numberOf Bc3 = 10
 numberOf Bc7 = 11
+numberOf Bc2 = 12
+numberOf Bc4 = 13
+numberOf Bc4Signed = 14
+numberOf Bc5 = 15
+numberOf Bc5Signed = 16
 
 -- the state that the arrays hold, whatever is in them
 abbrev pub stateIn : List ℕ → List ℕ → Progress

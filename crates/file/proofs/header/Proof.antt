@@ -34,11 +34,11 @@ header-requires-3 c κs = search needs
 
 returns-3 : tie.Need-returns-3
 unfolding headerOf
-returns-3 c =     simp (
-      sym (c .before .before .before .before .before .before .has4 .ensures) ∙ c .before .before .before .before .before .if1 .left,
-      sym (c .before .before .before .before .has42 .ensures) ∙ c .before .before .before .if2 .left,
-      sym (c .before .before .is-ktx1 .ensures) ∙ c .before .if3 .taken,
-    )
+returns-3 c = simp (
+  sym (c .before .before .before .before .before .before .has4 .ensures) ∙ c .before .before .before .before .before .if1 .left,
+  sym (c .before .before .before .before .has42 .ensures) ∙ c .before .before .before .if2 .left,
+  sym (c .before .before .is-ktx1 .ensures) ∙ c .before .if3 .taken,
+)
     (c .header3 .ensures)
 
 is-ktx2-requires : tie.Need-is-ktx2-requires
@@ -49,22 +49,22 @@ header-requires-4 c κs = search needs
 
 returns-4 : tie.Need-returns-4
 unfolding headerOf
-returns-4 c =     simp (
-      sym (c .before .before .before .before .before .before .before .before .has4 .ensures) ∙ c .before .before .before .before .before .before .before .if1 .left,
-      sym (c .before .before .before .before .before .before .has42 .ensures) ∙ c .before .before .before .before .before .if2 .left,
-      sym (c .before .before .before .before .is-ktx1 .ensures) ∙ c .before .before .before .if3 .left,
-      sym (c .before .before .is-ktx2 .ensures) ∙ c .before .if4 .taken,
-    )
+returns-4 c = simp (
+  sym (c .before .before .before .before .before .before .before .before .has4 .ensures) ∙ c .before .before .before .before .before .before .before .if1 .left,
+  sym (c .before .before .before .before .before .before .has42 .ensures) ∙ c .before .before .before .before .before .if2 .left,
+  sym (c .before .before .before .before .is-ktx1 .ensures) ∙ c .before .before .before .if3 .left,
+  sym (c .before .before .is-ktx2 .ensures) ∙ c .before .if4 .taken,
+)
     (c .header4 .ensures)
 
 returns-5 : tie.Need-returns-5
 unfolding headerOf
-returns-5 c =     simp (
-      sym (c .before .before .before .before .before .before .before .has4 .ensures) ∙ c .before .before .before .before .before .before .if1 .left,
-      sym (c .before .before .before .before .before .has42 .ensures) ∙ c .before .before .before .before .if2 .left,
-      sym (c .before .before .before .is-ktx1 .ensures) ∙ c .before .before .if3 .left,
-      sym (c .before .is-ktx2 .ensures) ∙ c .if4 .left,
-    )
+returns-5 c = simp (
+  sym (c .before .before .before .before .before .before .before .has4 .ensures) ∙ c .before .before .before .before .before .before .if1 .left,
+  sym (c .before .before .before .before .before .has42 .ensures) ∙ c .before .before .before .before .if2 .left,
+  sym (c .before .before .before .is-ktx1 .ensures) ∙ c .before .before .if3 .left,
+  sym (c .before .is-ktx2 .ensures) ∙ c .if4 .left,
+)
 
 pub header-spec : {M : Type 1} → statement M
 header-spec =

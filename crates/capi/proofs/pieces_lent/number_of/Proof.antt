@@ -42,6 +42,21 @@ enum-told-11 c = search needs
 enum-told-12 : tie.Need-enum-told-12
 enum-told-12 c = search needs
 
+enum-told-13 : tie.Need-enum-told-13
+enum-told-13 c = search needs
+
+enum-told-14 : tie.Need-enum-told-14
+enum-told-14 c = search needs
+
+enum-told-15 : tie.Need-enum-told-15
+enum-told-15 c = search needs
+
+enum-told-16 : tie.Need-enum-told-16
+enum-told-16 c = search needs
+
+enum-told-17 : tie.Need-enum-told-17
+enum-told-17 c = search needs
+
 returns : tie.Need-returns
 unfolding numberOf
 returns c = sym (ap numberOf (c .enum-told .given .1))
@@ -90,6 +105,26 @@ returns-12 : tie.Need-returns-12
 unfolding numberOf
 returns-12 c = sym (ap numberOf (c .enum-told12 .given .1))
 
+returns-13 : tie.Need-returns-13
+unfolding numberOf
+returns-13 c = sym (ap numberOf (c .enum-told13 .given .1))
+
+returns-14 : tie.Need-returns-14
+unfolding numberOf
+returns-14 c = sym (ap numberOf (c .enum-told14 .given .1))
+
+returns-15 : tie.Need-returns-15
+unfolding numberOf
+returns-15 c = sym (ap numberOf (c .enum-told15 .given .1))
+
+returns-16 : tie.Need-returns-16
+unfolding numberOf
+returns-16 c = sym (ap numberOf (c .enum-told16 .given .1))
+
+returns-17 : tie.Need-returns-17
+unfolding numberOf
+returns-17 c = sym (ap numberOf (c .enum-told17 .given .1))
+
 pub number-of-spec : {M : Type 1} → statement M
 number-of-spec =
     tie.close
@@ -106,6 +141,11 @@ number-of-spec =
     enum-told-10
     enum-told-11
     enum-told-12
+    enum-told-13
+    enum-told-14
+    enum-told-15
+    enum-told-16
+    enum-told-17
     returns
     returns-2
     returns-3
@@ -117,4 +157,9 @@ number-of-spec =
     returns-9
     returns-10
     returns-11
-    returns-12)
+    returns-12
+    returns-13
+    returns-14
+    returns-15
+    returns-16
+    returns-17)

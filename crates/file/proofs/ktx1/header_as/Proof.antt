@@ -39,15 +39,15 @@ returns c = simp (c .enum-told .given .1)
 
 returns-2 : tie.Need-returns-2
 unfolding ktx1As
-returns-2 c =     simp (
-      c .before .before .before .before .before .before .before .known .given .1,
-      sym (c .before .before .before .before .before .word .ensures .0),
-      sym (c .before .before .before .before .word2 .ensures .0),
-      sym (c .before .before .before .word3 .ensures .0),
-      sym (c .word4 .ensures .0),
-      sym (c .before .before .one-at-least .ensures),
-      sym (c .before .order-number .ensures),
-    )
+returns-2 c = simp (
+  c .before .before .before .before .before .before .before .known .given .1,
+  sym (c .before .before .before .before .before .word .ensures .0),
+  sym (c .before .before .before .before .word2 .ensures .0),
+  sym (c .before .before .before .word3 .ensures .0),
+  sym (c .word4 .ensures .0),
+  sym (c .before .before .one-at-least .ensures),
+  sym (c .before .order-number .ensures),
+)
 
 pub header-as-spec : {M : Type 1} → statement M
 header-as-spec =

@@ -38,14 +38,14 @@ returns-2 c = simp (c .enum-told .given .1)
 
 returns-3 : tie.Need-returns-3
 unfolding ktx2As
-returns-3 c =     simp (
-      c .before .before .before .before .before .before .before .known .given .1,
-      same (c .before .before .before .before .before .little4 .ensures .0) (c .before .before .before .before .if1 .left),
-      sym (c .before .before .before .little42 .ensures .0),
-      sym (c .before .before .little43 .ensures .0),
-      sym (c .before .little44 .ensures .0),
-      sym (c .one-at-least .ensures),
-    )
+returns-3 c = simp (
+  c .before .before .before .before .before .before .before .known .given .1,
+  same (c .before .before .before .before .before .little4 .ensures .0) (c .before .before .before .before .if1 .left),
+  sym (c .before .before .before .little42 .ensures .0),
+  sym (c .before .before .little43 .ensures .0),
+  sym (c .before .little44 .ensures .0),
+  sym (c .one-at-least .ensures),
+)
 
 pub header-as-spec : {M : Type 1} → statement M
 header-as-spec =
