@@ -23,6 +23,11 @@ pub fn format_at(n: usize) -> Format
         9 => Format::Bc1Alpha,
         10 => Format::Bc3,
         11 => Format::Bc7,
+        12 => Format::Bc2,
+        13 => Format::Bc4,
+        14 => Format::Bc4Signed,
+        15 => Format::Bc5,
+        16 => Format::Bc5Signed,
         _ => Format::Etc1,
     }
 }

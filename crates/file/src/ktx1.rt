@@ -12,7 +12,7 @@ ghost use Rattle.rules.specs.FileFormats.{known as knownIn};
 ghost use Rattle.rules.specs.Ktx1.{isKtx1, glRows, ktx1As, ktx1In, ktx1Of};
 
 // OpenGL's numbers: the number, the format's, and 1 where it is sRGB.
-const ROWS: [usize; 57] = [
+const ROWS: [usize; 75] = [
     0x8D64,
     0,
     0,
@@ -70,6 +70,24 @@ const ROWS: [usize; 57] = [
     0x8E8D,
     11,
     1,
+    0x83F2,
+    12,
+    0,
+    0x8C4E,
+    12,
+    1,
+    0x8DBB,
+    13,
+    0,
+    0x8DBC,
+    14,
+    0,
+    0x8DBD,
+    15,
+    0,
+    0x8DBE,
+    16,
+    0,
 ];
 
 // What OpenGL's number stands for.

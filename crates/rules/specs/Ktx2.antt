@@ -13,7 +13,7 @@ use lib.ListN.{length}
 use Rattle.numbers.specs.Numbers.{little}
 use Rattle.rules.specs.FileFormats.{row, known, has4, oneAtLeast, isFlat}
 use Rattle.rules.specs.declared.Format.the-variants.{Etc2Rgb, Etc2Rgba1, Etc2Rgba8, EacR, EacRSigned, EacRg, EacRgSigned}
-use Rattle.rules.specs.declared.Format.the-variants.{Bc1, Bc1Alpha, Bc3, Bc7}
+use Rattle.rules.specs.declared.Format.the-variants.{Bc1, Bc1Alpha, Bc3, Bc7, Bc2, Bc4, Bc4Signed, Bc5, Bc5Signed}
 use Rattle.rules.specs.declared.Answer.the-variants.{HeaderCut, UnknownFormat, NotFlat, Supercompressed}
 use Rattle.rules.specs.declared.KnownFormat.{KnownFormat}
 use Rattle.rules.specs.declared.KnownFormat.the-variants.{As, Not}
@@ -31,8 +31,14 @@ vkRows =
     ++ row 132 Bc1 1
     ++ row 133 Bc1Alpha 0
     ++ row 134 Bc1Alpha 1
+    ++ row 135 Bc2 0
+    ++ row 136 Bc2 1
     ++ row 137 Bc3 0
     ++ row 138 Bc3 1
+    ++ row 139 Bc4 0
+    ++ row 140 Bc4Signed 0
+    ++ row 141 Bc5 0
+    ++ row 142 Bc5Signed 0
     ++ row 145 Bc7 0
     ++ row 146 Bc7 1
     ++ row 147 Etc2Rgb 0
