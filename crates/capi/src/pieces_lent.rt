@@ -1,5 +1,6 @@
 // The reader of a picture in pieces for callers who keep its state themselves, in two arrays that they lend: five numbers and fifteen
 // bytes. Every content of them is a state, so a caller who spoils them gets another picture and never a store out of place.
+use file::formats;
 use rules::Answer;
 use rules::Format;
 use rules::Picture;
@@ -7,36 +8,12 @@ use rules::Progress;
 ghost use mathlib.Core.Path.{_≡_};
 ghost use lib.ListN.{length};
 ghost use Rattle.rules.specs.Pieces.{Ends};
-ghost use Rattle.capi.specs.pieces_lent.Lent.{formatAt, numberOf, stateIn, StartLent, PieceLent};
-
-// The format of a number; a number that no format has is the first one's.
-fn format_at(n: usize) -> Format
-    ensures { λ r. ⌜ r ≡ formatAt n ⌝ }
-{
-    match n {
-        1 => Format::Etc2Rgb,
-        2 => Format::Etc2Rgba1,
-        3 => Format::Etc2Rgba8,
-        4 => Format::EacR,
-        5 => Format::EacRSigned,
-        6 => Format::EacRg,
-        7 => Format::EacRgSigned,
-        8 => Format::Bc1,
-        9 => Format::Bc1Alpha,
-        10 => Format::Bc3,
-        11 => Format::Bc7,
-        12 => Format::Bc2,
-        13 => Format::Bc4,
-        14 => Format::Bc4Signed,
-        15 => Format::Bc5,
-        16 => Format::Bc5Signed,
-        _ => Format::Etc1,
-    }
-}
+ghost use Rattle.rules.specs.FileFormats.{formatNumber};
+ghost use Rattle.capi.specs.pieces_lent.Lent.{stateIn, StartLent, PieceLent};
 
 // The number of a format.
 fn number_of(f: Format) -> usize
-    ensures { λ r. ⌜ r ≡ numberOf f ⌝ }
+    ensures { λ r. ⌜ r ≡ formatNumber f ⌝ }
 {
     match f {
         Format::Etc1 => 0,
@@ -63,7 +40,7 @@ fn number_of(f: Format) -> usize
 fn state_in(numbers: [usize; 5], kept: [u8; 15]) -> Progress
     ensures { λ r. ⌜ r ≡ stateIn numbers kept ⌝ }
 {
-    let f = format_at(numbers[0]);
+    let f = formats::format_at(numbers[0]);
     let pic = Picture {
         width: numbers[1],
         height: numbers[2],

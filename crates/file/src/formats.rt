@@ -7,7 +7,7 @@ ghost use lib.ListN.{length};
 ghost use Rattle.numbers.specs.Numbers.{little};
 ghost use Rattle.rules.specs.FileFormats.{formatAt, known, word32, has4 as hasFour, oneAtLeast, isFlat};
 
-// The format of a number.
+// The format of a number; a number that no format has is the first one's.
 pub fn format_at(n: usize) -> Format
     ensures { λ r. ⌜ r ≡ formatAt n ⌝ }
 {
