@@ -1,4 +1,5 @@
 pub mod Picks
 pub mod Words
 pub mod Walk
+pub mod SheetHeader
 pub mod Files

@@ -6,6 +6,7 @@ mod ktx2;
 pub mod lent;
 mod levels;
 mod pkm;
+mod sheets;
 
 use rules::Answer;
 use rules::FileHeader;
@@ -29,6 +30,9 @@ fn header(bytes: &[u8]) -> FileHeader
     }
     if ktx2::is_ktx2(bytes) {
         return ktx2::header(bytes);
+    }
+    if sheets::is_sheet(bytes) {
+        return sheets::header(bytes);
     }
     FileHeader::Refused(Answer::UnknownContainer)
 }

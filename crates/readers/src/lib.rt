@@ -694,7 +694,7 @@ pub fn bake_etc1_block(
     baker::bake(first, second, flip, tile, block)
 }
 
-// Opens a texture file, PKM, KTX 1, KTX 2 or DDS: what it holds, or why it is refused.
+// Opens a texture file, PKM, KTX 1, KTX 2, DDS or a sheet: what it holds, or why it is refused.
 pub fn open_file(bytes: &[u8]) -> Opened
     ensures { λ r. ⌜ OpensFile (now (bytes .entry)) r ⌝ }
 {

@@ -3,3 +3,4 @@ pub mod records
 pub mod first
 pub mod later
 pub mod write
+pub mod find

@@ -1,4 +1,5 @@
 // What the reader and the writer of sheets share: the formats by their numbers, and how many bytes a picture's blocks are.
+pub mod find;
 pub mod first;
 pub mod later;
 pub mod records;

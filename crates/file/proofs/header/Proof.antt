@@ -24,7 +24,11 @@ header-requires-2 c κs = search needs
 
 returns-2 : tie.Need-returns-2
 unfolding headerOf
-returns-2 c = simp (sym (c .before .before .before .before .has4 .ensures) ∙ c .before .before .before .if1 .left, sym (c .before .before .has42 .ensures) ∙ c .before .if2 .taken) (c .header2 .ensures)
+returns-2 c = simp (
+  sym (c .before .before .before .before .has4 .ensures) ∙ c .before .before .before .if1 .left,
+  sym (c .before .before .has42 .ensures) ∙ c .before .if2 .taken,
+)
+    (c .header2 .ensures)
 
 is-ktx1-requires : tie.Need-is-ktx1-requires
 is-ktx1-requires c κs = search needs
@@ -57,13 +61,31 @@ returns-4 c = simp (
 )
     (c .header4 .ensures)
 
+is-sheet-requires : tie.Need-is-sheet-requires
+is-sheet-requires c κs = search needs
+
+header-requires-5 : tie.Need-header-requires-5
+header-requires-5 c κs = search needs
+
 returns-5 : tie.Need-returns-5
 unfolding headerOf
 returns-5 c = simp (
-  sym (c .before .before .before .before .before .before .before .has4 .ensures) ∙ c .before .before .before .before .before .before .if1 .left,
-  sym (c .before .before .before .before .before .has42 .ensures) ∙ c .before .before .before .before .if2 .left,
-  sym (c .before .before .before .is-ktx1 .ensures) ∙ c .before .before .if3 .left,
-  sym (c .before .is-ktx2 .ensures) ∙ c .if4 .left,
+  sym (c .before .before .before .before .before .before .before .before .before .before .has4 .ensures) ∙ c .before .before .before .before .before .before .before .before .before .if1 .left,
+  sym (c .before .before .before .before .before .before .before .before .has42 .ensures) ∙ c .before .before .before .before .before .before .before .if2 .left,
+  sym (c .before .before .before .before .before .before .is-ktx1 .ensures) ∙ c .before .before .before .before .before .if3 .left,
+  sym (c .before .before .before .before .is-ktx2 .ensures) ∙ c .before .before .before .if4 .left,
+  sym (c .before .before .is-sheet .ensures) ∙ c .before .if5 .taken,
+)
+    (c .header5 .ensures)
+
+returns-6 : tie.Need-returns-6
+unfolding headerOf
+returns-6 c = simp (
+  sym (c .before .before .before .before .before .before .before .before .before .has4 .ensures) ∙ c .before .before .before .before .before .before .before .before .if1 .left,
+  sym (c .before .before .before .before .before .before .before .has42 .ensures) ∙ c .before .before .before .before .before .before .if2 .left,
+  sym (c .before .before .before .before .before .is-ktx1 .ensures) ∙ c .before .before .before .before .if3 .left,
+  sym (c .before .before .before .is-ktx2 .ensures) ∙ c .before .before .if4 .left,
+  sym (c .before .is-sheet .ensures) ∙ c .if5 .left,
 )
 
 pub header-spec : {M : Type 1} → statement M
@@ -82,4 +104,7 @@ header-spec =
     is-ktx2-requires
     header-requires-4
     returns-4
-    returns-5)
+    is-sheet-requires
+    header-requires-5
+    returns-5
+    returns-6)

@@ -5,7 +5,7 @@ use native.Mathlib.Omega.{arith}
 use native.Mathlib.Nat.{add-sub-cancel-left}
 use denote.Ref.{now}
 use Rattle.sheet.proofs.Shown.{reads}
-use Rattle.sheet_read.specs.Found.{Sheeted}
+use Rattle.sheet.specs.find.Found.{Sheeted}
 use Rattle.sheet_read.proofs.Sheets.{refuses}
 use borrow.Author.Needs.{needs}
 use Rattle.sheet_read.proofs.read_sheet.Statement.{statement}

@@ -1,12 +1,12 @@
--- `sheet_read::find` meets its contract.
+-- `sheet::find::find` meets its contract.
 -- Assumes nothing.
 use Prim.Native.Nat.{_-_}
 use denote.Ref.{now}
 use Rattle.sheet.specs.first.Heads.{Headed}
-use Rattle.sheet_read.proofs.Sheets.{sheeted, lost}
+use Rattle.sheet.proofs.find.Sheets.{sheeted, lost}
 use borrow.Author.Needs.{needs}
-use Rattle.sheet_read.proofs.find.Statement.{statement}
-use Rattle.sheet_read.proofs.find.Tie as tie
+use Rattle.sheet.proofs.find.find.Statement.{statement}
+use Rattle.sheet.proofs.find.find.Tie as tie
 
 first-record-requires : tie.Need-first-record-requires
 first-record-requires c κs = search needs
