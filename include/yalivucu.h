@@ -310,8 +310,8 @@ uint32_t yalivucu_write_sheet(size_t format, size_t width, size_t height, const 
  * lie inside the file and are exactly the level's blocks, and every level below file.levels is found. Where the
  * first refuses, the second gives the same answer; otherwise it refuses with 38 alone. What decides no pixel
  * refuses no file: a wrong glType or base format of KTX 1, a wrong linearSize of DDS, key and value data that
- * cannot be read. A sheet is refused as yalivucu_sheet_head refuses it. file and out are not NULL and do not
- * point into data; where data_len is 0 data may be NULL. */
+ * cannot be read. A sheet is refused as yalivucu_sheet_head refuses it, and then where it has no pixel. file and out
+ * are not NULL and do not point into data; where data_len is 0 data may be NULL. */
 enum yalivucu_container {
     YALIVUCU_PKM = 1,
     YALIVUCU_KTX1 = 2,
@@ -350,7 +350,7 @@ struct yalivucu_file {
     uint64_t height;
     uint64_t levels;      /* how many there are: at least 1 */
     uint64_t big_endian;  /* 1 where the header's numbers are big-endian (always in PKM), else 0 */
-    uint64_t orientation; /* of enum yalivucu_orientation: which row comes first, where the file tells */
+    uint64_t orientation; /* of enum yalivucu_orientation: which row comes first; so far always YALIVUCU_UNTOLD */
     uint64_t left_over;   /* how many bytes stand behind the last level */
 };
 

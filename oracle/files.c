@@ -31,7 +31,7 @@ static void *room(size_t size)
     return made;
 }
 
-/* The next file, in memory of exactly its length, so that a reader beyond its end is caught by a sanitizer; NULL at the end. */
+/* The next file, in memory of exactly its length, so that valgrind sees a read beyond its end; NULL behind the last. */
 static uint8_t *next(size_t *length)
 {
     uint8_t head[8];

@@ -17,7 +17,7 @@ else, be it a part of one, is refused with 21. Where several things are wrong wi
     37, 24  level by level from the largest: a field of its place or length that is not there (37), a length that is not its blocks' (24),
         bytes of it that are not there (37)
 
-A sheet is walked as oracle/sheets walks it, and refused with its own numbers. The order is a convention, and the library's own.
+A sheet is walked as oracle/sheets walks it, and refused with its own numbers before 26. The order is a convention, the library's own.
 """
 import struct
 from collections import namedtuple
@@ -34,8 +34,9 @@ SHEET_LIMIT = 16384
 (ETC1, RGB, RGBA1, RGBA8, R, R_SIGNED, RG, RG_SIGNED, BC1, BC1A, BC3, BC7, BC2, BC4, BC4_SIGNED, BC5, BC5_SIGNED) = range(17)
 WIDE = {RGBA8, RG, RG_SIGNED, BC3, BC7, BC2, BC5, BC5_SIGNED}  # 16 bytes to a block, the others 8
 
-# Those that the library reads.
+# What has to be changed here as the library grows: the formats that it reads, and whether it tells the orientation, which it owes.
 READ = set(range(BC7 + 1))
+ORIENTED = False
 
 
 class Refused(Exception):
@@ -168,15 +169,19 @@ def ktx1(data):
         at = level.start + level.length  # which is a multiple of 4, so nothing is padded
         need(at <= len(data), 37)
         found.append(level)
-    way = {b"S=r,T=d": TOP_DOWN, b"S=r,T=u": BOTTOM_UP}.get(orientation(data[64 : 64 + pairs], order), UNTOLD)
+    way = orientation(data[64 : 64 + pairs], order, {b"S=r,T=d": TOP_DOWN, b"S=r,T=u": BOTTOM_UP})
     return Facts(KTX1, form, srgb, width, height, len(found), int(order == ">"), way, len(data) - at), found
 
 
-def orientation(pairs, order):
-    """The text under the key "KTXorientation", the first of them, in data of which every pair is whole; or None.
+def orientation(pairs, order, ways):
+    """What the text under the key "KTXorientation" means, the first of them, in data of which every pair is whole.
 
     A pair has a 32-bit size, the key and a 0, the value, and padding to four bytes.
     """
+    return ways.get(text_of(pairs, order), UNTOLD) if ORIENTED else UNTOLD
+
+
+def text_of(pairs, order):
     at, told = 0, None
     while at < len(pairs):
         if at + 4 > len(pairs):
@@ -238,8 +243,8 @@ def ktx2(data):
         need(length == level.length, 24)
         need(start + length <= len(data), 37)
         found.append(level)
-    told = orientation(data[pairs : pairs + pairs_size], "<") if pairs + pairs_size <= len(data) else None
-    way = {b"rd": TOP_DOWN, b"ru": BOTTOM_UP}.get(told, UNTOLD)
+    inside = pairs + pairs_size <= len(data)
+    way = orientation(data[pairs : pairs + pairs_size] if inside else b"", "<", {b"rd": TOP_DOWN, b"ru": BOTTOM_UP})
     end = max(level.start + level.length for level in found)
     return Facts(KTX2, form, srgb, width, height, levels, 0, way, len(data) - end), found
 
@@ -319,6 +324,7 @@ def sheet(data):
             need(level is None and length == blocks(*head), 10)
             level = Level(head[1], head[2], start, length)
     need(level is not None, 10)
+    sized(level.width, level.height)
     left_over = len(data) - level.start - level.length
     return Facts(SHEET, head[0], 0, level.width, level.height, 1, 0, UNTOLD, left_over), [level]
 

@@ -1,4 +1,4 @@
-#!/usr/bin/python3
+#!/usr/bin/python3 -B
 """Holds what the library answers of texture files to others; oracle/files collects the files and builds the programs.
 
 Answers: what open_file and file_level tell of every file equals what oracle/files.py tells. Besides the files as they are these are
@@ -25,11 +25,13 @@ import tempfile
 from PIL import Image
 
 import files
-from files import BC1, BC1A, BC3, BC7, ETC1, KTX1, R, RG_SIGNED
+from files import BC1, BC1A, BC2, BC3, BC7, ETC1, R, RG_SIGNED
 
 ENDINGS = (".ktx", ".ktx2", ".pkm", ".dds")
 MOST = 65536  # the elements of a case of oracle/PROTOCOL.md
-READERS = {**{n: n for n in range(8)}, BC1: 34, BC1A: 35, BC3: 36, BC7: 37}  # PROTOCOL.md's numbers by the formats'
+# PROTOCOL.md's numbers by the formats', of which the last five are those from BC2 on.
+READERS = {**{n: n for n in range(8)}, BC1: 34, BC1A: 35, BC3: 36, BC7: 37, **{BC2 + k: 80 + k for k in range(5)}}
+SHOWN_ALIKE = {BC1A, BC2, BC3, BC7}  # what other readers of DDS show as colours; of one or two channels each shows something of its own
 
 
 def told(data):
@@ -132,7 +134,7 @@ class Report:
     """Counts, how many of each differ, and the first of those in full."""
 
     def __init__(self):
-        self.counts, self.differing = collections.Counter(), collections.Counter()
+        self.counts, self.differing, self.aside = collections.Counter(), collections.Counter(), collections.Counter()
 
     def count(self, what, same, name, *facts):
         self.counts[what] += 1
@@ -145,6 +147,8 @@ class Report:
     def show(self):
         for what, count in self.counts.items():
             print("%8d %s%s" % (count, what, ", %d differ" % self.differing[what] if self.differing[what] else ""))
+        for what, count in self.aside.items():
+            print("%8d %s, left aside" % (count, what))
         print("%d compared, %d differences" % (sum(self.counts.values()), sum(self.differing.values())))
 
 
@@ -333,13 +337,13 @@ def compare_whole(path, facts, shown, report):
     own = path.with_name(path.name + ".png")
     if own.exists():
         report.count("pictures as etc1tool shows them", pillow(own) == shown[0], path)
-    if path.parent.name == "nvcompress":
+    if path.parent.name == "nvcompress" and facts.format in SHOWN_ALIKE:
         report.count("pictures as nvdecompress shows them", nvdecompress(path) == shown[0], path)
-    if path.suffix == ".dds":
+    if path.suffix == ".dds" and facts.format in SHOWN_ALIKE:
         for reader, name in ((pillow, "Pillow"), (imagemagick, "ImageMagick")):
             seen = reader(path)
             if seen is None:
-                report.counts["DDS files that %s does not read" % name] += 1
+                report.aside["DDS files that %s does not read" % name] += 1
             else:
                 report.count("pictures as %s shows them" % name, seen == shown[0], path)
     if path.name.startswith("waffles-compressed"):
@@ -357,7 +361,7 @@ def compare_pixels(found, paths, library, room, report):
         for n, level in enumerate(levels):
             due = second.pixels(facts.format, level, data)
             if due is None:
-                report.counts["levels too wide for a second decoder"] += 1
+                report.aside["levels too wide for a second decoder"] += 1
             else:
                 report.count("levels as a second decoder shows them", due == shown[n], name, "level %d" % n)
         if name in paths:
@@ -395,6 +399,8 @@ def main():
         compare_answers(what, datas, ["%s %d" % (what, n) for n in range(len(datas))], library, report)
     compare_pixels(found, paths, library, chosen.room, report)
     report.show()
+    if not files.ORIENTED:
+        print("not compared: the orientation, which the library does not tell (oracle/files.py, ORIENTED)")
     sys.exit(bool(report.differing))
 
 

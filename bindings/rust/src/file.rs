@@ -110,8 +110,8 @@ impl<'a> File<'a> {
     ///
     /// Refuses with [`Refusal::NoTexture`], [`Refusal::CutHeader`], [`Refusal::NoVersion`], [`Refusal::NoFormat`],
     /// [`Refusal::Supercompressed`], [`Refusal::NotFlat`], [`Refusal::NoPixels`], [`Refusal::TooLarge`],
-    /// [`Refusal::SizesDisagree`] or [`Refusal::LevelsMissing`], and a sheet exactly as
-    /// [`sheet_head`](crate::typed::sheet_head) does.
+    /// [`Refusal::SizesDisagree`] or [`Refusal::LevelsMissing`]. A sheet it refuses as
+    /// [`sheet_head`](crate::typed::sheet_head) does, and then one that has no pixel.
     ///
     /// ```
     /// use yalivucu::typed::{File, Refusal};
@@ -173,7 +173,8 @@ impl<'a> File<'a> {
         self.is_big_endian
     }
 
-    /// Which row comes first, where the file tells.
+    /// Which row comes first, where the file tells and the library looks: so far it looks at no key and value
+    /// data, and answers [`Orientation::Untold`].
     pub fn orientation(&self) -> Orientation {
         self.orientation
     }
