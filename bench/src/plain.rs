@@ -12,7 +12,9 @@ pub fn decode_bc2(data: &[u8], width: usize, height: usize, image: &mut [u32]) -
 }
 
 pub fn decode_bc4(data: &[u8], width: usize, height: usize, image: &mut [u32]) -> Result<(), &'static str> {
-    picture(data, width, height, 8, image, |d, out| red(d, out, |b| b as i32, [0, 255]))
+    picture(data, width, height, 8, image, |d, out| {
+        red(d, out, |b| b as i32, [0, 255])
+    })
 }
 
 pub fn decode_bc4_signed(data: &[u8], width: usize, height: usize, image: &mut [u32]) -> Result<(), &'static str> {

@@ -344,9 +344,8 @@ fn inside(random: &mut Random) -> Vec<Row> {
 
 // BC2, BC4 and BC5: every index, each order of two colours and of two values, equal ones too, and the lowest signed ones.
 fn rest_of_the_desktop(random: &mut Random) -> Vec<Row> {
-    let sixteen: Vec<Block> = (0..4)
-        .flat_map(|kind| [random.next().to_le_bytes(), every_two_bits(desktop(kind, random), kind)])
-        .collect();
+    let sixteen: Vec<Block> =
+        (0..4).flat_map(|kind| [random.next().to_le_bytes(), every_two_bits(desktop(kind, random), kind)]).collect();
     let mut halves = |count: usize| -> Vec<Block> {
         (0..count).map(|kind| every_three_bits(rgtc(kind % 8, random), kind / 2)).collect()
     };

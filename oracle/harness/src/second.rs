@@ -60,7 +60,8 @@ pub fn squish(options: &crate::Options) -> Result<bool> {
 /// range.
 pub fn pillow(options: &crate::Options) -> Result<bool> {
     let mut same = true;
-    for reader in [BC4, BC5, BC7].into_iter().filter(|&reader| options.only.is_empty() || options.only == name(reader)) {
+    let asked = |reader: &u32| options.only.is_empty() || options.only == name(*reader);
+    for reader in [BC4, BC5, BC7].into_iter().filter(asked) {
         same &= against(reader, options, &options.pillow, "Pillow", reader)?;
     }
     Ok(same)
