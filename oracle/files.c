@@ -15,6 +15,7 @@ static picture_reader *const READER[] = {
     yalivucu_decode_etc1, yalivucu_decode_etc2_rgb, yalivucu_decode_etc2_rgba1, yalivucu_decode_etc2_rgba8,
     yalivucu_decode_eacr, yalivucu_decode_eacr_signed, yalivucu_decode_eacrg, yalivucu_decode_eacrg_signed,
     yalivucu_decode_bc1, yalivucu_decode_bc1a, yalivucu_decode_bc3, yalivucu_decode_bc7,
+    yalivucu_decode_bc2, yalivucu_decode_bc4, yalivucu_decode_bc4_signed, yalivucu_decode_bc5, yalivucu_decode_bc5_signed,
 };
 
 static void need(int fact, const char *what)

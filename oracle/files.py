@@ -9,8 +9,8 @@ else, be it a part of one, is refused with 21. Where several things are wrong wi
     20  the header is not whole (of KTX 2 the 80 bytes; of DDS with FourCC DX10 all 148)
     22  PKM's version, KTX 1's byte order
     25  a volume, an array or a cube
+    41  supercompressed (KTX 2); before the format, since vkFormat is 0 in files of BasisLZ
     23  the format
-    41  supercompressed (KTX 2)
     26  no pixel
     1   a side above 65,536
     24  PKM's padded sizes; more levels than halving the larger side down to 1 gives
@@ -35,7 +35,7 @@ SHEET_LIMIT = 16384
 WIDE = {RGBA8, RG, RG_SIGNED, BC3, BC7, BC2, BC5, BC5_SIGNED}  # 16 bytes to a block, the others 8
 
 # What has to be changed here as the library grows: the formats that it reads, and whether it tells the orientation, which it owes.
-READ = set(range(BC7 + 1))
+READ = set(range(BC5_SIGNED + 1))
 ORIENTED = False
 
 
@@ -231,8 +231,8 @@ def ktx2(data):
     need(len(data) >= 80, 20)
     number, _, width, height, depth, layers, faces, levels, scheme, _, _, pairs, pairs_size = struct.unpack_from("<13I", data, 12)
     need(depth <= 1 and layers <= 1 and faces <= 1, 25)
-    form, srgb = known(VK, number)
     need(scheme == 0, 41)
+    form, srgb = known(VK, number)
     sized(width, height)
     levels = counted(levels, width, height)
     found = []

@@ -112,9 +112,6 @@ fn header_as(known: KnownFormat, d: &[u8]) -> FileHeader
     match known {
         KnownFormat::Not => FileHeader::Refused(Answer::UnknownFormat),
         KnownFormat::As(format, srgb) => {
-            if numbers::little4(d, 44) != 0 {
-                return FileHeader::Refused(Answer::Supercompressed);
-            }
             let width = numbers::little4(d, 20);
             let height = numbers::little4(d, 24);
             let count = numbers::little4(d, 40);
@@ -146,6 +143,9 @@ pub fn header(d: &[u8]) -> FileHeader
     let layers = numbers::little4(d, 32);
     let faces = numbers::little4(d, 36);
     if formats::is_flat(depth, layers, faces) {
+        if numbers::little4(d, 44) != 0 {
+            return FileHeader::Refused(Answer::Supercompressed);
+        }
         let number = numbers::little4(d, 12);
         return header_as(vk_format(number), d);
     }

@@ -108,7 +108,7 @@ fn ended(course: Course) -> Said {
 
 // Cut at two places: a piece of b bytes, one of c, and the rest.
 pub fn cut(k: usize, c: Case, data: &[u8], image: &mut [u32]) -> Said {
-    if 11 < k {
+    if 16 < k {
         return call::unknown();
     }
     let one = follow(begin(k, c, image), c.b, data, image);
@@ -135,7 +135,7 @@ fn moved(v: usize) -> usize {
 
 // So many pieces as c says, of lengths that are drawn from b on, and then the rest.
 pub fn scattered(k: usize, c: Case, data: &[u8], image: &mut [u32]) -> Said {
-    if 11 < k {
+    if 16 < k {
         return call::unknown();
     }
     let mut course = begin(k, c, image);

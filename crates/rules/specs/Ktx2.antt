@@ -52,12 +52,11 @@ vkRows =
     ++ row 155 EacRg 0
     ++ row 156 EacRgSigned 0
 
--- the rest of the header, with what vkFormat stands for; supercompressionScheme 0 is "None"
+-- the rest of the header, with what vkFormat stands for
 unfoldable pub ktx2As : KnownFormat → List ℕ → FileHeader
 ktx2As Not d = Refused UnknownFormat
 ktx2As (As f srgb) d =
-    cond (eqb (little 4 44 d) 0)
-    (Holds
+    Holds
     (record {
       container = 3;
       format = f;
@@ -69,11 +68,12 @@ ktx2As (As f srgb) d =
       orientation = 0;
       start = 80;
       agrees = true;
-    }))
-    (Refused Supercompressed)
+    })
 
+-- supercompressionScheme 0 is "None". It is looked at before vkFormat, which is 0 in files of BasisLZ.
 unfoldable pub ktx2Of : List ℕ → FileHeader
 ktx2Of d =
     cond (ltb (length d) 80) (Refused HeaderCut)
-    (cond (isFlat (little 4 28 d) (little 4 32 d) (little 4 36 d)) (ktx2As (known vkRows (little 4 12 d)) d)
+    (cond (isFlat (little 4 28 d) (little 4 32 d) (little 4 36 d))
+    (cond (eqb (little 4 44 d) 0) (ktx2As (known vkRows (little 4 12 d)) d) (Refused Supercompressed))
     (Refused NotFlat))

@@ -11,8 +11,27 @@ use crate::stored::{List, Row, Whole};
 type Due = (Row, Answer);
 
 /// The numbers that the seeds of a reader's rows come from.
-const ORDER: [u32; 14] =
-    [ETC1, RGB, RGBA1, RGBA8, EACR, EACR_SIGNED, EACRG, EACRG_SIGNED, STRICT, BC1, BC1A, BC3, BC7, OPAQUE];
+const ORDER: [u32; 19] = [
+    ETC1,
+    RGB,
+    RGBA1,
+    RGBA8,
+    EACR,
+    EACR_SIGNED,
+    EACRG,
+    EACRG_SIGNED,
+    STRICT,
+    BC1,
+    BC1A,
+    BC3,
+    BC7,
+    OPAQUE,
+    BC2,
+    BC4,
+    BC4_SIGNED,
+    BC5,
+    BC5_SIGNED,
+];
 
 const LARGEST: u64 = u64::MAX;
 
