@@ -12,8 +12,35 @@ ghost use Rattle.rules.specs.Dds.{fourCCRows, dxgiRows, hasFourCC, isDx10, ddsF
 
 // FourCCs and DXGI's numbers: the number, the format's, and 1 where it is sRGB.
 const FOURCC_ROWS: [usize; 9] = [0x44585431, 9, 0, 0x44585434, 10, 0, 0x44585435, 10, 0];
+
 const DXGI_ROWS: [usize; 27] = [
-    70, 9, 0, 71, 9, 0, 72, 9, 1, 76, 10, 0, 77, 10, 0, 78, 10, 1, 97, 11, 0, 98, 11, 0, 99, 11, 1,
+    70,
+    9,
+    0,
+    71,
+    9,
+    0,
+    72,
+    9,
+    1,
+    76,
+    10,
+    0,
+    77,
+    10,
+    0,
+    78,
+    10,
+    1,
+    97,
+    11,
+    0,
+    98,
+    11,
+    0,
+    99,
+    11,
+    1,
 ];
 
 // What DXGI's number stands for.

@@ -1,5 +1,6 @@
 // The header of a KTX 2 file. Its numbers and their places are in crates/rules/specs/Ktx2.antt.
 use super::formats;
+use super::keys;
 use rules::Answer;
 use rules::FileHeader;
 use rules::KnownFormat;
@@ -12,8 +13,60 @@ ghost use Rattle.rules.specs.Ktx2.{isKtx2, vkRows, ktx2As, ktx2Of};
 
 // Vulkan's numbers: the number, the format's, and 1 where it is sRGB.
 const ROWS: [usize; 54] = [
-    131, 8, 0, 132, 8, 1, 133, 9, 0, 134, 9, 1, 137, 10, 0, 138, 10, 1, 145, 11, 0, 146, 11, 1, 147, 1, 0, 148, 1, 1, 149, 2, 0, 150, 2, 1,
-    151, 3, 0, 152, 3, 1, 153, 4, 0, 154, 5, 0, 155, 6, 0, 156, 7, 0,
+    131,
+    8,
+    0,
+    132,
+    8,
+    1,
+    133,
+    9,
+    0,
+    134,
+    9,
+    1,
+    137,
+    10,
+    0,
+    138,
+    10,
+    1,
+    145,
+    11,
+    0,
+    146,
+    11,
+    1,
+    147,
+    1,
+    0,
+    148,
+    1,
+    1,
+    149,
+    2,
+    0,
+    150,
+    2,
+    1,
+    151,
+    3,
+    0,
+    152,
+    3,
+    1,
+    153,
+    4,
+    0,
+    154,
+    5,
+    0,
+    155,
+    6,
+    0,
+    156,
+    7,
+    0,
 ];
 
 // What Vulkan's number stands for.
@@ -49,6 +102,9 @@ fn header_as(known: KnownFormat, d: &[u8]) -> FileHeader
             let height = numbers::little4(d, 24);
             let count = numbers::little4(d, 40);
             let levels = formats::one_at_least(count);
+            let pairs = numbers::little4(d, 56);
+            let size = numbers::little4(d, 60);
+            let orientation = keys::orientation(true, false, d, pairs, size);
             FileHeader::Holds(Layout {
                 container: 3,
                 format: format,
@@ -57,7 +113,7 @@ fn header_as(known: KnownFormat, d: &[u8]) -> FileHeader
                 height: height,
                 levels: levels,
                 big_endian: 0,
-                orientation: 0,
+                orientation: orientation,
                 start: 80,
                 agrees: true,
             })

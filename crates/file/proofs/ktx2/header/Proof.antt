@@ -37,7 +37,7 @@ header-as-requires c κs = search needs
 
 returns-2 : tie.Need-returns-2
 unfolding ktx2Of
-returns-2 c =     let d = now (c .before .before .before .before .before .before .before .before .before .before .args .d) in
+returns-2 c = let d = now (c .before .before .before .before .before .before .before .before .before .before .args .d) in
     simp (
       le-ltb _ _ (c .before .before .before .before .before .before .before .before .if1 .left),
       sym (c .before .before .before .before .before .before .before .little4 .ensures .0),
@@ -49,13 +49,13 @@ returns-2 c =     let d = now (c .before .before .before .before .before .before
 
 returns-3 : tie.Need-returns-3
 unfolding ktx2Of
-returns-3 c =     simp (
-      le-ltb _ _ (c .before .before .before .before .before .if1 .left),
-      sym (c .before .before .before .before .little4 .ensures .0),
-      sym (c .before .before .before .little42 .ensures .0),
-      sym (c .before .before .little43 .ensures .0),
-      sym (c .before .is-flat .ensures) ∙ c .if2 .left,
-    )
+returns-3 c = simp (
+  le-ltb _ _ (c .before .before .before .before .before .if1 .left),
+  sym (c .before .before .before .before .little4 .ensures .0),
+  sym (c .before .before .before .little42 .ensures .0),
+  sym (c .before .before .little43 .ensures .0),
+  sym (c .before .is-flat .ensures) ∙ c .if2 .left,
+)
 
 pub header-spec : {M : Type 1} → statement M
 header-spec =

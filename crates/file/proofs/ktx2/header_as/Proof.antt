@@ -32,20 +32,32 @@ little4-requires-4 c κs = search needs
 one-at-least-requires : tie.Need-one-at-least-requires
 one-at-least-requires c κs = search needs
 
+little4-requires-5 : tie.Need-little4-requires-5
+little4-requires-5 c κs = search needs
+
+little4-requires-6 : tie.Need-little4-requires-6
+little4-requires-6 c κs = search needs
+
+orientation-requires : tie.Need-orientation-requires
+orientation-requires c κs = search needs
+
 returns-2 : tie.Need-returns-2
 unfolding ktx2As
 returns-2 c = simp (c .enum-told .given .1)
 
 returns-3 : tie.Need-returns-3
 unfolding ktx2As
-returns-3 c =     simp (
-      c .before .before .before .before .before .before .before .known .given .1,
-      same (c .before .before .before .before .before .little4 .ensures .0) (c .before .before .before .before .if1 .left),
-      sym (c .before .before .before .little42 .ensures .0),
-      sym (c .before .before .little43 .ensures .0),
-      sym (c .before .little44 .ensures .0),
-      sym (c .one-at-least .ensures),
-    )
+returns-3 c = simp (
+  c .before .before .before .before .before .before .before .before .before .before .known .given .1,
+  same (c .before .before .before .before .before .before .before .before .little4 .ensures .0) (c .before .before .before .before .before .before .before .if1 .left),
+  sym (c .before .before .before .before .before .before .little42 .ensures .0),
+  sym (c .before .before .before .before .before .little43 .ensures .0),
+  sym (c .before .before .before .before .little44 .ensures .0),
+  sym (c .before .before .little45 .ensures .0),
+  sym (c .before .little46 .ensures .0),
+  sym (c .before .before .before .one-at-least .ensures),
+  sym (c .orientation .ensures),
+)
 
 pub header-as-spec : {M : Type 1} → statement M
 header-as-spec =
@@ -59,5 +71,8 @@ header-as-spec =
     little4-requires-3
     little4-requires-4
     one-at-least-requires
+    little4-requires-5
+    little4-requires-6
+    orientation-requires
     returns-2
     returns-3)
