@@ -36,7 +36,7 @@ WIDE = {RGBA8, RG, RG_SIGNED, BC3, BC7, BC2, BC5, BC5_SIGNED}  # 16 bytes to a b
 
 # What has to be changed here as the library grows: the formats that it reads, and whether it tells the orientation, which it owes.
 READ = set(range(BC5_SIGNED + 1))
-ORIENTED = False
+ORIENTED = True
 
 
 class Refused(Exception):

@@ -60,7 +60,7 @@ pub fn word(order: bool, d: &[u8], at: usize) -> usize
 
 // Whether the four bytes at a place are there, and are these.
 pub fn has4(d: &[u8], at: usize, number: usize) -> bool
-    requires { ⌜ at < 256 ⌝ }
+    requires { ⌜ at < 0x8000000000000000 ⌝ }
     ensures { λ r. ⌜ r ≡ hasFour (now (d .entry)) at number ⌝ }
 {
     if d.len() < at + 4 {

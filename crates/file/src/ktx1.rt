@@ -1,5 +1,6 @@
 // The header of a KTX 1 file. Its words and their places are in crates/rules/specs/Ktx1.antt.
 use super::formats;
+use super::keys;
 use rules::Answer;
 use rules::FileHeader;
 use rules::KnownFormat;
@@ -128,7 +129,9 @@ fn header_as(known: KnownFormat, order: bool, d: &[u8]) -> FileHeader
             let count = formats::word(order, d, 56);
             let levels = formats::one_at_least(count);
             let big_endian = order_number(order);
-            let start = 64 + formats::word(order, d, 60);
+            let pairs = formats::word(order, d, 60);
+            let orientation = keys::orientation(false, order, d, 64, pairs);
+            let start = 64 + pairs;
             FileHeader::Holds(Layout {
                 container: 2,
                 format: format,
@@ -137,7 +140,7 @@ fn header_as(known: KnownFormat, order: bool, d: &[u8]) -> FileHeader
                 height: height,
                 levels: levels,
                 big_endian: big_endian,
-                orientation: 0,
+                orientation: orientation,
                 start: start,
                 agrees: true,
             })

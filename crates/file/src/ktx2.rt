@@ -1,5 +1,6 @@
 // The header of a KTX 2 file. Its numbers and their places are in crates/rules/specs/Ktx2.antt.
 use super::formats;
+use super::keys;
 use rules::Answer;
 use rules::FileHeader;
 use rules::KnownFormat;
@@ -116,6 +117,9 @@ fn header_as(known: KnownFormat, d: &[u8]) -> FileHeader
             let height = numbers::little4(d, 24);
             let count = numbers::little4(d, 40);
             let levels = formats::one_at_least(count);
+            let pairs = numbers::little4(d, 56);
+            let size = numbers::little4(d, 60);
+            let orientation = keys::orientation(true, false, d, pairs, size);
             FileHeader::Holds(Layout {
                 container: 3,
                 format: format,
@@ -124,7 +128,7 @@ fn header_as(known: KnownFormat, d: &[u8]) -> FileHeader
                 height: height,
                 levels: levels,
                 big_endian: 0,
-                orientation: 0,
+                orientation: orientation,
                 start: 80,
                 agrees: true,
             })

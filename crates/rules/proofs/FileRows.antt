@@ -5,13 +5,14 @@ use mathlib.Core.Bool.{Bool, true, false, _&&_}
 use mathlib.Core.List.{List, [], _∷_, _++_}
 use Prim.Native.Nat.{ℕ}
 use lib.Dec.{T}
-use lib.ListN.{take, replicate}
+use lib.ListN.{length, take, replicate}
 use Rattle.numbers.specs.Numbers.{little, big, inBytes, bigBytes}
 use Rattle.rules.specs.Formats.{sizeOf}
 use Rattle.rules.specs.Records.{walked, kept, payloadAt}
 use Rattle.rules.specs.Sheets.{formatOf, headVerdict}
 use Rattle.rules.specs.FileFormats.{formatAt, known, word32}
 use Rattle.rules.specs.FileLevels.{bytesFor, insideOf, afterSize, inIndex, fitOf, levelAt, nextSpot, levelsFrom, levelsOf, tooMany, heldOf, openedBy, foundBy}
+use Rattle.rules.specs.Keys.{isOrientation, rowsTold, rowsIn, orientationOf}
 use Rattle.rules.specs.Pkm.{pkmAs, pkmOf}
 use Rattle.rules.specs.Ktx1.{ktx1As, ktx1In, ktx1Of}
 use Rattle.rules.specs.Ktx2.{ktx2As, ktx2Of}
@@ -79,6 +80,30 @@ ktx2 f w h depth layers faces levels scheme =
 entry : ℕ → ℕ → List ℕ
 entry offset n = inBytes 8 offset ++ inBytes 8 n ++ zeros 8
 
+-- the key "KTXorientation" and its 0, and as Qt writes it
+orientation : List ℕ
+orientation = 75 ∷ 84 ∷ 88 ∷ 111 ∷ 114 ∷ 105 ∷ 101 ∷ 110 ∷ 116 ∷ 97 ∷ 116 ∷ 105 ∷ 111 ∷ 110 ∷ 0 ∷ []
+
+qt-orientation : List ℕ
+qt-orientation = 75 ∷ 84 ∷ 88 ∷ 79 ∷ 114 ∷ 105 ∷ 101 ∷ 110 ∷ 116 ∷ 97 ∷ 116 ∷ 105 ∷ 111 ∷ 110 ∷ 0 ∷ []
+
+-- files of one block of ETC1 or ETC2 RGB with key and value data: KTX 1, and KTX 2 with its place and length as told
+keyed : Bool → List ℕ → List ℕ
+keyed order kv =
+    identifier 0x31 0x31
+    ++ words order (0x04030201 ∷ 0 ∷ 1 ∷ 0 ∷ 0x8D64 ∷ 0x1907 ∷ 4 ∷ 4 ∷ 0 ∷ 0 ∷ 1 ∷ 1 ∷ length kv ∷ [])
+    ++ kv
+    ++ level order 8
+
+keyed2 : ℕ → ℕ → List ℕ → List ℕ
+keyed2 at n kv =
+    identifier 0x32 0x30
+    ++ words false (147 ∷ 1 ∷ 4 ∷ 4 ∷ 0 ∷ 0 ∷ 1 ∷ 1 ∷ 0 ∷ 0 ∷ 0 ∷ at ∷ n ∷ [])
+    ++ zeros 16
+    ++ entry 104 8
+    ++ zeros 8
+    ++ kv
+
 -- DDS: flags of the pixel format, FourCC, width, height, levels and caps2; the 20 bytes of DX10
 dds : ℕ → ℕ → ℕ → ℕ → ℕ → ℕ → List ℕ
 dds flags fourCC w h levels caps2 =
@@ -114,10 +139,10 @@ others =
     ∷ []
 
 hold-others : T (every others)
-unfolding answer row every zeros word words pkm identifier ktx1 level ktx2 entry dds dx10 rec others
+unfolding answer row every zeros word words pkm identifier ktx1 level ktx2 entry dds dx10 rec orientation qt-orientation keyed keyed2 others
     little big inBytes bigBytes sizeOf walked kept payloadAt formatOf headVerdict formatAt known word32
     bytesFor insideOf afterSize inIndex fitOf levelAt nextSpot levelsFrom levelsOf tooMany heldOf openedBy foundBy
-    pkmAs pkmOf ktx1As ktx1In ktx1Of ktx2As ktx2Of ddsFlat dx10Flat ddsAs fourCCFormat dx10Of ddsOf sheetHeader
+    isOrientation rowsTold rowsIn orientationOf pkmAs pkmOf ktx1As ktx1In ktx1Of ktx2As ktx2Of ddsFlat dx10Flat ddsAs fourCCFormat dx10Of ddsOf sheetHeader
     headerOf openedAs foundAs openedVerdict foundVerdict
 hold-others = tt
 
@@ -151,10 +176,10 @@ pkms =
     ∷ []
 
 hold-pkms : T (every pkms)
-unfolding answer row every zeros word words pkm identifier ktx1 level ktx2 entry dds dx10 rec pkms
+unfolding answer row every zeros word words pkm identifier ktx1 level ktx2 entry dds dx10 rec orientation qt-orientation keyed keyed2 pkms
     little big inBytes bigBytes sizeOf walked kept payloadAt formatOf headVerdict formatAt known word32
     bytesFor insideOf afterSize inIndex fitOf levelAt nextSpot levelsFrom levelsOf tooMany heldOf openedBy foundBy
-    pkmAs pkmOf ktx1As ktx1In ktx1Of ktx2As ktx2Of ddsFlat dx10Flat ddsAs fourCCFormat dx10Of ddsOf sheetHeader
+    isOrientation rowsTold rowsIn orientationOf pkmAs pkmOf ktx1As ktx1In ktx1Of ktx2As ktx2Of ddsFlat dx10Flat ddsAs fourCCFormat dx10Of ddsOf sheetHeader
     headerOf openedAs foundAs openedVerdict foundVerdict
 hold-pkms = tt
 
@@ -171,10 +196,10 @@ padded-pkms =
     ∷ []
 
 hold-padded-pkms : T (every padded-pkms)
-unfolding answer row every zeros word words pkm identifier ktx1 level ktx2 entry dds dx10 rec padded-pkms
+unfolding answer row every zeros word words pkm identifier ktx1 level ktx2 entry dds dx10 rec orientation qt-orientation keyed keyed2 padded-pkms
     little big inBytes bigBytes sizeOf walked kept payloadAt formatOf headVerdict formatAt known word32
     bytesFor insideOf afterSize inIndex fitOf levelAt nextSpot levelsFrom levelsOf tooMany heldOf openedBy foundBy
-    pkmAs pkmOf ktx1As ktx1In ktx1Of ktx2As ktx2Of ddsFlat dx10Flat ddsAs fourCCFormat dx10Of ddsOf sheetHeader
+    isOrientation rowsTold rowsIn orientationOf pkmAs pkmOf ktx1As ktx1In ktx1Of ktx2As ktx2Of ddsFlat dx10Flat ddsAs fourCCFormat dx10Of ddsOf sheetHeader
     headerOf openedAs foundAs openedVerdict foundVerdict
 hold-padded-pkms = tt
 
@@ -212,10 +237,10 @@ ktx1s =
     ∷ []
 
 hold-ktx1s : T (every ktx1s)
-unfolding answer row every zeros word words pkm identifier ktx1 level ktx2 entry dds dx10 rec ktx1s
+unfolding answer row every zeros word words pkm identifier ktx1 level ktx2 entry dds dx10 rec orientation qt-orientation keyed keyed2 ktx1s
     little big inBytes bigBytes sizeOf walked kept payloadAt formatOf headVerdict formatAt known word32
     bytesFor insideOf afterSize inIndex fitOf levelAt nextSpot levelsFrom levelsOf tooMany heldOf openedBy foundBy
-    pkmAs pkmOf ktx1As ktx1In ktx1Of ktx2As ktx2Of ddsFlat dx10Flat ddsAs fourCCFormat dx10Of ddsOf sheetHeader
+    isOrientation rowsTold rowsIn orientationOf pkmAs pkmOf ktx1As ktx1In ktx1Of ktx2As ktx2Of ddsFlat dx10Flat ddsAs fourCCFormat dx10Of ddsOf sheetHeader
     headerOf openedAs foundAs openedVerdict foundVerdict
 hold-ktx1s = tt
 
@@ -236,10 +261,10 @@ flat-ktx1s =
     ∷ []
 
 hold-flat-ktx1s : T (every flat-ktx1s)
-unfolding answer row every zeros word words pkm identifier ktx1 level ktx2 entry dds dx10 rec flat-ktx1s
+unfolding answer row every zeros word words pkm identifier ktx1 level ktx2 entry dds dx10 rec orientation qt-orientation keyed keyed2 flat-ktx1s
     little big inBytes bigBytes sizeOf walked kept payloadAt formatOf headVerdict formatAt known word32
     bytesFor insideOf afterSize inIndex fitOf levelAt nextSpot levelsFrom levelsOf tooMany heldOf openedBy foundBy
-    pkmAs pkmOf ktx1As ktx1In ktx1Of ktx2As ktx2Of ddsFlat dx10Flat ddsAs fourCCFormat dx10Of ddsOf sheetHeader
+    isOrientation rowsTold rowsIn orientationOf pkmAs pkmOf ktx1As ktx1In ktx1Of ktx2As ktx2Of ddsFlat dx10Flat ddsAs fourCCFormat dx10Of ddsOf sheetHeader
     headerOf openedAs foundAs openedVerdict foundVerdict
 hold-flat-ktx1s = tt
 
@@ -280,10 +305,10 @@ sized-ktx1s =
     ∷ []
 
 hold-sized-ktx1s : T (every sized-ktx1s)
-unfolding answer row every zeros word words pkm identifier ktx1 level ktx2 entry dds dx10 rec sized-ktx1s
+unfolding answer row every zeros word words pkm identifier ktx1 level ktx2 entry dds dx10 rec orientation qt-orientation keyed keyed2 sized-ktx1s
     little big inBytes bigBytes sizeOf walked kept payloadAt formatOf headVerdict formatAt known word32
     bytesFor insideOf afterSize inIndex fitOf levelAt nextSpot levelsFrom levelsOf tooMany heldOf openedBy foundBy
-    pkmAs pkmOf ktx1As ktx1In ktx1Of ktx2As ktx2Of ddsFlat dx10Flat ddsAs fourCCFormat dx10Of ddsOf sheetHeader
+    isOrientation rowsTold rowsIn orientationOf pkmAs pkmOf ktx1As ktx1In ktx1Of ktx2As ktx2Of ddsFlat dx10Flat ddsAs fourCCFormat dx10Of ddsOf sheetHeader
     headerOf openedAs foundAs openedVerdict foundVerdict
 hold-sized-ktx1s = tt
 
@@ -336,10 +361,10 @@ ktx2s =
     ∷ []
 
 hold-ktx2s : T (every ktx2s)
-unfolding answer row every zeros word words pkm identifier ktx1 level ktx2 entry dds dx10 rec ktx2s
+unfolding answer row every zeros word words pkm identifier ktx1 level ktx2 entry dds dx10 rec orientation qt-orientation keyed keyed2 ktx2s
     little big inBytes bigBytes sizeOf walked kept payloadAt formatOf headVerdict formatAt known word32
     bytesFor insideOf afterSize inIndex fitOf levelAt nextSpot levelsFrom levelsOf tooMany heldOf openedBy foundBy
-    pkmAs pkmOf ktx1As ktx1In ktx1Of ktx2As ktx2Of ddsFlat dx10Flat ddsAs fourCCFormat dx10Of ddsOf sheetHeader
+    isOrientation rowsTold rowsIn orientationOf pkmAs pkmOf ktx1As ktx1In ktx1Of ktx2As ktx2Of ddsFlat dx10Flat ddsAs fourCCFormat dx10Of ddsOf sheetHeader
     headerOf openedAs foundAs openedVerdict foundVerdict
 hold-ktx2s = tt
 
@@ -372,12 +397,78 @@ placed-ktx2s =
     ∷ []
 
 hold-placed-ktx2s : T (every placed-ktx2s)
-unfolding answer row every zeros word words pkm identifier ktx1 level ktx2 entry dds dx10 rec placed-ktx2s
+unfolding answer row every zeros word words pkm identifier ktx1 level ktx2 entry dds dx10 rec orientation qt-orientation keyed keyed2 placed-ktx2s
     little big inBytes bigBytes sizeOf walked kept payloadAt formatOf headVerdict formatAt known word32
     bytesFor insideOf afterSize inIndex fitOf levelAt nextSpot levelsFrom levelsOf tooMany heldOf openedBy foundBy
-    pkmAs pkmOf ktx1As ktx1In ktx1Of ktx2As ktx2Of ddsFlat dx10Flat ddsAs fourCCFormat dx10Of ddsOf sheetHeader
+    isOrientation rowsTold rowsIn orientationOf pkmAs pkmOf ktx1As ktx1In ktx1Of ktx2As ktx2Of ddsFlat dx10Flat ddsAs fourCCFormat dx10Of ddsOf sheetHeader
     headerOf openedAs foundAs openedVerdict foundVerdict
 hold-placed-ktx2s = tt
+
+-- key and value data: which row comes first, in both orders, with both keys; data that is no run of whole entries tells nothing
+keyed-files : List Row
+keyed-files =
+    row (opens (keyed false (word false 23 ++ orientation ++ (83 ∷ 61 ∷ 114 ∷ 44 ∷ 84 ∷ 61 ∷ 100 ∷ 0 ∷ 0 ∷ [])))) (0 ∷ 2 ∷ 0 ∷ 0 ∷ 4 ∷ 4 ∷ 1 ∷ 0 ∷ 1 ∷ 0 ∷ [])
+    ∷ row (opens (keyed false (word false 22 ++ orientation ++ (83 ∷ 61 ∷ 114 ∷ 44 ∷ 84 ∷ 61 ∷ 117 ∷ 0 ∷ 0 ∷ [])))) (0 ∷ 2 ∷ 0 ∷ 0 ∷ 4 ∷ 4 ∷ 1 ∷ 0 ∷ 2 ∷ 0 ∷ [])
+    ∷ row (opens (keyed false (word false 27 ++ qt-orientation ++ (83 ∷ 61 ∷ 114 ∷ 44 ∷ 84 ∷ 61 ∷ 100 ∷ 44 ∷ 82 ∷ 61 ∷ 105 ∷ 0 ∷ 0 ∷ []))))
+    (0 ∷ 2 ∷ 0 ∷ 0 ∷ 4 ∷ 4 ∷ 1 ∷ 0 ∷ 1 ∷ 0 ∷ [])
+    ∷ row (opens (keyed true (word true 23 ++ orientation ++ (83 ∷ 61 ∷ 114 ∷ 44 ∷ 84 ∷ 61 ∷ 100 ∷ 0 ∷ 0 ∷ [])))) (0 ∷ 2 ∷ 0 ∷ 0 ∷ 4 ∷ 4 ∷ 1 ∷ 1 ∷ 1 ∷ 0 ∷ [])
+    ∷ row (opens (keyed true (word true 22 ++ orientation ++ (83 ∷ 61 ∷ 114 ∷ 44 ∷ 84 ∷ 61 ∷ 117 ∷ 0 ∷ 0 ∷ [])))) (0 ∷ 2 ∷ 0 ∷ 0 ∷ 4 ∷ 4 ∷ 1 ∷ 1 ∷ 2 ∷ 0 ∷ [])
+    ∷ row (opens (keyed true (word true 27 ++ qt-orientation ++ (83 ∷ 61 ∷ 114 ∷ 44 ∷ 84 ∷ 61 ∷ 100 ∷ 44 ∷ 82 ∷ 61 ∷ 105 ∷ 0 ∷ 0 ∷ [])))) (0 ∷ 2 ∷ 0 ∷ 0 ∷ 4 ∷ 4 ∷ 1 ∷ 1 ∷ 1 ∷ 0 ∷ [])
+    ∷ row (opens (keyed false (word false 21 ++ orientation ++ (83 ∷ 61 ∷ 114 ∷ 44 ∷ 84 ∷ 61 ∷ 100 ∷ 0 ∷ 0 ∷ [])))) (0 ∷ 2 ∷ 0 ∷ 0 ∷ 4 ∷ 4 ∷ 1 ∷ 0 ∷ 0 ∷ 0 ∷ [])
+    ∷ row (opens (keyed false (word false 22 ++ orientation ++ (83 ∷ 61 ∷ 114 ∷ 44 ∷ 84 ∷ 61 ∷ 120 ∷ 0 ∷ 0 ∷ [])))) (0 ∷ 2 ∷ 0 ∷ 0 ∷ 4 ∷ 4 ∷ 1 ∷ 0 ∷ 0 ∷ 0 ∷ [])
+    ∷ row (opens (keyed false (word false 22
+    ++ (75 ∷ 84 ∷ 88 ∷ 111 ∷ 114 ∷ 105 ∷ 101 ∷ 110 ∷ 116 ∷ 97 ∷ 116 ∷ 105 ∷ 111 ∷ 78 ∷ 0 ∷ 83 ∷ 61 ∷ 114 ∷ 44 ∷ 84 ∷ 61 ∷ 100 ∷ 0 ∷ 0 ∷ []))))
+    (0 ∷ 2 ∷ 0 ∷ 0 ∷ 4 ∷ 4 ∷ 1 ∷ 0 ∷ 0 ∷ 0 ∷ [])
+    ∷ row (opens (keyed false (word false 22
+    ++ (75 ∷ 84 ∷ 88 ∷ 111 ∷ 114 ∷ 105 ∷ 101 ∷ 110 ∷ 116 ∷ 97 ∷ 122 ∷ 105 ∷ 111 ∷ 110 ∷ 0 ∷ 83 ∷ 61 ∷ 114 ∷ 44 ∷ 84 ∷ 61 ∷ 100 ∷ 0 ∷ 0 ∷ []))))
+    (0 ∷ 2 ∷ 0 ∷ 0 ∷ 4 ∷ 4 ∷ 1 ∷ 0 ∷ 0 ∷ 0 ∷ [])
+    ∷ row (opens (keyed false (word false 22 ++ (75 ∷ 84 ∷ 88 ∷ 111 ∷ 114 ∷ 105 ∷ 101 ∷ 110 ∷ 116 ∷ 97 ∷ 108 ∷ 0 ∷ 0 ∷ 0 ∷ 0 ∷ 83 ∷ 61 ∷ 114 ∷ 44 ∷ 84 ∷ 61 ∷ 100 ∷ 0 ∷ 0 ∷ []))))
+    (0 ∷ 2 ∷ 0 ∷ 0 ∷ 4 ∷ 4 ∷ 1 ∷ 0 ∷ 0 ∷ 0 ∷ [])
+    ∷ row (opens (keyed false (word false 22
+    ++ (75 ∷ 84 ∷ 88 ∷ 97 ∷ 114 ∷ 105 ∷ 101 ∷ 110 ∷ 116 ∷ 97 ∷ 116 ∷ 105 ∷ 111 ∷ 110 ∷ 0 ∷ 83 ∷ 61 ∷ 114 ∷ 44 ∷ 84 ∷ 61 ∷ 100 ∷ 0 ∷ 0 ∷ []))))
+    (0 ∷ 2 ∷ 0 ∷ 0 ∷ 4 ∷ 4 ∷ 1 ∷ 0 ∷ 0 ∷ 0 ∷ [])
+    ∷ row (opens (keyed false (word false 22
+    ++ (75 ∷ 84 ∷ 88 ∷ 111 ∷ 114 ∷ 120 ∷ 101 ∷ 110 ∷ 116 ∷ 97 ∷ 116 ∷ 105 ∷ 111 ∷ 110 ∷ 0 ∷ 83 ∷ 61 ∷ 114 ∷ 44 ∷ 84 ∷ 61 ∷ 100 ∷ 0 ∷ 0 ∷ []))))
+    (0 ∷ 2 ∷ 0 ∷ 0 ∷ 4 ∷ 4 ∷ 1 ∷ 0 ∷ 0 ∷ 0 ∷ [])
+    ∷ row (opens (keyed false (word false 22
+    ++ (75 ∷ 84 ∷ 88 ∷ 111 ∷ 114 ∷ 105 ∷ 101 ∷ 110 ∷ 116 ∷ 97 ∷ 116 ∷ 105 ∷ 111 ∷ 110 ∷ 1 ∷ 83 ∷ 61 ∷ 114 ∷ 44 ∷ 84 ∷ 61 ∷ 100 ∷ 0 ∷ 0 ∷ []))))
+    (0 ∷ 2 ∷ 0 ∷ 0 ∷ 4 ∷ 4 ∷ 1 ∷ 0 ∷ 0 ∷ 0 ∷ [])
+    ∷ row (opens (keyed false (word false 22 ++ orientation ++ (83 ∷ 61 ∷ 114 ∷ 44 ∷ 84 ∷ 61 ∷ 100 ∷ 0 ∷ [])))) (0 ∷ 2 ∷ 0 ∷ 0 ∷ 4 ∷ 4 ∷ 1 ∷ 0 ∷ 0 ∷ 0 ∷ [])
+    ∷ row (opens (keyed false (word false 24 ++ orientation ++ (83 ∷ 61 ∷ 114 ∷ 44 ∷ 84 ∷ 61 ∷ 100 ∷ [])))) (0 ∷ 2 ∷ 0 ∷ 0 ∷ 4 ∷ 4 ∷ 1 ∷ 0 ∷ 0 ∷ 0 ∷ [])
+    ∷ row (opens (keyed false (word false 3 ++ (97 ∷ 98 ∷ 0 ∷ 0 ∷ []) ++ word false 22 ++ orientation ++ (83 ∷ 61 ∷ 114 ∷ 44 ∷ 84 ∷ 61 ∷ 117 ∷ 0 ∷ 0 ∷ []))))
+    (0 ∷ 2 ∷ 0 ∷ 0 ∷ 4 ∷ 4 ∷ 1 ∷ 0 ∷ 2 ∷ 0 ∷ [])
+    ∷ row (opens (keyed false (word false 22 ++ orientation ++ (83 ∷ 61 ∷ 114 ∷ 44 ∷ 84 ∷ 61 ∷ 117 ∷ 0 ∷ 0 ∷ []) ++ word false 3 ++ (97 ∷ 98 ∷ 0 ∷ 0 ∷ []))))
+    (0 ∷ 2 ∷ 0 ∷ 0 ∷ 4 ∷ 4 ∷ 1 ∷ 0 ∷ 2 ∷ 0 ∷ [])
+    ∷ row (opens (keyed false (word false 22 ++ orientation ++ (83 ∷ 61 ∷ 114 ∷ 44 ∷ 84 ∷ 61 ∷ 117 ∷ 0 ∷ 0 ∷ []) ++ (3 ∷ 0 ∷ 0 ∷ [])))) (0 ∷ 2 ∷ 0 ∷ 0 ∷ 4 ∷ 4 ∷ 1 ∷ 0 ∷ 0 ∷ 0 ∷ [])
+    ∷ row (opens (keyed false (word false 22 ++ orientation ++ (83 ∷ 61 ∷ 114 ∷ 44 ∷ 84 ∷ 61 ∷ 117 ∷ 0 ∷ 0 ∷ []) ++ word false 5 ++ (97 ∷ 98 ∷ 0 ∷ 0 ∷ []))))
+    (0 ∷ 2 ∷ 0 ∷ 0 ∷ 4 ∷ 4 ∷ 1 ∷ 0 ∷ 0 ∷ 0 ∷ [])
+    ∷ row (opens (keyed false (word false 22 ++ orientation
+    ++ (83 ∷ 61 ∷ 114 ∷ 44 ∷ 84 ∷ 61 ∷ 117 ∷ 0 ∷ 0 ∷ [])
+    ++ word false 22 ++ orientation
+    ++ (83 ∷ 61 ∷ 114 ∷ 44 ∷ 84 ∷ 61 ∷ 100 ∷ 0 ∷ 0 ∷ []))))
+    (0 ∷ 2 ∷ 0 ∷ 0 ∷ 4 ∷ 4 ∷ 1 ∷ 0 ∷ 1 ∷ 0 ∷ [])
+    ∷ row (opens (keyed2 112 24 (word false 18 ++ orientation ++ (114 ∷ 100 ∷ 0 ∷ 0 ∷ 0 ∷ [])))) (0 ∷ 3 ∷ 1 ∷ 0 ∷ 4 ∷ 4 ∷ 1 ∷ 0 ∷ 1 ∷ 24 ∷ [])
+    ∷ row (opens (keyed2 112 24 (word false 18 ++ orientation ++ (114 ∷ 117 ∷ 0 ∷ 0 ∷ 0 ∷ [])))) (0 ∷ 3 ∷ 1 ∷ 0 ∷ 4 ∷ 4 ∷ 1 ∷ 0 ∷ 2 ∷ 24 ∷ [])
+    ∷ row (opens (keyed2 112 24 (word false 18 ++ orientation ++ (114 ∷ 120 ∷ 0 ∷ 0 ∷ 0 ∷ [])))) (0 ∷ 3 ∷ 1 ∷ 0 ∷ 4 ∷ 4 ∷ 1 ∷ 0 ∷ 0 ∷ 24 ∷ [])
+    ∷ row (opens (keyed2 112 24 (word false 18 ++ orientation ++ (108 ∷ 100 ∷ 0 ∷ 0 ∷ 0 ∷ [])))) (0 ∷ 3 ∷ 1 ∷ 0 ∷ 4 ∷ 4 ∷ 1 ∷ 0 ∷ 0 ∷ 24 ∷ [])
+    ∷ row (opens (keyed2 112 24 (word false 17 ++ orientation ++ (114 ∷ 100 ∷ 0 ∷ 0 ∷ 0 ∷ [])))) (0 ∷ 3 ∷ 1 ∷ 0 ∷ 4 ∷ 4 ∷ 1 ∷ 0 ∷ 1 ∷ 24 ∷ [])
+    ∷ row (opens (keyed2 112 24 (word false 16 ++ orientation ++ (114 ∷ 100 ∷ 0 ∷ 0 ∷ 0 ∷ [])))) (0 ∷ 3 ∷ 1 ∷ 0 ∷ 4 ∷ 4 ∷ 1 ∷ 0 ∷ 0 ∷ 24 ∷ [])
+    ∷ row (opens (keyed2 112 25 (word false 18 ++ orientation ++ (114 ∷ 100 ∷ 0 ∷ 0 ∷ 0 ∷ [])))) (0 ∷ 3 ∷ 1 ∷ 0 ∷ 4 ∷ 4 ∷ 1 ∷ 0 ∷ 0 ∷ 24 ∷ [])
+    ∷ row (opens (keyed2 113 24 (word false 18 ++ orientation ++ (114 ∷ 100 ∷ 0 ∷ 0 ∷ 0 ∷ [])))) (0 ∷ 3 ∷ 1 ∷ 0 ∷ 4 ∷ 4 ∷ 1 ∷ 0 ∷ 0 ∷ 24 ∷ [])
+    ∷ row (opens (keyed2 112 20 (word false 18 ++ orientation ++ (114 ∷ 100 ∷ 0 ∷ 0 ∷ 0 ∷ [])))) (0 ∷ 3 ∷ 1 ∷ 0 ∷ 4 ∷ 4 ∷ 1 ∷ 0 ∷ 0 ∷ 24 ∷ [])
+    ∷ row (opens (keyed2 112 0 (word false 18 ++ orientation ++ (114 ∷ 100 ∷ 0 ∷ 0 ∷ 0 ∷ [])))) (0 ∷ 3 ∷ 1 ∷ 0 ∷ 4 ∷ 4 ∷ 1 ∷ 0 ∷ 0 ∷ 24 ∷ [])
+    ∷ row (opens (keyed2 4294967295 4294967295 (word false 18 ++ orientation ++ (114 ∷ 100 ∷ 0 ∷ 0 ∷ 0 ∷ [])))) (0 ∷ 3 ∷ 1 ∷ 0 ∷ 4 ∷ 4 ∷ 1 ∷ 0 ∷ 0 ∷ 24 ∷ [])
+    ∷ row (opens (keyed2 137 0 (word false 18 ++ orientation ++ (114 ∷ 100 ∷ 0 ∷ 0 ∷ 0 ∷ [])))) (0 ∷ 3 ∷ 1 ∷ 0 ∷ 4 ∷ 4 ∷ 1 ∷ 0 ∷ 0 ∷ 24 ∷ [])
+    ∷ row (opens (keyed2 112 24 (word false 18 ++ qt-orientation ++ (114 ∷ 100 ∷ 0 ∷ 0 ∷ 0 ∷ [])))) (0 ∷ 3 ∷ 1 ∷ 0 ∷ 4 ∷ 4 ∷ 1 ∷ 0 ∷ 1 ∷ 24 ∷ [])
+    ∷ []
+
+hold-keyed-files : T (every keyed-files)
+unfolding answer row every zeros word words pkm identifier ktx1 level ktx2 entry dds dx10 rec orientation qt-orientation keyed keyed2 keyed-files
+    little big inBytes bigBytes sizeOf walked kept payloadAt formatOf headVerdict formatAt known word32
+    bytesFor insideOf afterSize inIndex fitOf levelAt nextSpot levelsFrom levelsOf tooMany heldOf openedBy foundBy
+    isOrientation rowsTold rowsIn orientationOf pkmAs pkmOf ktx1As ktx1In ktx1Of ktx2As ktx2Of ddsFlat dx10Flat ddsAs fourCCFormat dx10Of ddsOf sheetHeader
+    headerOf openedAs foundAs openedVerdict foundVerdict
+hold-keyed-files = tt
 
 -- DDS: FourCCs and DXGI numbers, and where they mean nothing
 ddss : List Row
@@ -428,10 +519,10 @@ ddss =
     ∷ []
 
 hold-ddss : T (every ddss)
-unfolding answer row every zeros word words pkm identifier ktx1 level ktx2 entry dds dx10 rec ddss
+unfolding answer row every zeros word words pkm identifier ktx1 level ktx2 entry dds dx10 rec orientation qt-orientation keyed keyed2 ddss
     little big inBytes bigBytes sizeOf walked kept payloadAt formatOf headVerdict formatAt known word32
     bytesFor insideOf afterSize inIndex fitOf levelAt nextSpot levelsFrom levelsOf tooMany heldOf openedBy foundBy
-    pkmAs pkmOf ktx1As ktx1In ktx1Of ktx2As ktx2Of ddsFlat dx10Flat ddsAs fourCCFormat dx10Of ddsOf sheetHeader
+    isOrientation rowsTold rowsIn orientationOf pkmAs pkmOf ktx1As ktx1In ktx1Of ktx2As ktx2Of ddsFlat dx10Flat ddsAs fourCCFormat dx10Of ddsOf sheetHeader
     headerOf openedAs foundAs openedVerdict foundVerdict
 hold-ddss = tt
 
@@ -459,10 +550,10 @@ flat-ddss =
     ∷ []
 
 hold-flat-ddss : T (every flat-ddss)
-unfolding answer row every zeros word words pkm identifier ktx1 level ktx2 entry dds dx10 rec flat-ddss
+unfolding answer row every zeros word words pkm identifier ktx1 level ktx2 entry dds dx10 rec orientation qt-orientation keyed keyed2 flat-ddss
     little big inBytes bigBytes sizeOf walked kept payloadAt formatOf headVerdict formatAt known word32
     bytesFor insideOf afterSize inIndex fitOf levelAt nextSpot levelsFrom levelsOf tooMany heldOf openedBy foundBy
-    pkmAs pkmOf ktx1As ktx1In ktx1Of ktx2As ktx2Of ddsFlat dx10Flat ddsAs fourCCFormat dx10Of ddsOf sheetHeader
+    isOrientation rowsTold rowsIn orientationOf pkmAs pkmOf ktx1As ktx1In ktx1Of ktx2As ktx2Of ddsFlat dx10Flat ddsAs fourCCFormat dx10Of ddsOf sheetHeader
     headerOf openedAs foundAs openedVerdict foundVerdict
 hold-flat-ddss = tt
 
@@ -493,10 +584,10 @@ sized-ddss =
     ∷ []
 
 hold-sized-ddss : T (every sized-ddss)
-unfolding answer row every zeros word words pkm identifier ktx1 level ktx2 entry dds dx10 rec sized-ddss
+unfolding answer row every zeros word words pkm identifier ktx1 level ktx2 entry dds dx10 rec orientation qt-orientation keyed keyed2 sized-ddss
     little big inBytes bigBytes sizeOf walked kept payloadAt formatOf headVerdict formatAt known word32
     bytesFor insideOf afterSize inIndex fitOf levelAt nextSpot levelsFrom levelsOf tooMany heldOf openedBy foundBy
-    pkmAs pkmOf ktx1As ktx1In ktx1Of ktx2As ktx2Of ddsFlat dx10Flat ddsAs fourCCFormat dx10Of ddsOf sheetHeader
+    isOrientation rowsTold rowsIn orientationOf pkmAs pkmOf ktx1As ktx1In ktx1Of ktx2As ktx2Of ddsFlat dx10Flat ddsAs fourCCFormat dx10Of ddsOf sheetHeader
     headerOf openedAs foundAs openedVerdict foundVerdict
 hold-sized-ddss = tt
 
@@ -535,9 +626,9 @@ sheets =
     ∷ []
 
 hold-sheets : T (every sheets)
-unfolding answer row every zeros word words pkm identifier ktx1 level ktx2 entry dds dx10 rec sheets
+unfolding answer row every zeros word words pkm identifier ktx1 level ktx2 entry dds dx10 rec orientation qt-orientation keyed keyed2 sheets
     little big inBytes bigBytes sizeOf walked kept payloadAt formatOf headVerdict formatAt known word32
     bytesFor insideOf afterSize inIndex fitOf levelAt nextSpot levelsFrom levelsOf tooMany heldOf openedBy foundBy
-    pkmAs pkmOf ktx1As ktx1In ktx1Of ktx2As ktx2Of ddsFlat dx10Flat ddsAs fourCCFormat dx10Of ddsOf sheetHeader
+    isOrientation rowsTold rowsIn orientationOf pkmAs pkmOf ktx1As ktx1In ktx1Of ktx2As ktx2Of ddsFlat dx10Flat ddsAs fourCCFormat dx10Of ddsOf sheetHeader
     headerOf openedAs foundAs openedVerdict foundVerdict
 hold-sheets = tt

@@ -13,6 +13,7 @@ use lib.Dec.{eqb, ltb}
 use lib.ListN.{length}
 use Rattle.numbers.specs.Numbers.{big}
 use Rattle.rules.specs.FileFormats.{row, known, word32, has4, oneAtLeast, isFlat}
+use Rattle.rules.specs.Keys.{orientationOf}
 use Rattle.rules.specs.declared.Format.the-variants.{Etc1, Etc2Rgb, Etc2Rgba1, Etc2Rgba8, EacR, EacRSigned, EacRg, EacRgSigned}
 use Rattle.rules.specs.declared.Format.the-variants.{Bc1, Bc1Alpha, Bc3, Bc7, Bc2, Bc4, Bc4Signed, Bc5, Bc5Signed}
 use Rattle.rules.specs.declared.Answer.the-variants.{HeaderCut, UnknownVersion, UnknownFormat, NotFlat}
@@ -67,7 +68,7 @@ ktx1As (As f srgb) order d =
       height = word32 order d 40;
       levels = oneAtLeast (word32 order d 56);
       «big_endian» = cond order 1 0;
-      orientation = 0;
+      orientation = orientationOf false order d 64 (word32 order d 60);
       start = 64 + word32 order d 60;
       agrees = true;
     })

@@ -5,13 +5,14 @@
 --    48  dfdByteOffset    52  dfdByteLength             56  kvdByteOffset       60  kvdByteLength
 --    64  sgdByteOffset    72  sgdByteLength             80  the index: for each level byteOffset, byteLength, uncompressedByteLength
 -- Assumes nothing.
-use mathlib.Core.Bool.{Bool, true, cond, _&&_}
+use mathlib.Core.Bool.{Bool, true, false, cond, _&&_}
 use mathlib.Core.List.{List, [], _++_}
 use Prim.Native.Nat.{ℕ}
 use lib.Dec.{eqb, ltb}
 use lib.ListN.{length}
 use Rattle.numbers.specs.Numbers.{little}
 use Rattle.rules.specs.FileFormats.{row, known, has4, oneAtLeast, isFlat}
+use Rattle.rules.specs.Keys.{orientationOf}
 use Rattle.rules.specs.declared.Format.the-variants.{Etc2Rgb, Etc2Rgba1, Etc2Rgba8, EacR, EacRSigned, EacRg, EacRgSigned}
 use Rattle.rules.specs.declared.Format.the-variants.{Bc1, Bc1Alpha, Bc3, Bc7, Bc2, Bc4, Bc4Signed, Bc5, Bc5Signed}
 use Rattle.rules.specs.declared.Answer.the-variants.{HeaderCut, UnknownFormat, NotFlat, Supercompressed}
@@ -65,7 +66,7 @@ ktx2As (As f srgb) d =
       height = little 4 24 d;
       levels = oneAtLeast (little 4 40 d);
       «big_endian» = 0;
-      orientation = 0;
+      orientation = orientationOf true false d (little 4 56 d) (little 4 60 d);
       start = 80;
       agrees = true;
     })

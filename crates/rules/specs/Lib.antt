@@ -41,6 +41,7 @@ pub mod Whole
 -- files: PKM, KTX 1, KTX 2, DDS and sheets
 pub mod FileFormats
 pub mod FileLevels
+pub mod Keys
 pub mod Pkm
 pub mod Ktx1
 pub mod Ktx2

@@ -21,8 +21,17 @@ little4-requires-2 c κs = search needs
 little4-requires-3 : tie.Need-little4-requires-3
 little4-requires-3 c κs = search needs
 
+little4-requires-4 : tie.Need-little4-requires-4
+little4-requires-4 c κs = search needs
+
 one-at-least-requires : tie.Need-one-at-least-requires
 one-at-least-requires c κs = search needs
+
+little4-requires-5 : tie.Need-little4-requires-5
+little4-requires-5 c κs = search needs
+
+orientation-requires : tie.Need-orientation-requires
+orientation-requires c κs = search needs
 
 returns : tie.Need-returns
 unfolding ktx2As
@@ -31,11 +40,14 @@ returns c = simp (c .enum-told .given .1)
 returns-2 : tie.Need-returns-2
 unfolding ktx2As
 returns-2 c = simp (
-  c .before .before .before .before .before .known .given .1,
-  sym (c .before .before .before .little4 .ensures .0),
-  sym (c .before .before .little42 .ensures .0),
-  sym (c .before .little43 .ensures .0),
-  sym (c .one-at-least .ensures),
+  c .before .before .before .before .before .before .before .before .known .given .1,
+  sym (c .before .before .before .before .before .before .little4 .ensures .0),
+  sym (c .before .before .before .before .before .little42 .ensures .0),
+  sym (c .before .before .before .before .little43 .ensures .0),
+  sym (c .before .before .little44 .ensures .0),
+  sym (c .before .little45 .ensures .0),
+  sym (c .before .before .before .one-at-least .ensures),
+  sym (c .orientation .ensures),
 )
 
 pub header-as-spec : {M : Type 1} → statement M
@@ -48,5 +60,8 @@ header-as-spec =
     little4-requires-2
     little4-requires-3
     one-at-least-requires
+    little4-requires-4
+    little4-requires-5
+    orientation-requires
     returns
     returns-2)
