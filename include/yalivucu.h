@@ -350,7 +350,7 @@ struct yalivucu_file {
     uint64_t height;
     uint64_t levels;      /* how many there are: at least 1 */
     uint64_t big_endian;  /* 1 where the header's numbers are big-endian (always in PKM), else 0 */
-    uint64_t orientation; /* of enum yalivucu_orientation: which row comes first; so far always YALIVUCU_UNTOLD */
+    uint64_t orientation; /* of enum yalivucu_orientation: which row comes first */
     uint64_t left_over;   /* how many bytes stand behind the last level */
 };
 

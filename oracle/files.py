@@ -34,9 +34,8 @@ SHEET_LIMIT = 16384
 (ETC1, RGB, RGBA1, RGBA8, R, R_SIGNED, RG, RG_SIGNED, BC1, BC1A, BC3, BC7, BC2, BC4, BC4_SIGNED, BC5, BC5_SIGNED) = range(17)
 WIDE = {RGBA8, RG, RG_SIGNED, BC3, BC7, BC2, BC5, BC5_SIGNED}  # 16 bytes to a block, the others 8
 
-# What has to be changed here as the library grows: the formats that it reads, and whether it tells the orientation, which it owes.
+# Those that the library reads.
 READ = set(range(BC5_SIGNED + 1))
-ORIENTED = True
 
 
 class Refused(Exception):
@@ -178,7 +177,7 @@ def orientation(pairs, order, ways):
 
     A pair has a 32-bit size, the key and a 0, the value, and padding to four bytes.
     """
-    return ways.get(text_of(pairs, order), UNTOLD) if ORIENTED else UNTOLD
+    return ways.get(text_of(pairs, order), UNTOLD)
 
 
 def text_of(pairs, order):
