@@ -333,7 +333,12 @@ enum yalivucu_format {
     YALIVUCU_BC1 = 8,
     YALIVUCU_BC1A = 9,
     YALIVUCU_BC3 = 10,
-    YALIVUCU_BC7 = 11
+    YALIVUCU_BC7 = 11,
+    YALIVUCU_BC2 = 12,
+    YALIVUCU_BC4 = 13,
+    YALIVUCU_BC4_SIGNED = 14,
+    YALIVUCU_BC5 = 15,
+    YALIVUCU_BC5_SIGNED = 16
 };
 
 enum yalivucu_orientation {
