@@ -300,7 +300,7 @@ uint32_t yalivucu_write_sheet(size_t format, size_t width, size_t height, const 
  * file, which the first opens and in which the second finds level 0, 1, .., the largest first:
  *
  *     struct yalivucu_file file;
- *     struct yalivucu_level level;
+ *     struct yalivucu_level_place level;
  *     uint32_t answer = yalivucu_open_file(data, data_len, &file);
  *     if (!answer) answer = yalivucu_file_level(data, data_len, 0, &level);
  *     if (!answer && file.format == YALIVUCU_ETC2_RGBA8) answer = yalivucu_decode_etc2_rgba8(
@@ -359,7 +359,7 @@ struct yalivucu_file {
     uint64_t left_over;   /* how many bytes stand behind the last level */
 };
 
-struct yalivucu_level {
+struct yalivucu_level_place {
     uint64_t width; /* in pixels */
     uint64_t height;
     uint64_t start;  /* where its blocks begin in data */
@@ -367,7 +367,7 @@ struct yalivucu_level {
 };
 
 uint32_t yalivucu_open_file(const uint8_t *data, size_t data_len, struct yalivucu_file *file);
-uint32_t yalivucu_file_level(const uint8_t *data, size_t data_len, size_t level, struct yalivucu_level *out);
+uint32_t yalivucu_file_level(const uint8_t *data, size_t data_len, size_t level, struct yalivucu_level_place *out);
 
 /* A picture whose bytes arrive in pieces of any length, 0 included: each block is painted as soon
  * as it is whole, and at most 15 bytes are kept in between. The caller owns the state, which is of

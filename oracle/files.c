@@ -46,7 +46,7 @@ static uint8_t *next(size_t *length)
 
 static void show_level(const uint8_t *data, size_t length, size_t n)
 {
-    struct yalivucu_level level, stood;
+    struct yalivucu_level_place level, stood;
     memset(&level, 0xA5, sizeof level);
     stood = level;
     uint32_t answer = yalivucu_file_level(data, length, n, &level);
@@ -62,7 +62,7 @@ static void show_level(const uint8_t *data, size_t length, size_t n)
 static void show_pixels(const uint8_t *data, size_t length, const struct yalivucu_file *file)
 {
     for (size_t n = 0; n < file->levels; n++) {
-        struct yalivucu_level level;
+        struct yalivucu_level_place level;
         need(!yalivucu_file_level(data, length, n, &level), "a level is refused");
         need(file->format < sizeof READER / sizeof *READER, "a format without a reader");
         size_t elements = level.width * level.height;

@@ -564,9 +564,9 @@ static void put4(uint8_t *at, uint32_t number)
 static void opened(const char *name, const uint8_t *data, size_t len, uint32_t answer, struct yalivucu_file due)
 {
     struct yalivucu_file told;
-    struct yalivucu_level level;
+    struct yalivucu_level_place level;
     const struct yalivucu_file none = {77, 77, 77, 77, 77, 77, 77, 77, 77};
-    const struct yalivucu_level no_level = {77, 77, 77, 77};
+    const struct yalivucu_level_place no_level = {77, 77, 77, 77};
     told = none, level = no_level;
     same(name, yalivucu_open_file(data, len, &told), answer);
     if (answer) due = none;
@@ -576,9 +576,9 @@ static void opened(const char *name, const uint8_t *data, size_t len, uint32_t a
     same(name, memcmp(&level, &no_level, sizeof level) != 0, 0);
 }
 
-static void level_is(const char *name, const uint8_t *data, size_t len, size_t n, struct yalivucu_level due)
+static void level_is(const char *name, const uint8_t *data, size_t len, size_t n, struct yalivucu_level_place due)
 {
-    struct yalivucu_level level = {77, 77, 77, 77};
+    struct yalivucu_level_place level = {77, 77, 77, 77};
     same(name, yalivucu_file_level(data, len, n, &level), YALIVUCU_DONE);
     same(name, memcmp(&level, &due, sizeof due) != 0, 0);
 }
@@ -590,7 +590,7 @@ static void pkm(void)
     uint8_t file[25] = {'P', 'K', 'M', ' ', '1', '0', 0, 0, 0, 4, 0, 4, 0, 3, 0, 2, 0x04, 0, 0, 0x02};
     const struct yalivucu_file due = {YALIVUCU_PKM, YALIVUCU_ETC1, 0, 3, 2, 1, 1, YALIVUCU_UNTOLD, 1};
     opened("PKM", file, 25, YALIVUCU_DONE, due);
-    level_is("PKM, level", file, 25, 0, (struct yalivucu_level){3, 2, 16, 8});
+    level_is("PKM, level", file, 25, 0, (struct yalivucu_level_place){3, 2, 16, 8});
     opened("PKM, no bytes", NULL, 0, YALIVUCU_NO_TEXTURE, NOTHING);
     opened("PKM, header", file, 15, YALIVUCU_CUT_HEADER, NOTHING);
     opened("PKM, bytes", file, 23, YALIVUCU_LEVELS_MISSING, NOTHING);
@@ -614,8 +614,8 @@ static void ktx1(void)
     put4(file + 16, 0x1401), put4(file + 28, 0x9279), put4(file + 36, 5), put4(file + 40, 3), put4(file + 52, 1), put4(file + 56, 2);
     put4(file + 64, 32), put4(file + 100, 16);
     opened("KTX 1", file, sizeof file, YALIVUCU_DONE, due);
-    level_is("KTX 1, level 0", file, sizeof file, 0, (struct yalivucu_level){5, 3, 68, 32});
-    level_is("KTX 1, level 1", file, sizeof file, 1, (struct yalivucu_level){2, 1, 104, 16});
+    level_is("KTX 1, level 0", file, sizeof file, 0, (struct yalivucu_level_place){5, 3, 68, 32});
+    level_is("KTX 1, level 1", file, sizeof file, 1, (struct yalivucu_level_place){2, 1, 104, 16});
     opened("KTX 1, bytes", file, sizeof file - 1, YALIVUCU_LEVELS_MISSING, NOTHING);
     put4(file + 60, 0xFFFFFFFC);
     opened("KTX 1, keys", file, sizeof file, YALIVUCU_LEVELS_MISSING, NOTHING);
@@ -636,7 +636,7 @@ static void ktx2(void)
     memcpy(file, head, sizeof head);
     put4(file + 12, 145), put4(file + 20, 4), put4(file + 24, 4), put4(file + 36, 1), put4(file + 80, 104), put4(file + 88, 16);
     opened("KTX 2", file, sizeof file, YALIVUCU_DONE, due);
-    level_is("KTX 2, level", file, sizeof file, 0, (struct yalivucu_level){4, 4, 104, 16});
+    level_is("KTX 2, level", file, sizeof file, 0, (struct yalivucu_level_place){4, 4, 104, 16});
     memset(file + 80, 0xFF, 8);
     opened("KTX 2, offset", file, sizeof file, YALIVUCU_LEVELS_MISSING, NOTHING);
     put4(file + 44, 2);
@@ -650,7 +650,7 @@ static void dds(void)
     put4(file + 12, 1), put4(file + 16, 4), put4(file + 76, 32), put4(file + 80, 4);
     memcpy(file + 84, "DXT1", 4);
     opened("DDS", file, sizeof file, YALIVUCU_DONE, due);
-    level_is("DDS, level", file, sizeof file, 0, (struct yalivucu_level){4, 1, 128, 8});
+    level_is("DDS, level", file, sizeof file, 0, (struct yalivucu_level_place){4, 1, 128, 8});
     opened("DDS, header", file, 127, YALIVUCU_CUT_HEADER, NOTHING);
     opened("DDS, bytes", file, 135, YALIVUCU_LEVELS_MISSING, NOTHING);
     put4(file + 16, 65537);
@@ -666,7 +666,7 @@ static void sheet_file(void)
     const struct yalivucu_file due = {YALIVUCU_SHEET, YALIVUCU_EAC_RG, 0, 4, 3, 1, 0, YALIVUCU_UNTOLD, 0};
     same("sheet", yalivucu_write_sheet(6, 4, 3, ZERO, 16, room, sizeof room, &written), YALIVUCU_DONE);
     opened("sheet", room, written, YALIVUCU_DONE, due);
-    level_is("sheet, level", room, written, 0, (struct yalivucu_level){4, 3, 21, 16});
+    level_is("sheet, level", room, written, 0, (struct yalivucu_level_place){4, 3, 21, 16});
     opened("sheet, cut", room, written - 1, YALIVUCU_CUT_SHORT, NOTHING);
 }
 
