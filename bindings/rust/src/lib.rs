@@ -1,4 +1,4 @@
-//! ETC1, ETC2, EAC, BC1, BC3 and BC7 textures, read by code that is proved to follow the public rules: a
+//! ETC1, ETC2, EAC, BC1 to BC5 and BC7 textures, read by code that is proved to follow the public rules: a
 //! drop-in for those parts of `texture2ddecoder`, with its function names and their exact types.
 //!
 //! A viewer moves over by one line of `Cargo.toml`, and its source does not change:

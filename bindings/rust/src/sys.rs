@@ -24,7 +24,7 @@ pub struct File {
     pub left_over: u64,
 }
 
-/// `struct yalivucu_level`.
+/// `struct yalivucu_level_place`.
 #[repr(C)]
 #[derive(Default)]
 pub struct Level {
