@@ -1,5 +1,4 @@
-/* ETC1, ETC2, EAC, BC1, BC3 and BC7 textures, the files that hold them, and the degrees that their colours mean, read by
- * proved code.
+/* ETC1, ETC2, EAC, BC1 to BC5 and BC7 textures, and the degrees that their colours mean, read by proved code.
  *
  * Link with the static library that `bindings/archive FILE.a` writes. Every function may be
  * called from several threads at once, allocates nothing, keeps nothing between calls but in what
@@ -28,16 +27,18 @@
  *   3  refused: image_len is less than (height - 1) * pitch + width, which is width * height where
  *      there is no gap (and 0 where a side is 0), or out_len or tile_len less than 16, or counts_len less than
  *      the census has counts.
- *   4  refused by yalivucu_decode_etc1_strict and its check alone: a block's base plus step is out of range.
+ *   4  refused by yalivucu_decode_etc1_strict, its _pitched twin and its check alone: a block's base plus step is
+ *      out of range.
  *   5  refused: the channel is above 3.
- *   6  refused by yalivucu_decode_etc1_strict and its check alone: there are more bytes than the blocks need. Every
- *      other reader ignores what follows its blocks.
+ *   6  refused by yalivucu_decode_etc1_strict, its _pitched twin and its check alone: there are more bytes than the
+ *      blocks need. Every other reader ignores what follows its blocks.
  *   7  refused, of a sheet: a record is cut short, or there are no bytes at all.
  *   8  refused: the first record is not of kind 1, not 9 bytes long, or its format is above 7;
  *      of the writer: the format is above 7.
  *   9  refused: a record of another kind, a second one of kind 1 included.
  *  10  refused: no record of blocks, a second one, or blocks that are not of the exact length.
- *  11  refused by yalivucu_decode_etc2_rgba1_opaque and its check alone: a block's opaque bit is clear.
+ *  11  refused by yalivucu_decode_etc2_rgba1_opaque, its _pitched twin and its check alone: a block's opaque bit is
+ *      clear.
  *  12  refused: the pitch is below the width.
  *  13  refused, of degrees: a low or level of the legend does not lie in -720 to 720, or a step not in
  *      -8 to 8, or the legend is of no kind.
@@ -112,7 +113,8 @@ enum yalivucu_answer {
     YALIVUCU_SUPERCOMPRESSED = 41
 };
 
-/* Pictures in blocks of 8 bytes. The last of three BC1 colours is black in bc1, and 0, transparent, in bc1a. */
+/* Pictures in blocks of 8 bytes. The last of three BC1 colours is black in bc1, and 0, transparent, in bc1a.
+ * A signed channel's byte has 0 at 127 and the least value at 0, in EAC as in BC4 and BC5. */
 uint32_t yalivucu_decode_etc1(const uint8_t *data, size_t data_len, size_t width, size_t height, uint32_t *image, size_t image_len);
 uint32_t yalivucu_decode_etc2_rgb(const uint8_t *data, size_t data_len, size_t width, size_t height, uint32_t *image, size_t image_len);
 uint32_t yalivucu_decode_etc2_rgba1(const uint8_t *data, size_t data_len, size_t width, size_t height, uint32_t *image, size_t image_len);
@@ -120,6 +122,8 @@ uint32_t yalivucu_decode_eacr(const uint8_t *data, size_t data_len, size_t width
 uint32_t yalivucu_decode_eacr_signed(const uint8_t *data, size_t data_len, size_t width, size_t height, uint32_t *image, size_t image_len);
 uint32_t yalivucu_decode_bc1(const uint8_t *data, size_t data_len, size_t width, size_t height, uint32_t *image, size_t image_len);
 uint32_t yalivucu_decode_bc1a(const uint8_t *data, size_t data_len, size_t width, size_t height, uint32_t *image, size_t image_len);
+uint32_t yalivucu_decode_bc4(const uint8_t *data, size_t data_len, size_t width, size_t height, uint32_t *image, size_t image_len);
+uint32_t yalivucu_decode_bc4_signed(const uint8_t *data, size_t data_len, size_t width, size_t height, uint32_t *image, size_t image_len);
 
 /* Pictures in blocks of 16 bytes. */
 uint32_t yalivucu_decode_etc2_rgba8(const uint8_t *data, size_t data_len, size_t width, size_t height, uint32_t *image, size_t image_len);
@@ -127,6 +131,9 @@ uint32_t yalivucu_decode_eacrg(const uint8_t *data, size_t data_len, size_t widt
 uint32_t yalivucu_decode_eacrg_signed(const uint8_t *data, size_t data_len, size_t width, size_t height, uint32_t *image, size_t image_len);
 uint32_t yalivucu_decode_bc3(const uint8_t *data, size_t data_len, size_t width, size_t height, uint32_t *image, size_t image_len);
 uint32_t yalivucu_decode_bc7(const uint8_t *data, size_t data_len, size_t width, size_t height, uint32_t *image, size_t image_len);
+uint32_t yalivucu_decode_bc2(const uint8_t *data, size_t data_len, size_t width, size_t height, uint32_t *image, size_t image_len);
+uint32_t yalivucu_decode_bc5(const uint8_t *data, size_t data_len, size_t width, size_t height, uint32_t *image, size_t image_len);
+uint32_t yalivucu_decode_bc5_signed(const uint8_t *data, size_t data_len, size_t width, size_t height, uint32_t *image, size_t image_len);
 
 /* The same with a pitch, for an image whose rows have a gap. With pitch = width each does what the
  * function without one does. */
@@ -142,6 +149,11 @@ uint32_t yalivucu_decode_bc1_pitched(const uint8_t *data, size_t data_len, size_
 uint32_t yalivucu_decode_bc1a_pitched(const uint8_t *data, size_t data_len, size_t width, size_t height, size_t pitch, uint32_t *image, size_t image_len);
 uint32_t yalivucu_decode_bc3_pitched(const uint8_t *data, size_t data_len, size_t width, size_t height, size_t pitch, uint32_t *image, size_t image_len);
 uint32_t yalivucu_decode_bc7_pitched(const uint8_t *data, size_t data_len, size_t width, size_t height, size_t pitch, uint32_t *image, size_t image_len);
+uint32_t yalivucu_decode_bc2_pitched(const uint8_t *data, size_t data_len, size_t width, size_t height, size_t pitch, uint32_t *image, size_t image_len);
+uint32_t yalivucu_decode_bc4_pitched(const uint8_t *data, size_t data_len, size_t width, size_t height, size_t pitch, uint32_t *image, size_t image_len);
+uint32_t yalivucu_decode_bc4_signed_pitched(const uint8_t *data, size_t data_len, size_t width, size_t height, size_t pitch, uint32_t *image, size_t image_len);
+uint32_t yalivucu_decode_bc5_pitched(const uint8_t *data, size_t data_len, size_t width, size_t height, size_t pitch, uint32_t *image, size_t image_len);
+uint32_t yalivucu_decode_bc5_signed_pitched(const uint8_t *data, size_t data_len, size_t width, size_t height, size_t pitch, uint32_t *image, size_t image_len);
 
 /* All eleven bits of EAC, as 16-bit numbers: R in blocks of 8 bytes, RG in blocks of 16. Unsigned values
  * are 0 to 2047 and signed ones -1023 to 1023. R has one number to a pixel. RG has two, red then
@@ -204,6 +216,8 @@ uint32_t yalivucu_decode_eacr_block(const uint8_t *data, size_t data_len, uint32
 uint32_t yalivucu_decode_eacr_signed_block(const uint8_t *data, size_t data_len, uint32_t *out, size_t out_len);
 uint32_t yalivucu_decode_bc1_block(const uint8_t *data, size_t data_len, uint32_t *out, size_t out_len);
 uint32_t yalivucu_decode_bc1a_block(const uint8_t *data, size_t data_len, uint32_t *out, size_t out_len);
+uint32_t yalivucu_decode_bc4_block(const uint8_t *data, size_t data_len, uint32_t *out, size_t out_len);
+uint32_t yalivucu_decode_bc4_signed_block(const uint8_t *data, size_t data_len, uint32_t *out, size_t out_len);
 
 /* One block of 16 bytes, into out[0] to out[15]. */
 uint32_t yalivucu_decode_etc2_rgba8_block(const uint8_t *data, size_t data_len, uint32_t *out, size_t out_len);
@@ -211,6 +225,9 @@ uint32_t yalivucu_decode_eacrg_block(const uint8_t *data, size_t data_len, uint3
 uint32_t yalivucu_decode_eacrg_signed_block(const uint8_t *data, size_t data_len, uint32_t *out, size_t out_len);
 uint32_t yalivucu_decode_bc3_block(const uint8_t *data, size_t data_len, uint32_t *out, size_t out_len);
 uint32_t yalivucu_decode_bc7_block(const uint8_t *data, size_t data_len, uint32_t *out, size_t out_len);
+uint32_t yalivucu_decode_bc2_block(const uint8_t *data, size_t data_len, uint32_t *out, size_t out_len);
+uint32_t yalivucu_decode_bc5_block(const uint8_t *data, size_t data_len, uint32_t *out, size_t out_len);
+uint32_t yalivucu_decode_bc5_signed_block(const uint8_t *data, size_t data_len, uint32_t *out, size_t out_len);
 
 /* An alpha half of 8 bytes: replaces the top byte of out[0] to out[15] and keeps the rest. */
 uint32_t yalivucu_decode_etc2_a8_block(const uint8_t *data, size_t data_len, uint32_t *out, size_t out_len);
@@ -282,7 +299,7 @@ uint32_t yalivucu_write_sheet(size_t format, size_t width, size_t height, const 
  * file, which the first opens and in which the second finds level 0, 1, .., the largest first:
  *
  *     struct yalivucu_file file;
- *     struct yalivucu_level level;
+ *     struct yalivucu_level_place level;
  *     uint32_t answer = yalivucu_open_file(data, data_len, &file);
  *     if (!answer) answer = yalivucu_file_level(data, data_len, 0, &level);
  *     if (!answer && file.format == YALIVUCU_ETC2_RGBA8) answer = yalivucu_decode_etc2_rgba8(
@@ -315,7 +332,12 @@ enum yalivucu_format {
     YALIVUCU_BC1 = 8,
     YALIVUCU_BC1A = 9,
     YALIVUCU_BC3 = 10,
-    YALIVUCU_BC7 = 11
+    YALIVUCU_BC7 = 11,
+    YALIVUCU_BC2 = 12,
+    YALIVUCU_BC4 = 13,
+    YALIVUCU_BC4_SIGNED = 14,
+    YALIVUCU_BC5 = 15,
+    YALIVUCU_BC5_SIGNED = 16
 };
 
 enum yalivucu_orientation {
@@ -332,11 +354,11 @@ struct yalivucu_file {
     uint64_t height;
     uint64_t levels;      /* how many there are: at least 1 */
     uint64_t big_endian;  /* 1 where the header's numbers are big-endian (always in PKM), else 0 */
-    uint64_t orientation; /* of enum yalivucu_orientation: which row comes first; so far always YALIVUCU_UNTOLD */
+    uint64_t orientation; /* of enum yalivucu_orientation: which row comes first */
     uint64_t left_over;   /* how many bytes stand behind the last level */
 };
 
-struct yalivucu_level {
+struct yalivucu_level_place {
     uint64_t width; /* in pixels */
     uint64_t height;
     uint64_t start;  /* where its blocks begin in data */
@@ -344,7 +366,7 @@ struct yalivucu_level {
 };
 
 uint32_t yalivucu_open_file(const uint8_t *data, size_t data_len, struct yalivucu_file *file);
-uint32_t yalivucu_file_level(const uint8_t *data, size_t data_len, size_t level, struct yalivucu_level *out);
+uint32_t yalivucu_file_level(const uint8_t *data, size_t data_len, size_t level, struct yalivucu_level_place *out);
 
 /* A picture whose bytes arrive in pieces of any length, 0 included: each block is painted as soon
  * as it is whole, and at most 15 bytes are kept in between. The caller owns the state, which is of
@@ -361,7 +383,8 @@ uint32_t yalivucu_file_level(const uint8_t *data, size_t data_len, size_t level,
  * the image again: with answer 0 it painted *painted blocks and did not use the last *unused of its
  * bytes, which lie behind the last block; too short an image is answered 3, and then nothing is
  * taken or changed, *painted is 0 and *unused is bytes_len. The end is 0 where every block is
- * painted and 2 where not; what is painted stays. Where the image comes back each time as it was
+ * painted and 2 where not; what is painted stays. After a start that was refused with 1 or 12 the
+ * pieces and the end get that answer again. Where the image comes back each time as it was
  * left, neither the picture nor the answers' total depend on where the bytes were cut.
  *
  * Every content of the state is a state: a spoilt one gets another picture, or is answered 1, 12, 3
@@ -384,6 +407,11 @@ uint32_t yalivucu_start_bc1(size_t width, size_t height, size_t pitch, const uin
 uint32_t yalivucu_start_bc1a(size_t width, size_t height, size_t pitch, const uint32_t *image, size_t image_len, size_t *numbers, uint8_t *kept);
 uint32_t yalivucu_start_bc3(size_t width, size_t height, size_t pitch, const uint32_t *image, size_t image_len, size_t *numbers, uint8_t *kept);
 uint32_t yalivucu_start_bc7(size_t width, size_t height, size_t pitch, const uint32_t *image, size_t image_len, size_t *numbers, uint8_t *kept);
+uint32_t yalivucu_start_bc2(size_t width, size_t height, size_t pitch, const uint32_t *image, size_t image_len, size_t *numbers, uint8_t *kept);
+uint32_t yalivucu_start_bc4(size_t width, size_t height, size_t pitch, const uint32_t *image, size_t image_len, size_t *numbers, uint8_t *kept);
+uint32_t yalivucu_start_bc4_signed(size_t width, size_t height, size_t pitch, const uint32_t *image, size_t image_len, size_t *numbers, uint8_t *kept);
+uint32_t yalivucu_start_bc5(size_t width, size_t height, size_t pitch, const uint32_t *image, size_t image_len, size_t *numbers, uint8_t *kept);
+uint32_t yalivucu_start_bc5_signed(size_t width, size_t height, size_t pitch, const uint32_t *image, size_t image_len, size_t *numbers, uint8_t *kept);
 uint32_t yalivucu_take_piece(size_t *numbers, uint8_t *kept, const uint8_t *bytes, size_t bytes_len, uint32_t *image, size_t image_len, size_t *painted, size_t *unused);
 uint32_t yalivucu_end_pieces(const size_t *numbers, const uint8_t *kept);
 
@@ -434,6 +462,26 @@ static inline uint32_t yalivucu_pieces_bc3(struct yalivucu_pieces *state, size_t
 static inline uint32_t yalivucu_pieces_bc7(struct yalivucu_pieces *state, size_t width, size_t height, size_t pitch, const uint32_t *image, size_t image_len)
 {
     return yalivucu_start_bc7(width, height, pitch, image, image_len, state->numbers_, state->kept_);
+}
+static inline uint32_t yalivucu_pieces_bc2(struct yalivucu_pieces *state, size_t width, size_t height, size_t pitch, const uint32_t *image, size_t image_len)
+{
+    return yalivucu_start_bc2(width, height, pitch, image, image_len, state->numbers_, state->kept_);
+}
+static inline uint32_t yalivucu_pieces_bc4(struct yalivucu_pieces *state, size_t width, size_t height, size_t pitch, const uint32_t *image, size_t image_len)
+{
+    return yalivucu_start_bc4(width, height, pitch, image, image_len, state->numbers_, state->kept_);
+}
+static inline uint32_t yalivucu_pieces_bc4_signed(struct yalivucu_pieces *state, size_t width, size_t height, size_t pitch, const uint32_t *image, size_t image_len)
+{
+    return yalivucu_start_bc4_signed(width, height, pitch, image, image_len, state->numbers_, state->kept_);
+}
+static inline uint32_t yalivucu_pieces_bc5(struct yalivucu_pieces *state, size_t width, size_t height, size_t pitch, const uint32_t *image, size_t image_len)
+{
+    return yalivucu_start_bc5(width, height, pitch, image, image_len, state->numbers_, state->kept_);
+}
+static inline uint32_t yalivucu_pieces_bc5_signed(struct yalivucu_pieces *state, size_t width, size_t height, size_t pitch, const uint32_t *image, size_t image_len)
+{
+    return yalivucu_start_bc5_signed(width, height, pitch, image, image_len, state->numbers_, state->kept_);
 }
 static inline uint32_t yalivucu_pieces_take(struct yalivucu_pieces *state, const uint8_t *bytes, size_t bytes_len, uint32_t *image, size_t image_len, size_t *painted, size_t *unused)
 {

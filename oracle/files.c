@@ -15,6 +15,7 @@ static picture_reader *const READER[] = {
     yalivucu_decode_etc1, yalivucu_decode_etc2_rgb, yalivucu_decode_etc2_rgba1, yalivucu_decode_etc2_rgba8,
     yalivucu_decode_eacr, yalivucu_decode_eacr_signed, yalivucu_decode_eacrg, yalivucu_decode_eacrg_signed,
     yalivucu_decode_bc1, yalivucu_decode_bc1a, yalivucu_decode_bc3, yalivucu_decode_bc7,
+    yalivucu_decode_bc2, yalivucu_decode_bc4, yalivucu_decode_bc4_signed, yalivucu_decode_bc5, yalivucu_decode_bc5_signed,
 };
 
 static void need(int fact, const char *what)
@@ -45,7 +46,7 @@ static uint8_t *next(size_t *length)
 
 static void show_level(const uint8_t *data, size_t length, size_t n)
 {
-    struct yalivucu_level level, stood;
+    struct yalivucu_level_place level, stood;
     memset(&level, 0xA5, sizeof level);
     stood = level;
     uint32_t answer = yalivucu_file_level(data, length, n, &level);
@@ -61,7 +62,7 @@ static void show_level(const uint8_t *data, size_t length, size_t n)
 static void show_pixels(const uint8_t *data, size_t length, const struct yalivucu_file *file)
 {
     for (size_t n = 0; n < file->levels; n++) {
-        struct yalivucu_level level;
+        struct yalivucu_level_place level;
         need(!yalivucu_file_level(data, length, n, &level), "a level is refused");
         need(file->format < sizeof READER / sizeof *READER, "a format without a reader");
         size_t elements = level.width * level.height;

@@ -9,8 +9,8 @@ else, be it a part of one, is refused with 21. Where several things are wrong wi
     20  the header is not whole (of KTX 2 the 80 bytes; of DDS with FourCC DX10 all 148)
     22  PKM's version, KTX 1's byte order
     25  a volume, an array or a cube
+    41  supercompressed (KTX 2); before the format, since vkFormat is 0 in files of BasisLZ
     23  the format
-    41  supercompressed (KTX 2)
     26  no pixel
     1   a side above 65,536
     24  PKM's padded sizes; more levels than halving the larger side down to 1 gives
@@ -34,9 +34,8 @@ SHEET_LIMIT = 16384
 (ETC1, RGB, RGBA1, RGBA8, R, R_SIGNED, RG, RG_SIGNED, BC1, BC1A, BC3, BC7, BC2, BC4, BC4_SIGNED, BC5, BC5_SIGNED) = range(17)
 WIDE = {RGBA8, RG, RG_SIGNED, BC3, BC7, BC2, BC5, BC5_SIGNED}  # 16 bytes to a block, the others 8
 
-# What has to be changed here as the library grows: the formats that it reads, and whether it tells the orientation, which it owes.
-READ = set(range(BC7 + 1))
-ORIENTED = False
+# Those that the library reads.
+READ = set(range(BC5_SIGNED + 1))
 
 
 class Refused(Exception):
@@ -169,31 +168,31 @@ def ktx1(data):
         at = level.start + level.length  # which is a multiple of 4, so nothing is padded
         need(at <= len(data), 37)
         found.append(level)
-    way = orientation(data[64 : 64 + pairs], order, {b"S=r,T=d": TOP_DOWN, b"S=r,T=u": BOTTOM_UP})
+    way = orientation(data, order, 64, pairs, slice(3, 7), {b",T=d": TOP_DOWN, b",T=u": BOTTOM_UP})
     return Facts(KTX1, form, srgb, width, height, len(found), int(order == ">"), way, len(data) - at), found
 
 
-def orientation(pairs, order, ways):
-    """What the text under the key "KTXorientation" means, the first of them, in data of which every pair is whole.
+KEYS = (b"KTXorientation\0", b"KTXOrientation\0")  # the text's, and Qt's
 
-    A pair has a 32-bit size, the key and a 0, the value, and padding to four bytes.
+
+def orientation(data, order, start, size, place, ways):
+    """What key and value data tells of the rows: a few bytes at a place of the value that the key has, the last one where it has several.
+
+    A pair has a 32-bit size, the key and a 0, the value, and padding to four bytes. Data that is no run of pairs tells nothing.
     """
-    return ways.get(text_of(pairs, order), UNTOLD) if ORIENTED else UNTOLD
-
-
-def text_of(pairs, order):
-    at, told = 0, None
-    while at < len(pairs):
-        if at + 4 > len(pairs):
-            return None
-        size = struct.unpack_from(order + "I", pairs, at)[0]
-        pair = pairs[at + 4 : at + 4 + size]
-        at += 4 + (size + 3) // 4 * 4
-        if at > len(pairs) or 0 not in pair:
-            return None
-        key, value = bytes(pair).split(b"\0", 1)
-        if key == b"KTXorientation" and told is None:
-            told = value.split(b"\0")[0]
+    if start > len(data) or size > len(data) - start:
+        return UNTOLD
+    at, stop, told = start, start + size, UNTOLD
+    while at != stop:
+        if at + 4 > stop:
+            return UNTOLD
+        length = struct.unpack_from(order + "I", data, at)[0]
+        following = at + 4 + (length + 3) // 4 * 4
+        if following > stop:
+            return UNTOLD
+        if data[at + 4 : at + 19] in KEYS:
+            told = ways.get(bytes(data[at + 19 : at + 4 + length][place]), UNTOLD)
+        at = following
     return told
 
 
@@ -231,8 +230,8 @@ def ktx2(data):
     need(len(data) >= 80, 20)
     number, _, width, height, depth, layers, faces, levels, scheme, _, _, pairs, pairs_size = struct.unpack_from("<13I", data, 12)
     need(depth <= 1 and layers <= 1 and faces <= 1, 25)
-    form, srgb = known(VK, number)
     need(scheme == 0, 41)
+    form, srgb = known(VK, number)
     sized(width, height)
     levels = counted(levels, width, height)
     found = []
@@ -243,8 +242,7 @@ def ktx2(data):
         need(length == level.length, 24)
         need(start + length <= len(data), 37)
         found.append(level)
-    inside = pairs + pairs_size <= len(data)
-    way = orientation(data[pairs : pairs + pairs_size] if inside else b"", "<", {b"rd": TOP_DOWN, b"ru": BOTTOM_UP})
+    way = orientation(data, "<", pairs, pairs_size, slice(0, 2), {b"rd": TOP_DOWN, b"ru": BOTTOM_UP})
     end = max(level.start + level.length for level in found)
     return Facts(KTX2, form, srgb, width, height, levels, 0, way, len(data) - end), found
 

@@ -399,8 +399,6 @@ def main():
         compare_answers(what, datas, ["%s %d" % (what, n) for n in range(len(datas))], library, report)
     compare_pixels(found, paths, library, chosen.room, report)
     report.show()
-    if not files.ORIENTED:
-        print("not compared: the orientation, which the library does not tell (oracle/files.py, ORIENTED)")
     sys.exit(bool(report.differing))
 
 

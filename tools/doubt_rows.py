@@ -15,7 +15,7 @@ import sys
 from doubt_text import HOLD, NUMERAL, Module, Unreadable
 
 sys.setrecursionlimit(30000)
-TESTS = ["Sheets", "Pieces", "Held", "Censuses", "Bakings", "BitReads", "Eleven", "Outside"]  # the files of proofs/ whose `hold` is a test that computes
+TESTS = ["Partitions", "Sheets", "Pieces", "Held", "Censuses", "Bakings", "BitReads", "Eleven", "Outside"]  # the files of proofs/ whose `hold` is a test that computes
 FLOATS = {"Floats", "Degrees"}  # the files of specs/ whose rows are of floats, which are not computed here
 LATE = {("Answers", "judged"): 1}  # the parameter that is computed only where it is needed: what comes after the checks
 MOST_BITS = 4096  # of a number that is worth computing

@@ -8,6 +8,7 @@ mod clock;
 mod formats;
 mod gap;
 mod pieces;
+mod plain;
 mod sheet;
 mod whole;
 

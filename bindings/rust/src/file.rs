@@ -173,8 +173,7 @@ impl<'a> File<'a> {
         self.is_big_endian
     }
 
-    /// Which row comes first, where the file tells and the library looks: so far it looks at no key and value
-    /// data, and answers [`Orientation::Untold`].
+    /// Which row comes first, where the file tells it: by the key KTXorientation of KTX 1 and KTX 2.
     pub fn orientation(&self) -> Orientation {
         self.orientation
     }

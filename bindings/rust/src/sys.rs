@@ -24,7 +24,7 @@ pub struct File {
     pub left_over: u64,
 }
 
-/// `struct yalivucu_level`.
+/// `struct yalivucu_level_place`.
 #[repr(C)]
 #[derive(Default)]
 pub struct Level {
@@ -84,6 +84,11 @@ extern "C" {
         yalivucu_decode_bc1a_pitched
         yalivucu_decode_bc3_pitched
         yalivucu_decode_bc7_pitched
+        yalivucu_decode_bc2_pitched
+        yalivucu_decode_bc4_pitched
+        yalivucu_decode_bc4_signed_pitched
+        yalivucu_decode_bc5_pitched
+        yalivucu_decode_bc5_signed_pitched
     }
     declared_whole! {
         yalivucu_decode_eacr11_pitched: u16,
@@ -108,6 +113,11 @@ extern "C" {
         yalivucu_decode_bc1a_block
         yalivucu_decode_bc3_block
         yalivucu_decode_bc7_block
+        yalivucu_decode_bc2_block
+        yalivucu_decode_bc4_block
+        yalivucu_decode_bc4_signed_block
+        yalivucu_decode_bc5_block
+        yalivucu_decode_bc5_signed_block
         yalivucu_decode_etc2_a8_block
     }
     declared_channel! {
@@ -128,6 +138,11 @@ extern "C" {
         yalivucu_start_bc1a
         yalivucu_start_bc3
         yalivucu_start_bc7
+        yalivucu_start_bc2
+        yalivucu_start_bc4
+        yalivucu_start_bc4_signed
+        yalivucu_start_bc5
+        yalivucu_start_bc5_signed
     }
     declared_census! {
         yalivucu_census_etc2_rgb

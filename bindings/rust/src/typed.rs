@@ -50,11 +50,21 @@ pub enum Format {
     Bc3,
     /// BC7, in blocks of 16 bytes; a block without a mode is 0.
     Bc7,
+    /// BC2, in blocks of 16 bytes; always four colours, and four bits of alpha.
+    Bc2,
+    /// BC4 into red, in blocks of 8 bytes.
+    Bc4,
+    /// Signed BC4 into red, in blocks of 8 bytes; a value's byte is 127 more, as in signed EAC.
+    Bc4Signed,
+    /// BC5 into red and green, in blocks of 16 bytes.
+    Bc5,
+    /// Signed BC5 into red and green, in blocks of 16 bytes; a value's byte is 127 more, as in signed EAC.
+    Bc5Signed,
 }
 
 impl Format {
     /// Every format.
-    pub const ALL: [Format; 12] = [
+    pub const ALL: [Format; 17] = [
         Format::Etc1,
         Format::Etc2Rgb,
         Format::Etc2Rgba1,
@@ -67,6 +77,11 @@ impl Format {
         Format::Bc1Alpha,
         Format::Bc3,
         Format::Bc7,
+        Format::Bc2,
+        Format::Bc4,
+        Format::Bc4Signed,
+        Format::Bc5,
+        Format::Bc5Signed,
     ];
 
     /// The bytes of a block.
@@ -76,7 +91,8 @@ impl Format {
     /// ```
     pub const fn block_size(self) -> usize {
         match self {
-            Format::Etc2Rgba8 | Format::EacRg | Format::EacRgSigned | Format::Bc3 | Format::Bc7 => 16,
+            Format::Etc2Rgba8 | Format::EacRg | Format::EacRgSigned => 16,
+            Format::Bc2 | Format::Bc3 | Format::Bc5 | Format::Bc5Signed | Format::Bc7 => 16,
             _ => 8,
         }
     }
@@ -95,6 +111,11 @@ impl Format {
             Format::Bc1Alpha => sys::yalivucu_decode_bc1a_pitched,
             Format::Bc3 => sys::yalivucu_decode_bc3_pitched,
             Format::Bc7 => sys::yalivucu_decode_bc7_pitched,
+            Format::Bc2 => sys::yalivucu_decode_bc2_pitched,
+            Format::Bc4 => sys::yalivucu_decode_bc4_pitched,
+            Format::Bc4Signed => sys::yalivucu_decode_bc4_signed_pitched,
+            Format::Bc5 => sys::yalivucu_decode_bc5_pitched,
+            Format::Bc5Signed => sys::yalivucu_decode_bc5_signed_pitched,
         }
     }
 
@@ -112,6 +133,11 @@ impl Format {
             Format::Bc1Alpha => sys::yalivucu_start_bc1a,
             Format::Bc3 => sys::yalivucu_start_bc3,
             Format::Bc7 => sys::yalivucu_start_bc7,
+            Format::Bc2 => sys::yalivucu_start_bc2,
+            Format::Bc4 => sys::yalivucu_start_bc4,
+            Format::Bc4Signed => sys::yalivucu_start_bc4_signed,
+            Format::Bc5 => sys::yalivucu_start_bc5,
+            Format::Bc5Signed => sys::yalivucu_start_bc5_signed,
         }
     }
 
@@ -129,6 +155,11 @@ impl Format {
             Format::Bc1Alpha => sys::yalivucu_decode_bc1a_block,
             Format::Bc3 => sys::yalivucu_decode_bc3_block,
             Format::Bc7 => sys::yalivucu_decode_bc7_block,
+            Format::Bc2 => sys::yalivucu_decode_bc2_block,
+            Format::Bc4 => sys::yalivucu_decode_bc4_block,
+            Format::Bc4Signed => sys::yalivucu_decode_bc4_signed_block,
+            Format::Bc5 => sys::yalivucu_decode_bc5_block,
+            Format::Bc5Signed => sys::yalivucu_decode_bc5_signed_block,
         }
     }
 }

@@ -149,7 +149,6 @@ fn the_examples_are_opened() {
 }
 
 #[test]
-#[ignore = "the library does not look at key and value data yet, and tells no orientation"]
 fn the_orientation_is_told() {
     assert_eq!(File::open(GLOW).unwrap().orientation(), Orientation::TopDown);
 }

@@ -44,7 +44,7 @@ pub fn is_above(a: u8, b: u8) -> bool
 
 // The eight alphas, by index: the two, and the sevenths between them; or the fifths, none and all. Two parts more of the first make
 // sevenths of what were fifths.
-fn alphas(a: u8, b: u8) -> [u32; 8]
+pub fn alphas(a: u8, b: u8) -> [u32; 8]
     ensures { λ r. ⌜ r ≡ alphasOf (ltb b a) a b ⌝ }
 {
     let p = byte(a);

@@ -97,3 +97,21 @@ pub fn read<'s, 'a>(r: &'s mut BitReader<'a>, n: usize) -> Bits
     r.place = place_after(src, at, n);
     got
 }
+
+// What a read has found, and where the reader stands after it.
+pub struct Found {
+    pub bits: Bits,
+    pub place: usize,
+}
+
+// One read of n bits by a reader that is made for it, at a place.
+pub fn read_at(src: &[u8], at: usize, n: usize) -> Found
+    ensures { λ f. ⌜ (bitsSaid (f .bits) ≡ readVerdict (now (src .entry)) at n) × (f .place ≡ placeAfter (now (src .entry)) at n) ⌝ }
+{
+    let mut r = BitReader { src, place: at };
+    let bits = read(&mut r, n);
+    Found {
+        bits,
+        place: place(r),
+    }
+}

@@ -16,7 +16,7 @@ use Rattle.rules.specs.declared.Picture.{Picture}
 use Rattle.laws.proofs.Judged.{Clear, numbered, all-pass, passed, halted}
 use Rattle.laws.proofs.Outcome.{unchanged, done}
 use Rattle.capi.specs.pictures.Told.{Told}
-use Rattle.lay.specs.Lays.{laid, Lays}
+use Rattle.capi.specs.census_lent.Lays.{laid, Lays}
 use Rattle.capi.specs.Census.{roomChecks, CountsInto}
 
 -- a refusal is the same whatever comes behind the checks, where what came there was none

@@ -8,7 +8,7 @@ use Rattle.rules.specs.Answers.{Check, imageCheck, verdict, Outcome}
 use Rattle.rules.specs.Census.{Test, counts, censusChecks}
 use Rattle.rules.specs.declared.Answer.{Answer}
 use Rattle.rules.specs.declared.Picture.{Picture}
-use Rattle.lay.specs.Lays.{laid}
+use Rattle.capi.specs.census_lent.Lays.{laid}
 
 -- the checks of a census, and then refusal 3 where the room has fewer elements than there are counts
 abbrev pub roomChecks : List Test → Picture → ℕ → ℕ → List Check

@@ -1,6 +1,7 @@
-// The public readers of crates/readers under C names, for `rt staticlib`: a slice is a pointer and a length, and the answer is document 01's
-// number of it. Each owes what the reader that it calls owes, and has no requires; that a C caller's pointers are what the types say,
-// nothing can check. include/yalivucu.h tells a C programmer the same in words.
+// The public readers of crates/readers under C names, for `rt staticlib`: a slice is a pointer and a length, and the answer is
+// document 01's number of it. Each owes what the reader that it calls owes, and has no requires; that a C caller's pointers are what
+// the types say, nothing can check. include/yalivucu.h tells a C programmer the same in words.
+mod census_lent;
 mod degrees_lent;
 mod pictures;
 mod pieces_lent;
@@ -402,6 +403,161 @@ pub extern "C" fn yalivucu_decode_bc7_pitched(
     pictures::read(Format::Bc7, data, width, height, pitch, image)
 }
 
+// Reads a BC2 picture.
+#[no_mangle]
+pub extern "C" fn yalivucu_decode_bc2(
+    data: &[u8],
+    width: usize,
+    height: usize,
+    image: &mut [u32],
+) -> u32
+    ensures { λ r. ⌜ Told
+        (λ a. ReadsPicture Format.Bc2 (now («data» .entry)) (sized width height) (now (image .entry)) a (now (image .exit)))
+        r ⌝ }
+{
+    told::read(Format::Bc2, data, width, height, width, image)
+}
+
+// The same of a picture with a pitch.
+#[no_mangle]
+pub extern "C" fn yalivucu_decode_bc2_pitched(
+    data: &[u8],
+    width: usize,
+    height: usize,
+    pitch: usize,
+    image: &mut [u32],
+) -> u32
+    ensures { λ r. ⌜ Told
+        (λ a. ReadsPicture Format.Bc2 (now («data» .entry)) (pitched width height pitch) (now (image .entry)) a (now (image .exit)))
+        r ⌝ }
+{
+    told::read(Format::Bc2, data, width, height, pitch, image)
+}
+
+// Reads a BC4 picture.
+#[no_mangle]
+pub extern "C" fn yalivucu_decode_bc4(
+    data: &[u8],
+    width: usize,
+    height: usize,
+    image: &mut [u32],
+) -> u32
+    ensures { λ r. ⌜ Told
+        (λ a. ReadsPicture Format.Bc4 (now («data» .entry)) (sized width height) (now (image .entry)) a (now (image .exit)))
+        r ⌝ }
+{
+    told::read(Format::Bc4, data, width, height, width, image)
+}
+
+// The same of a picture with a pitch.
+#[no_mangle]
+pub extern "C" fn yalivucu_decode_bc4_pitched(
+    data: &[u8],
+    width: usize,
+    height: usize,
+    pitch: usize,
+    image: &mut [u32],
+) -> u32
+    ensures { λ r. ⌜ Told
+        (λ a. ReadsPicture Format.Bc4 (now («data» .entry)) (pitched width height pitch) (now (image .entry)) a (now (image .exit)))
+        r ⌝ }
+{
+    told::read(Format::Bc4, data, width, height, pitch, image)
+}
+
+// Reads a signed BC4 picture.
+#[no_mangle]
+pub extern "C" fn yalivucu_decode_bc4_signed(
+    data: &[u8],
+    width: usize,
+    height: usize,
+    image: &mut [u32],
+) -> u32
+    ensures { λ r. ⌜ Told
+        (λ a. ReadsPicture Format.Bc4Signed (now («data» .entry)) (sized width height) (now (image .entry)) a (now (image .exit)))
+        r ⌝ }
+{
+    told::read(Format::Bc4Signed, data, width, height, width, image)
+}
+
+// The same of a picture with a pitch.
+#[no_mangle]
+pub extern "C" fn yalivucu_decode_bc4_signed_pitched(
+    data: &[u8],
+    width: usize,
+    height: usize,
+    pitch: usize,
+    image: &mut [u32],
+) -> u32
+    ensures { λ r. ⌜ Told
+        (λ a. ReadsPicture Format.Bc4Signed (now («data» .entry)) (pitched width height pitch) (now (image .entry)) a (now (image .exit)))
+        r ⌝ }
+{
+    told::read(Format::Bc4Signed, data, width, height, pitch, image)
+}
+
+// Reads a BC5 picture.
+#[no_mangle]
+pub extern "C" fn yalivucu_decode_bc5(
+    data: &[u8],
+    width: usize,
+    height: usize,
+    image: &mut [u32],
+) -> u32
+    ensures { λ r. ⌜ Told
+        (λ a. ReadsPicture Format.Bc5 (now («data» .entry)) (sized width height) (now (image .entry)) a (now (image .exit)))
+        r ⌝ }
+{
+    told::read(Format::Bc5, data, width, height, width, image)
+}
+
+// The same of a picture with a pitch.
+#[no_mangle]
+pub extern "C" fn yalivucu_decode_bc5_pitched(
+    data: &[u8],
+    width: usize,
+    height: usize,
+    pitch: usize,
+    image: &mut [u32],
+) -> u32
+    ensures { λ r. ⌜ Told
+        (λ a. ReadsPicture Format.Bc5 (now («data» .entry)) (pitched width height pitch) (now (image .entry)) a (now (image .exit)))
+        r ⌝ }
+{
+    told::read(Format::Bc5, data, width, height, pitch, image)
+}
+
+// Reads a signed BC5 picture.
+#[no_mangle]
+pub extern "C" fn yalivucu_decode_bc5_signed(
+    data: &[u8],
+    width: usize,
+    height: usize,
+    image: &mut [u32],
+) -> u32
+    ensures { λ r. ⌜ Told
+        (λ a. ReadsPicture Format.Bc5Signed (now («data» .entry)) (sized width height) (now (image .entry)) a (now (image .exit)))
+        r ⌝ }
+{
+    told::read(Format::Bc5Signed, data, width, height, width, image)
+}
+
+// The same of a picture with a pitch.
+#[no_mangle]
+pub extern "C" fn yalivucu_decode_bc5_signed_pitched(
+    data: &[u8],
+    width: usize,
+    height: usize,
+    pitch: usize,
+    image: &mut [u32],
+) -> u32
+    ensures { λ r. ⌜ Told
+        (λ a. ReadsPicture Format.Bc5Signed (now («data» .entry)) (pitched width height pitch) (now (image .entry)) a (now (image .exit)))
+        r ⌝ }
+{
+    told::read(Format::Bc5Signed, data, width, height, pitch, image)
+}
+
 // Reads an ETC1 picture that holds no block out of range. Where it refuses for one, `block` is its number; otherwise `block` stays as it
 // was.
 #[no_mangle]
@@ -746,6 +902,46 @@ pub extern "C" fn yalivucu_decode_bc7_block(data: &[u8], out: &mut [u32]) -> u32
     readers::number(readers::decode_bc7_block(data, out))
 }
 
+// Reads a BC2 block of 16 bytes into the elements 0 to 15.
+#[no_mangle]
+pub extern "C" fn yalivucu_decode_bc2_block(data: &[u8], out: &mut [u32]) -> u32
+    ensures { λ r. ⌜ Told (λ a. ReadsBlock Format.Bc2 (now («data» .entry)) (now (out .entry)) a (now (out .exit))) r ⌝ }
+{
+    readers::number(readers::decode_bc2_block(data, out))
+}
+
+// Reads a BC4 block of 8 bytes into the elements 0 to 15.
+#[no_mangle]
+pub extern "C" fn yalivucu_decode_bc4_block(data: &[u8], out: &mut [u32]) -> u32
+    ensures { λ r. ⌜ Told (λ a. ReadsBlock Format.Bc4 (now («data» .entry)) (now (out .entry)) a (now (out .exit))) r ⌝ }
+{
+    readers::number(readers::decode_bc4_block(data, out))
+}
+
+// Reads a signed BC4 block of 8 bytes into the elements 0 to 15.
+#[no_mangle]
+pub extern "C" fn yalivucu_decode_bc4_signed_block(data: &[u8], out: &mut [u32]) -> u32
+    ensures { λ r. ⌜ Told (λ a. ReadsBlock Format.Bc4Signed (now («data» .entry)) (now (out .entry)) a (now (out .exit))) r ⌝ }
+{
+    readers::number(readers::decode_bc4_signed_block(data, out))
+}
+
+// Reads a BC5 block of 16 bytes into the elements 0 to 15.
+#[no_mangle]
+pub extern "C" fn yalivucu_decode_bc5_block(data: &[u8], out: &mut [u32]) -> u32
+    ensures { λ r. ⌜ Told (λ a. ReadsBlock Format.Bc5 (now («data» .entry)) (now (out .entry)) a (now (out .exit))) r ⌝ }
+{
+    readers::number(readers::decode_bc5_block(data, out))
+}
+
+// Reads a signed BC5 block of 16 bytes into the elements 0 to 15.
+#[no_mangle]
+pub extern "C" fn yalivucu_decode_bc5_signed_block(data: &[u8], out: &mut [u32]) -> u32
+    ensures { λ r. ⌜ Told (λ a. ReadsBlock Format.Bc5Signed (now («data» .entry)) (now (out .entry)) a (now (out .exit))) r ⌝ }
+{
+    readers::number(readers::decode_bc5_signed_block(data, out))
+}
+
 // Reads an alpha half of 8 bytes into the top bytes of the elements 0 to 15, and keeps the rest of them.
 #[no_mangle]
 pub extern "C" fn yalivucu_decode_etc2_a8_block(data: &[u8], out: &mut [u32]) -> u32
@@ -799,7 +995,7 @@ pub extern "C" fn yalivucu_census_etc2_rgb(
         RgbCensus::ShortData => 2,
         RgbCensus::Counted(c) => {
             let five = [c.individual, c.differential, c.t, c.h, c.planar];
-            lay::lay(&five, counts)
+            census_lent::lay(&five, counts)
         }
     }
 }
@@ -831,7 +1027,7 @@ pub extern "C" fn yalivucu_census_etc2_rgba1(
                 u.h,
                 u.planar,
             ];
-            lay::lay(&eight, counts)
+            census_lent::lay(&eight, counts)
         }
     }
 }
@@ -1176,6 +1372,118 @@ pub extern "C" fn yalivucu_start_bc7(
         pitch: pitch,
     };
     readers::number(pieces_lent::start(Format::Bc7, pic, image, numbers, kept))
+}
+
+// Starts to read a BC2 picture in pieces; the caller keeps the state, in the two arrays.
+#[no_mangle]
+pub extern "C" fn yalivucu_start_bc2(
+    width: usize,
+    height: usize,
+    pitch: usize,
+    image: &[u32],
+    numbers: &mut [usize; 5],
+    kept: &mut [u8; 15],
+) -> u32
+    ensures { λ r. ⌜ Told
+        (λ a. StartLent Format.Bc2 (pitched width height pitch) (length (now (image .entry))) a (now (numbers .exit)) (now (kept .exit)))
+        r ⌝ }
+{
+    let pic = Picture {
+        width: width,
+        height: height,
+        pitch: pitch,
+    };
+    readers::number(pieces_lent::start(Format::Bc2, pic, image, numbers, kept))
+}
+
+// Starts to read a BC4 picture in pieces; the caller keeps the state, in the two arrays.
+#[no_mangle]
+pub extern "C" fn yalivucu_start_bc4(
+    width: usize,
+    height: usize,
+    pitch: usize,
+    image: &[u32],
+    numbers: &mut [usize; 5],
+    kept: &mut [u8; 15],
+) -> u32
+    ensures { λ r. ⌜ Told
+        (λ a. StartLent Format.Bc4 (pitched width height pitch) (length (now (image .entry))) a (now (numbers .exit)) (now (kept .exit)))
+        r ⌝ }
+{
+    let pic = Picture {
+        width: width,
+        height: height,
+        pitch: pitch,
+    };
+    readers::number(pieces_lent::start(Format::Bc4, pic, image, numbers, kept))
+}
+
+// Starts to read a signed BC4 picture in pieces; the caller keeps the state, in the two arrays.
+#[no_mangle]
+pub extern "C" fn yalivucu_start_bc4_signed(
+    width: usize,
+    height: usize,
+    pitch: usize,
+    image: &[u32],
+    numbers: &mut [usize; 5],
+    kept: &mut [u8; 15],
+) -> u32
+    ensures { λ r. ⌜ Told
+        (λ a. StartLent Format.Bc4Signed (pitched width height pitch) (length (now (image .entry)))
+        a (now (numbers .exit)) (now (kept .exit)))
+        r ⌝ }
+{
+    let pic = Picture {
+        width: width,
+        height: height,
+        pitch: pitch,
+    };
+    readers::number(pieces_lent::start(Format::Bc4Signed, pic, image, numbers, kept))
+}
+
+// Starts to read a BC5 picture in pieces; the caller keeps the state, in the two arrays.
+#[no_mangle]
+pub extern "C" fn yalivucu_start_bc5(
+    width: usize,
+    height: usize,
+    pitch: usize,
+    image: &[u32],
+    numbers: &mut [usize; 5],
+    kept: &mut [u8; 15],
+) -> u32
+    ensures { λ r. ⌜ Told
+        (λ a. StartLent Format.Bc5 (pitched width height pitch) (length (now (image .entry))) a (now (numbers .exit)) (now (kept .exit)))
+        r ⌝ }
+{
+    let pic = Picture {
+        width: width,
+        height: height,
+        pitch: pitch,
+    };
+    readers::number(pieces_lent::start(Format::Bc5, pic, image, numbers, kept))
+}
+
+// Starts to read a signed BC5 picture in pieces; the caller keeps the state, in the two arrays.
+#[no_mangle]
+pub extern "C" fn yalivucu_start_bc5_signed(
+    width: usize,
+    height: usize,
+    pitch: usize,
+    image: &[u32],
+    numbers: &mut [usize; 5],
+    kept: &mut [u8; 15],
+) -> u32
+    ensures { λ r. ⌜ Told
+        (λ a. StartLent Format.Bc5Signed (pitched width height pitch) (length (now (image .entry)))
+        a (now (numbers .exit)) (now (kept .exit)))
+        r ⌝ }
+{
+    let pic = Picture {
+        width: width,
+        height: height,
+        pitch: pitch,
+    };
+    readers::number(pieces_lent::start(Format::Bc5Signed, pic, image, numbers, kept))
 }
 
 // Takes a piece of a picture that was started.

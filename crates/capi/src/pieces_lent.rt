@@ -1,5 +1,6 @@
 // The reader of a picture in pieces for callers who keep its state themselves, in two arrays that they lend: five numbers and fifteen
 // bytes. Every content of them is a state, so a caller who spoils them gets another picture and never a store out of place.
+use file::formats;
 use rules::Answer;
 use rules::Format;
 use rules::Picture;
@@ -7,31 +8,12 @@ use rules::Progress;
 ghost use mathlib.Core.Path.{_≡_};
 ghost use lib.ListN.{length};
 ghost use Rattle.rules.specs.Pieces.{Ends};
-ghost use Rattle.capi.specs.pieces_lent.Lent.{formatAt, numberOf, stateIn, StartLent, PieceLent};
-
-// The format of a number; a number that no format has is the first one's.
-fn format_at(n: usize) -> Format
-    ensures { λ r. ⌜ r ≡ formatAt n ⌝ }
-{
-    match n {
-        1 => Format::Etc2Rgb,
-        2 => Format::Etc2Rgba1,
-        3 => Format::Etc2Rgba8,
-        4 => Format::EacR,
-        5 => Format::EacRSigned,
-        6 => Format::EacRg,
-        7 => Format::EacRgSigned,
-        8 => Format::Bc1,
-        9 => Format::Bc1Alpha,
-        10 => Format::Bc3,
-        11 => Format::Bc7,
-        _ => Format::Etc1,
-    }
-}
+ghost use Rattle.rules.specs.FileFormats.{formatNumber};
+ghost use Rattle.capi.specs.pieces_lent.Lent.{stateIn, StartLent, PieceLent};
 
 // The number of a format.
 fn number_of(f: Format) -> usize
-    ensures { λ r. ⌜ r ≡ numberOf f ⌝ }
+    ensures { λ r. ⌜ r ≡ formatNumber f ⌝ }
 {
     match f {
         Format::Etc1 => 0,
@@ -46,6 +28,11 @@ fn number_of(f: Format) -> usize
         Format::Bc1Alpha => 9,
         Format::Bc3 => 10,
         Format::Bc7 => 11,
+        Format::Bc2 => 12,
+        Format::Bc4 => 13,
+        Format::Bc4Signed => 14,
+        Format::Bc5 => 15,
+        Format::Bc5Signed => 16,
     }
 }
 
@@ -53,7 +40,7 @@ fn number_of(f: Format) -> usize
 fn state_in(numbers: [usize; 5], kept: [u8; 15]) -> Progress
     ensures { λ r. ⌜ r ≡ stateIn numbers kept ⌝ }
 {
-    let f = format_at(numbers[0]);
+    let f = formats::format_at(numbers[0]);
     let pic = Picture {
         width: numbers[1],
         height: numbers[2],

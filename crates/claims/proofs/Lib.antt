@@ -18,6 +18,7 @@ pub mod Skipped
 pub mod Lowest
 pub mod Eleven
 pub mod Desktop
+pub mod Rgtc
 pub mod Bptc
 pub mod Arrived
 pub mod Step

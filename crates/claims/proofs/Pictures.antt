@@ -1,5 +1,5 @@
 -- What demands 1 and 2 and document 01 claim of a picture, over the promise that all picture readers share: `Outcome`, whatever is
--- checked, and a picture painted by any rule for pixels and any size of block. For a user, each is then said of the eight formats at
+-- checked, and a picture painted by any rule for pixels and any size of block. For a user, each is then said of every format at
 -- once; of strict ETC1 it is said in Strict.antt.
 -- Assumes nothing.
 use mathlib.Core.Path.{_≡_, _∙_, refl, sym, ap, subst}

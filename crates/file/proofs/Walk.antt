@@ -88,14 +88,14 @@ module _ (l : Layout) (d : List ℕ) (n left : ℕ) (level : FileLevel) (i : ℕ
   turn :
       i < l .levels
       → levelsFrom l d n left level i (l .levels - i) s
-          ≡ fitsThen (fitOf l d i s)
-          (λ start.
-          levelsFrom l d n
-          (lesser left (length d - (start + bytesFor (l .format) (s .width) (s .height))))
-          (chosen n i (levelAt l s start) level)
-          (i + 1)
-          (l .levels - (i + 1))
-          (nextSpot l s start))
+      ≡ fitsThen (fitOf l d i s)
+      (λ start.
+      levelsFrom l d n
+      (lesser left (length d - (start + bytesFor (l .format) (s .width) (s .height))))
+      (chosen n i (levelAt l s start) level)
+      (i + 1)
+      (l .levels - (i + 1))
+      (nextSpot l s start))
   unfolding levelsFrom
   turn h =
       let one : l .levels - i ≡ suc (l .levels - (i + 1)) = omega arith in

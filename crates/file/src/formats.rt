@@ -7,7 +7,7 @@ ghost use lib.ListN.{length};
 ghost use Rattle.numbers.specs.Numbers.{little};
 ghost use Rattle.rules.specs.FileFormats.{formatAt, known, word32, has4 as hasFour, oneAtLeast, isFlat};
 
-// The format of a number.
+// The format of a number; a number that no format has is the first one's.
 pub fn format_at(n: usize) -> Format
     ensures { λ r. ⌜ r ≡ formatAt n ⌝ }
 {
@@ -23,6 +23,11 @@ pub fn format_at(n: usize) -> Format
         9 => Format::Bc1Alpha,
         10 => Format::Bc3,
         11 => Format::Bc7,
+        12 => Format::Bc2,
+        13 => Format::Bc4,
+        14 => Format::Bc4Signed,
+        15 => Format::Bc5,
+        16 => Format::Bc5Signed,
         _ => Format::Etc1,
     }
 }
@@ -55,7 +60,7 @@ pub fn word(order: bool, d: &[u8], at: usize) -> usize
 
 // Whether the four bytes at a place are there, and are these.
 pub fn has4(d: &[u8], at: usize, number: usize) -> bool
-    requires { ⌜ at < 256 ⌝ }
+    requires { ⌜ at < 0x8000000000000000 ⌝ }
     ensures { λ r. ⌜ r ≡ hasFour (now (d .entry)) at number ⌝ }
 {
     if d.len() < at + 4 {

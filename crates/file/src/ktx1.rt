@@ -1,5 +1,6 @@
 // The header of a KTX 1 file. Its words and their places are in crates/rules/specs/Ktx1.antt.
 use super::formats;
+use super::keys;
 use rules::Answer;
 use rules::FileHeader;
 use rules::KnownFormat;
@@ -12,10 +13,82 @@ ghost use Rattle.rules.specs.FileFormats.{known as knownIn};
 ghost use Rattle.rules.specs.Ktx1.{isKtx1, glRows, ktx1As, ktx1In, ktx1Of};
 
 // OpenGL's numbers: the number, the format's, and 1 where it is sRGB.
-const ROWS: [usize; 57] = [
-    0x8D64, 0, 0, 0x9270, 4, 0, 0x9271, 5, 0, 0x9272, 6, 0, 0x9273, 7, 0, 0x9274, 1, 0, 0x9275, 1, 1, 0x9276, 2, 0, 0x9277, 2, 1, 0x9278,
-    3, 0, 0x9279, 3, 1, 0x83F0, 8, 0, 0x83F1, 9, 0, 0x83F3, 10, 0, 0x8C4C, 8, 1, 0x8C4D, 9, 1, 0x8C4F, 10, 1, 0x8E8C, 11, 0, 0x8E8D, 11,
+const ROWS: [usize; 75] = [
+    0x8D64,
+    0,
+    0,
+    0x9270,
+    4,
+    0,
+    0x9271,
+    5,
+    0,
+    0x9272,
+    6,
+    0,
+    0x9273,
+    7,
+    0,
+    0x9274,
     1,
+    0,
+    0x9275,
+    1,
+    1,
+    0x9276,
+    2,
+    0,
+    0x9277,
+    2,
+    1,
+    0x9278,
+    3,
+    0,
+    0x9279,
+    3,
+    1,
+    0x83F0,
+    8,
+    0,
+    0x83F1,
+    9,
+    0,
+    0x83F3,
+    10,
+    0,
+    0x8C4C,
+    8,
+    1,
+    0x8C4D,
+    9,
+    1,
+    0x8C4F,
+    10,
+    1,
+    0x8E8C,
+    11,
+    0,
+    0x8E8D,
+    11,
+    1,
+    0x83F2,
+    12,
+    0,
+    0x8C4E,
+    12,
+    1,
+    0x8DBB,
+    13,
+    0,
+    0x8DBC,
+    14,
+    0,
+    0x8DBD,
+    15,
+    0,
+    0x8DBE,
+    16,
+    0,
 ];
 
 // What OpenGL's number stands for.
@@ -56,7 +129,9 @@ fn header_as(known: KnownFormat, order: bool, d: &[u8]) -> FileHeader
             let count = formats::word(order, d, 56);
             let levels = formats::one_at_least(count);
             let big_endian = order_number(order);
-            let start = 64 + formats::word(order, d, 60);
+            let pairs = formats::word(order, d, 60);
+            let orientation = keys::orientation(false, order, d, 64, pairs);
+            let start = 64 + pairs;
             FileHeader::Holds(Layout {
                 container: 2,
                 format: format,
@@ -65,7 +140,7 @@ fn header_as(known: KnownFormat, order: bool, d: &[u8]) -> FileHeader
                 height: height,
                 levels: levels,
                 big_endian: big_endian,
-                orientation: 0,
+                orientation: orientation,
                 start: start,
                 agrees: true,
             })

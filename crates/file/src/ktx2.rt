@@ -1,5 +1,6 @@
 // The header of a KTX 2 file. Its numbers and their places are in crates/rules/specs/Ktx2.antt.
 use super::formats;
+use super::keys;
 use rules::Answer;
 use rules::FileHeader;
 use rules::KnownFormat;
@@ -11,9 +12,79 @@ ghost use Rattle.rules.specs.FileFormats.{known as knownIn};
 ghost use Rattle.rules.specs.Ktx2.{isKtx2, vkRows, ktx2As, ktx2Of};
 
 // Vulkan's numbers: the number, the format's, and 1 where it is sRGB.
-const ROWS: [usize; 54] = [
-    131, 8, 0, 132, 8, 1, 133, 9, 0, 134, 9, 1, 137, 10, 0, 138, 10, 1, 145, 11, 0, 146, 11, 1, 147, 1, 0, 148, 1, 1, 149, 2, 0, 150, 2, 1,
-    151, 3, 0, 152, 3, 1, 153, 4, 0, 154, 5, 0, 155, 6, 0, 156, 7, 0,
+const ROWS: [usize; 72] = [
+    131,
+    8,
+    0,
+    132,
+    8,
+    1,
+    133,
+    9,
+    0,
+    134,
+    9,
+    1,
+    135,
+    12,
+    0,
+    136,
+    12,
+    1,
+    137,
+    10,
+    0,
+    138,
+    10,
+    1,
+    139,
+    13,
+    0,
+    140,
+    14,
+    0,
+    141,
+    15,
+    0,
+    142,
+    16,
+    0,
+    145,
+    11,
+    0,
+    146,
+    11,
+    1,
+    147,
+    1,
+    0,
+    148,
+    1,
+    1,
+    149,
+    2,
+    0,
+    150,
+    2,
+    1,
+    151,
+    3,
+    0,
+    152,
+    3,
+    1,
+    153,
+    4,
+    0,
+    154,
+    5,
+    0,
+    155,
+    6,
+    0,
+    156,
+    7,
+    0,
 ];
 
 // What Vulkan's number stands for.
@@ -42,13 +113,13 @@ fn header_as(known: KnownFormat, d: &[u8]) -> FileHeader
     match known {
         KnownFormat::Not => FileHeader::Refused(Answer::UnknownFormat),
         KnownFormat::As(format, srgb) => {
-            if numbers::little4(d, 44) != 0 {
-                return FileHeader::Refused(Answer::Supercompressed);
-            }
             let width = numbers::little4(d, 20);
             let height = numbers::little4(d, 24);
             let count = numbers::little4(d, 40);
             let levels = formats::one_at_least(count);
+            let pairs = numbers::little4(d, 56);
+            let size = numbers::little4(d, 60);
+            let orientation = keys::orientation(true, false, d, pairs, size);
             FileHeader::Holds(Layout {
                 container: 3,
                 format: format,
@@ -57,7 +128,7 @@ fn header_as(known: KnownFormat, d: &[u8]) -> FileHeader
                 height: height,
                 levels: levels,
                 big_endian: 0,
-                orientation: 0,
+                orientation: orientation,
                 start: 80,
                 agrees: true,
             })
@@ -76,6 +147,9 @@ pub fn header(d: &[u8]) -> FileHeader
     let layers = numbers::little4(d, 32);
     let faces = numbers::little4(d, 36);
     if formats::is_flat(depth, layers, faces) {
+        if numbers::little4(d, 44) != 0 {
+            return FileHeader::Refused(Answer::Supercompressed);
+        }
         let number = numbers::little4(d, 12);
         return header_as(vk_format(number), d);
     }

@@ -1,6 +1,7 @@
 // Opening texture files: what a file holds, and where its levels are. crates/rules/specs/Files.antt says what is answered, for all bytes.
 mod dds;
-mod formats;
+pub mod formats;
+mod keys;
 mod ktx1;
 mod ktx2;
 pub mod lent;

@@ -12,8 +12,41 @@ ghost use Rattle.rules.specs.Pkm.{pkmRows1, pkmRows2, padded as paddedTo, pkmAs
 
 // The types of version 1.0 and 2.0: the type, the format's number, and 1 where it is sRGB.
 const ROWS_1: [usize; 3] = [0, 0, 0];
+
 const ROWS_2: [usize; 33] = [
-    0, 0, 0, 1, 1, 0, 3, 3, 0, 4, 2, 0, 5, 4, 0, 6, 6, 0, 7, 5, 0, 8, 7, 0, 9, 1, 1, 10, 3, 1, 11, 2, 1,
+    0,
+    0,
+    0,
+    1,
+    1,
+    0,
+    3,
+    3,
+    0,
+    4,
+    2,
+    0,
+    5,
+    4,
+    0,
+    6,
+    6,
+    0,
+    7,
+    5,
+    0,
+    8,
+    7,
+    0,
+    9,
+    1,
+    1,
+    10,
+    3,
+    1,
+    11,
+    2,
+    1,
 ];
 
 // A side, made up to whole blocks.

@@ -5,7 +5,7 @@ use mathlib.Core.List.{List}
 use Prim.Native.Nat.{ℕ}
 use Rattle.rules.specs.declared.Format.{Format}
 use Rattle.rules.specs.declared.Format.the-variants.{Etc1, Etc2Rgb, Etc2Rgba1, Etc2Rgba8, EacR, EacRSigned, EacRg, EacRgSigned}
-use Rattle.rules.specs.declared.Format.the-variants.{Bc1, Bc1Alpha, Bc3, Bc7}
+use Rattle.rules.specs.declared.Format.the-variants.{Bc1, Bc1Alpha, Bc3, Bc7, Bc2, Bc4, Bc4Signed, Bc5, Bc5Signed}
 use Rattle.texts.specs.Texts.{bytes}
 
 unfoldable pub formatName : Format → List ℕ
@@ -21,6 +21,11 @@ formatName Bc1 = bytes "BC1"
 formatName Bc1Alpha = bytes "BC1 with alpha"
 formatName Bc3 = bytes "BC3"
 formatName Bc7 = bytes "BC7"
+formatName Bc2 = bytes "BC2"
+formatName Bc4 = bytes "BC4"
+formatName Bc4Signed = bytes "BC4 signed"
+formatName Bc5 = bytes "BC5"
+formatName Bc5Signed = bytes "BC5 signed"
 
 abbrev pub orderName : Bool → List ℕ
 orderName big = cond big (bytes "big endian") (bytes "little endian")

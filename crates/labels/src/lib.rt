@@ -24,6 +24,11 @@ fn put_format(f: Format, out: &mut [u8], at: usize) -> usize
         Format::Bc1Alpha => texts::put(b"BC1 with alpha", out, at),
         Format::Bc3 => texts::put(b"BC3", out, at),
         Format::Bc7 => texts::put(b"BC7", out, at),
+        Format::Bc2 => texts::put(b"BC2", out, at),
+        Format::Bc4 => texts::put(b"BC4", out, at),
+        Format::Bc4Signed => texts::put(b"BC4 signed", out, at),
+        Format::Bc5 => texts::put(b"BC5", out, at),
+        Format::Bc5Signed => texts::put(b"BC5 signed", out, at),
     }
 }
 

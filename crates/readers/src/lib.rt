@@ -1,16 +1,8 @@
-// The public list: that of src/etc.rs, BC1, BC3 and BC7. Sixteen block readers, twelve picture readers, strict ETC1 and RGBA1 for an
-// opaque-only viewer, each of these fourteen with a twin that takes the description with its pitch; four readers of EAC's whole values,
-// likewise; the checks of strict ETC1 and of an opaque-only viewer without an image; two censuses; the readers and the writer of sheets;
-// the reader of a picture in pieces; the reader of degrees; the checker and the baker of ETC1 blocks; and the opener of texture files. None
-// asks anything of its caller. Each promises the answer and every element of what it is lent
-// afterwards, for all inputs; what that is, crates/rules/specs/Readers.antt, Whole.antt, Census.antt, Sheets.antt, Pieces.antt,
-// Degrees.antt, Checking.antt, Baking.antt and Files.antt say for all of them. Refusals: 1 width,
-// height or pitch above 65,536 (of a sheet: width or height above 16,384); 12 a pitch below the width; 2 too few bytes; 6 too many (strict
-// only); 3 too few elements, or too little room for a sheet; 4 a block out of range, with its number (strict only); 5 a channel above 3; of
-// sheets, 7 a record cut short, 8 no head, 9 another kind, 10 not exactly the blocks; 11 a block whose opaque bit is clear, with its
-// number (opaque only); of degrees, 13 the legend, 14 the digits, 15 the measurement; 16 a base channel above 15 or a flip above 1 (baker
-// only); of files, 20 the header is cut, 21 no known container, 22 no known version, 23 no known format, 24 sizes that disagree, 25 not one
-// flat picture, 26 no pixel, 37 levels missing, 38 no such level, 41 supercompressed. A refusal changes nothing. 18 is no refusal: the checker does not accept the block.
+// The public list: the readers of pictures, single blocks, whole EAC values, pictures in pieces, sheets and texture files; the checks
+// for older viewers; the censuses; the reader of degrees; the checker and the baker of ETC1 blocks.
+// No function has a precondition. Each promises its answer, and every element of what it is lent, for all inputs, as Readers.antt,
+// Whole.antt, Census.antt, Sheets.antt, Pieces.antt, Degrees.antt, Checking.antt, Baking.antt and Files.antt of crates/rules/specs say.
+// A refusal changes nothing; docs/API.md lists the refusals by number.
 use bake::baker;
 use block_readers::Joined;
 use rules::Answer;
@@ -235,6 +227,76 @@ pub fn decode_bc7_pitched(data: &[u8], pic: Picture, image: &mut [u32]) -> Answe
     picture::read(Format::Bc7, data, pic, image)
 }
 
+// Reads a BC2 picture.
+pub fn decode_bc2(data: &[u8], width: usize, height: usize, image: &mut [u32]) -> Answer
+    ensures { λ r. ⌜ ReadsPicture Format.Bc2 (now («data» .entry)) (sized width height) (now (image .entry)) r (now (image .exit)) ⌝ }
+{
+    read(Format::Bc2, data, width, height, image)
+}
+
+// The same of a picture with a pitch.
+pub fn decode_bc2_pitched(data: &[u8], pic: Picture, image: &mut [u32]) -> Answer
+    ensures { λ r. ⌜ ReadsPicture Format.Bc2 (now («data» .entry)) pic (now (image .entry)) r (now (image .exit)) ⌝ }
+{
+    picture::read(Format::Bc2, data, pic, image)
+}
+
+// Reads a BC4 picture.
+pub fn decode_bc4(data: &[u8], width: usize, height: usize, image: &mut [u32]) -> Answer
+    ensures { λ r. ⌜ ReadsPicture Format.Bc4 (now («data» .entry)) (sized width height) (now (image .entry)) r (now (image .exit)) ⌝ }
+{
+    read(Format::Bc4, data, width, height, image)
+}
+
+// The same of a picture with a pitch.
+pub fn decode_bc4_pitched(data: &[u8], pic: Picture, image: &mut [u32]) -> Answer
+    ensures { λ r. ⌜ ReadsPicture Format.Bc4 (now («data» .entry)) pic (now (image .entry)) r (now (image .exit)) ⌝ }
+{
+    picture::read(Format::Bc4, data, pic, image)
+}
+
+// Reads a signed BC4 picture.
+pub fn decode_bc4_signed(data: &[u8], width: usize, height: usize, image: &mut [u32]) -> Answer
+    ensures { λ r. ⌜ ReadsPicture Format.Bc4Signed (now («data» .entry)) (sized width height) (now (image .entry)) r (now (image .exit)) ⌝ }
+{
+    read(Format::Bc4Signed, data, width, height, image)
+}
+
+// The same of a picture with a pitch.
+pub fn decode_bc4_signed_pitched(data: &[u8], pic: Picture, image: &mut [u32]) -> Answer
+    ensures { λ r. ⌜ ReadsPicture Format.Bc4Signed (now («data» .entry)) pic (now (image .entry)) r (now (image .exit)) ⌝ }
+{
+    picture::read(Format::Bc4Signed, data, pic, image)
+}
+
+// Reads a BC5 picture.
+pub fn decode_bc5(data: &[u8], width: usize, height: usize, image: &mut [u32]) -> Answer
+    ensures { λ r. ⌜ ReadsPicture Format.Bc5 (now («data» .entry)) (sized width height) (now (image .entry)) r (now (image .exit)) ⌝ }
+{
+    read(Format::Bc5, data, width, height, image)
+}
+
+// The same of a picture with a pitch.
+pub fn decode_bc5_pitched(data: &[u8], pic: Picture, image: &mut [u32]) -> Answer
+    ensures { λ r. ⌜ ReadsPicture Format.Bc5 (now («data» .entry)) pic (now (image .entry)) r (now (image .exit)) ⌝ }
+{
+    picture::read(Format::Bc5, data, pic, image)
+}
+
+// Reads a signed BC5 picture.
+pub fn decode_bc5_signed(data: &[u8], width: usize, height: usize, image: &mut [u32]) -> Answer
+    ensures { λ r. ⌜ ReadsPicture Format.Bc5Signed (now («data» .entry)) (sized width height) (now (image .entry)) r (now (image .exit)) ⌝ }
+{
+    read(Format::Bc5Signed, data, width, height, image)
+}
+
+// The same of a picture with a pitch.
+pub fn decode_bc5_signed_pitched(data: &[u8], pic: Picture, image: &mut [u32]) -> Answer
+    ensures { λ r. ⌜ ReadsPicture Format.Bc5Signed (now («data» .entry)) pic (now (image .entry)) r (now (image .exit)) ⌝ }
+{
+    picture::read(Format::Bc5Signed, data, pic, image)
+}
+
 // Reads an ETC1 picture that holds no block out of range and has no bytes behind its blocks; it refuses any other, where a block is out
 // of range with the number of the first such block. Each pixel that it paints is the one that the ETC2 RGB rule gives.
 pub fn decode_etc1_strict(data: &[u8], width: usize, height: usize, image: &mut [u32]) -> Answer
@@ -452,6 +514,41 @@ pub fn decode_bc7_block(data: &[u8], image: &mut [u32]) -> Answer
     ensures { λ r. ⌜ ReadsBlock Format.Bc7 (now («data» .entry)) (now (image .entry)) r (now (image .exit)) ⌝ }
 {
     block_readers::read_block(Format::Bc7, data, image)
+}
+
+// Reads a BC2 block of 16 bytes into the elements 0 to 15.
+pub fn decode_bc2_block(data: &[u8], image: &mut [u32]) -> Answer
+    ensures { λ r. ⌜ ReadsBlock Format.Bc2 (now («data» .entry)) (now (image .entry)) r (now (image .exit)) ⌝ }
+{
+    block_readers::read_block(Format::Bc2, data, image)
+}
+
+// Reads a BC4 block of 8 bytes into the elements 0 to 15.
+pub fn decode_bc4_block(data: &[u8], image: &mut [u32]) -> Answer
+    ensures { λ r. ⌜ ReadsBlock Format.Bc4 (now («data» .entry)) (now (image .entry)) r (now (image .exit)) ⌝ }
+{
+    block_readers::read_block(Format::Bc4, data, image)
+}
+
+// Reads a signed BC4 block of 8 bytes into the elements 0 to 15.
+pub fn decode_bc4_signed_block(data: &[u8], image: &mut [u32]) -> Answer
+    ensures { λ r. ⌜ ReadsBlock Format.Bc4Signed (now («data» .entry)) (now (image .entry)) r (now (image .exit)) ⌝ }
+{
+    block_readers::read_block(Format::Bc4Signed, data, image)
+}
+
+// Reads a BC5 block of 16 bytes into the elements 0 to 15.
+pub fn decode_bc5_block(data: &[u8], image: &mut [u32]) -> Answer
+    ensures { λ r. ⌜ ReadsBlock Format.Bc5 (now («data» .entry)) (now (image .entry)) r (now (image .exit)) ⌝ }
+{
+    block_readers::read_block(Format::Bc5, data, image)
+}
+
+// Reads a signed BC5 block of 16 bytes into the elements 0 to 15.
+pub fn decode_bc5_signed_block(data: &[u8], image: &mut [u32]) -> Answer
+    ensures { λ r. ⌜ ReadsBlock Format.Bc5Signed (now («data» .entry)) (now (image .entry)) r (now (image .exit)) ⌝ }
+{
+    block_readers::read_block(Format::Bc5Signed, data, image)
 }
 
 // Reads an alpha half of 8 bytes into the top bytes of the elements 0 to 15, and keeps the rest of them.

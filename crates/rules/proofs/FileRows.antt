@@ -5,13 +5,14 @@ use mathlib.Core.Bool.{Bool, true, false, _&&_}
 use mathlib.Core.List.{List, [], _∷_, _++_}
 use Prim.Native.Nat.{ℕ}
 use lib.Dec.{T}
-use lib.ListN.{take, replicate}
+use lib.ListN.{length, take, replicate}
 use Rattle.numbers.specs.Numbers.{little, big, inBytes, bigBytes}
 use Rattle.rules.specs.Formats.{sizeOf}
 use Rattle.rules.specs.Records.{walked, kept, payloadAt}
 use Rattle.rules.specs.Sheets.{formatOf, headVerdict}
 use Rattle.rules.specs.FileFormats.{formatAt, known, word32}
 use Rattle.rules.specs.FileLevels.{bytesFor, insideOf, afterSize, inIndex, fitOf, levelAt, nextSpot, levelsFrom, levelsOf, tooMany, heldOf, openedBy, foundBy}
+use Rattle.rules.specs.Keys.{isOrientation, rowsTold, rowsIn, orientationOf}
 use Rattle.rules.specs.Pkm.{pkmAs, pkmOf}
 use Rattle.rules.specs.Ktx1.{ktx1As, ktx1In, ktx1Of}
 use Rattle.rules.specs.Ktx2.{ktx2As, ktx2Of}
@@ -79,6 +80,30 @@ ktx2 f w h depth layers faces levels scheme =
 entry : ℕ → ℕ → List ℕ
 entry offset n = inBytes 8 offset ++ inBytes 8 n ++ zeros 8
 
+-- the key "KTXorientation" and its 0, and as Qt writes it
+orientation : List ℕ
+orientation = 75 ∷ 84 ∷ 88 ∷ 111 ∷ 114 ∷ 105 ∷ 101 ∷ 110 ∷ 116 ∷ 97 ∷ 116 ∷ 105 ∷ 111 ∷ 110 ∷ 0 ∷ []
+
+qt-orientation : List ℕ
+qt-orientation = 75 ∷ 84 ∷ 88 ∷ 79 ∷ 114 ∷ 105 ∷ 101 ∷ 110 ∷ 116 ∷ 97 ∷ 116 ∷ 105 ∷ 111 ∷ 110 ∷ 0 ∷ []
+
+-- files of one block of ETC1 or ETC2 RGB with key and value data: KTX 1, and KTX 2 with its place and length as told
+keyed : Bool → List ℕ → List ℕ
+keyed order kv =
+    identifier 0x31 0x31
+    ++ words order (0x04030201 ∷ 0 ∷ 1 ∷ 0 ∷ 0x8D64 ∷ 0x1907 ∷ 4 ∷ 4 ∷ 0 ∷ 0 ∷ 1 ∷ 1 ∷ length kv ∷ [])
+    ++ kv
+    ++ level order 8
+
+keyed2 : ℕ → ℕ → List ℕ → List ℕ
+keyed2 at n kv =
+    identifier 0x32 0x30
+    ++ words false (147 ∷ 1 ∷ 4 ∷ 4 ∷ 0 ∷ 0 ∷ 1 ∷ 1 ∷ 0 ∷ 0 ∷ 0 ∷ at ∷ n ∷ [])
+    ++ zeros 16
+    ++ entry 104 8
+    ++ zeros 8
+    ++ kv
+
 -- DDS: flags of the pixel format, FourCC, width, height, levels and caps2; the 20 bytes of DX10
 dds : ℕ → ℕ → ℕ → ℕ → ℕ → ℕ → List ℕ
 dds flags fourCC w h levels caps2 =
@@ -114,10 +139,10 @@ others =
     ∷ []
 
 hold-others : T (every others)
-unfolding answer row every zeros word words pkm identifier ktx1 level ktx2 entry dds dx10 rec others
+unfolding answer row every zeros word words pkm identifier ktx1 level ktx2 entry dds dx10 rec orientation qt-orientation keyed keyed2 others
     little big inBytes bigBytes sizeOf walked kept payloadAt formatOf headVerdict formatAt known word32
     bytesFor insideOf afterSize inIndex fitOf levelAt nextSpot levelsFrom levelsOf tooMany heldOf openedBy foundBy
-    pkmAs pkmOf ktx1As ktx1In ktx1Of ktx2As ktx2Of ddsFlat dx10Flat ddsAs fourCCFormat dx10Of ddsOf sheetHeader
+    isOrientation rowsTold rowsIn orientationOf pkmAs pkmOf ktx1As ktx1In ktx1Of ktx2As ktx2Of ddsFlat dx10Flat ddsAs fourCCFormat dx10Of ddsOf sheetHeader
     headerOf openedAs foundAs openedVerdict foundVerdict
 hold-others = tt
 
@@ -151,10 +176,10 @@ pkms =
     ∷ []
 
 hold-pkms : T (every pkms)
-unfolding answer row every zeros word words pkm identifier ktx1 level ktx2 entry dds dx10 rec pkms
+unfolding answer row every zeros word words pkm identifier ktx1 level ktx2 entry dds dx10 rec orientation qt-orientation keyed keyed2 pkms
     little big inBytes bigBytes sizeOf walked kept payloadAt formatOf headVerdict formatAt known word32
     bytesFor insideOf afterSize inIndex fitOf levelAt nextSpot levelsFrom levelsOf tooMany heldOf openedBy foundBy
-    pkmAs pkmOf ktx1As ktx1In ktx1Of ktx2As ktx2Of ddsFlat dx10Flat ddsAs fourCCFormat dx10Of ddsOf sheetHeader
+    isOrientation rowsTold rowsIn orientationOf pkmAs pkmOf ktx1As ktx1In ktx1Of ktx2As ktx2Of ddsFlat dx10Flat ddsAs fourCCFormat dx10Of ddsOf sheetHeader
     headerOf openedAs foundAs openedVerdict foundVerdict
 hold-pkms = tt
 
@@ -171,10 +196,10 @@ padded-pkms =
     ∷ []
 
 hold-padded-pkms : T (every padded-pkms)
-unfolding answer row every zeros word words pkm identifier ktx1 level ktx2 entry dds dx10 rec padded-pkms
+unfolding answer row every zeros word words pkm identifier ktx1 level ktx2 entry dds dx10 rec orientation qt-orientation keyed keyed2 padded-pkms
     little big inBytes bigBytes sizeOf walked kept payloadAt formatOf headVerdict formatAt known word32
     bytesFor insideOf afterSize inIndex fitOf levelAt nextSpot levelsFrom levelsOf tooMany heldOf openedBy foundBy
-    pkmAs pkmOf ktx1As ktx1In ktx1Of ktx2As ktx2Of ddsFlat dx10Flat ddsAs fourCCFormat dx10Of ddsOf sheetHeader
+    isOrientation rowsTold rowsIn orientationOf pkmAs pkmOf ktx1As ktx1In ktx1Of ktx2As ktx2Of ddsFlat dx10Flat ddsAs fourCCFormat dx10Of ddsOf sheetHeader
     headerOf openedAs foundAs openedVerdict foundVerdict
 hold-padded-pkms = tt
 
@@ -200,17 +225,22 @@ ktx1s =
     ∷ row (opens (ktx1 false 0x9277 4 4 0 0 1 1 0 ++ level false 8)) (0 ∷ 2 ∷ 2 ∷ 1 ∷ 4 ∷ 4 ∷ 1 ∷ 0 ∷ 0 ∷ 0 ∷ [])
     ∷ row (opens (ktx1 true 0x9278 4 4 0 0 1 1 0 ++ level true 16)) (0 ∷ 2 ∷ 3 ∷ 0 ∷ 4 ∷ 4 ∷ 1 ∷ 1 ∷ 0 ∷ 0 ∷ [])
     ∷ row (opens (ktx1 false 0x9279 4 4 0 0 1 1 0 ++ level false 16)) (0 ∷ 2 ∷ 3 ∷ 1 ∷ 4 ∷ 4 ∷ 1 ∷ 0 ∷ 0 ∷ 0 ∷ [])
-    ∷ row (opens (ktx1 false 0x83f2 4 4 0 0 1 1 0 ++ level false 16)) (23 ∷ [])
+    ∷ row (opens (ktx1 true 0x83f2 4 4 0 0 1 1 0 ++ level true 16)) (0 ∷ 2 ∷ 12 ∷ 0 ∷ 4 ∷ 4 ∷ 1 ∷ 1 ∷ 0 ∷ 0 ∷ [])
+    ∷ row (opens (ktx1 false 0x8c4e 4 4 0 0 1 1 0 ++ level false 16)) (0 ∷ 2 ∷ 12 ∷ 1 ∷ 4 ∷ 4 ∷ 1 ∷ 0 ∷ 0 ∷ 0 ∷ [])
+    ∷ row (opens (ktx1 true 0x8dbb 4 4 0 0 1 1 0 ++ level true 8)) (0 ∷ 2 ∷ 13 ∷ 0 ∷ 4 ∷ 4 ∷ 1 ∷ 1 ∷ 0 ∷ 0 ∷ [])
+    ∷ row (opens (ktx1 false 0x8dbc 4 4 0 0 1 1 0 ++ level false 8)) (0 ∷ 2 ∷ 14 ∷ 0 ∷ 4 ∷ 4 ∷ 1 ∷ 0 ∷ 0 ∷ 0 ∷ [])
+    ∷ row (opens (ktx1 true 0x8dbd 4 4 0 0 1 1 0 ++ level true 16)) (0 ∷ 2 ∷ 15 ∷ 0 ∷ 4 ∷ 4 ∷ 1 ∷ 1 ∷ 0 ∷ 0 ∷ [])
+    ∷ row (opens (ktx1 false 0x8dbe 4 4 0 0 1 1 0 ++ level false 16)) (0 ∷ 2 ∷ 16 ∷ 0 ∷ 4 ∷ 4 ∷ 1 ∷ 0 ∷ 0 ∷ 0 ∷ [])
     ∷ row (opens (ktx1 false 0x8c72 4 4 0 0 1 1 0 ++ level false 16)) (23 ∷ [])
     ∷ row (opens (ktx1 false 0x19278 4 4 0 0 1 1 0 ++ level false 16)) (23 ∷ [])
     ∷ row (opens (ktx1 false 0x0 4 4 0 0 1 1 0 ++ level false 16)) (23 ∷ [])
     ∷ []
 
 hold-ktx1s : T (every ktx1s)
-unfolding answer row every zeros word words pkm identifier ktx1 level ktx2 entry dds dx10 rec ktx1s
+unfolding answer row every zeros word words pkm identifier ktx1 level ktx2 entry dds dx10 rec orientation qt-orientation keyed keyed2 ktx1s
     little big inBytes bigBytes sizeOf walked kept payloadAt formatOf headVerdict formatAt known word32
     bytesFor insideOf afterSize inIndex fitOf levelAt nextSpot levelsFrom levelsOf tooMany heldOf openedBy foundBy
-    pkmAs pkmOf ktx1As ktx1In ktx1Of ktx2As ktx2Of ddsFlat dx10Flat ddsAs fourCCFormat dx10Of ddsOf sheetHeader
+    isOrientation rowsTold rowsIn orientationOf pkmAs pkmOf ktx1As ktx1In ktx1Of ktx2As ktx2Of ddsFlat dx10Flat ddsAs fourCCFormat dx10Of ddsOf sheetHeader
     headerOf openedAs foundAs openedVerdict foundVerdict
 hold-ktx1s = tt
 
@@ -231,10 +261,10 @@ flat-ktx1s =
     ∷ []
 
 hold-flat-ktx1s : T (every flat-ktx1s)
-unfolding answer row every zeros word words pkm identifier ktx1 level ktx2 entry dds dx10 rec flat-ktx1s
+unfolding answer row every zeros word words pkm identifier ktx1 level ktx2 entry dds dx10 rec orientation qt-orientation keyed keyed2 flat-ktx1s
     little big inBytes bigBytes sizeOf walked kept payloadAt formatOf headVerdict formatAt known word32
     bytesFor insideOf afterSize inIndex fitOf levelAt nextSpot levelsFrom levelsOf tooMany heldOf openedBy foundBy
-    pkmAs pkmOf ktx1As ktx1In ktx1Of ktx2As ktx2Of ddsFlat dx10Flat ddsAs fourCCFormat dx10Of ddsOf sheetHeader
+    isOrientation rowsTold rowsIn orientationOf pkmAs pkmOf ktx1As ktx1In ktx1Of ktx2As ktx2Of ddsFlat dx10Flat ddsAs fourCCFormat dx10Of ddsOf sheetHeader
     headerOf openedAs foundAs openedVerdict foundVerdict
 hold-flat-ktx1s = tt
 
@@ -275,14 +305,14 @@ sized-ktx1s =
     ∷ []
 
 hold-sized-ktx1s : T (every sized-ktx1s)
-unfolding answer row every zeros word words pkm identifier ktx1 level ktx2 entry dds dx10 rec sized-ktx1s
+unfolding answer row every zeros word words pkm identifier ktx1 level ktx2 entry dds dx10 rec orientation qt-orientation keyed keyed2 sized-ktx1s
     little big inBytes bigBytes sizeOf walked kept payloadAt formatOf headVerdict formatAt known word32
     bytesFor insideOf afterSize inIndex fitOf levelAt nextSpot levelsFrom levelsOf tooMany heldOf openedBy foundBy
-    pkmAs pkmOf ktx1As ktx1In ktx1Of ktx2As ktx2Of ddsFlat dx10Flat ddsAs fourCCFormat dx10Of ddsOf sheetHeader
+    isOrientation rowsTold rowsIn orientationOf pkmAs pkmOf ktx1As ktx1In ktx1Of ktx2As ktx2Of ddsFlat dx10Flat ddsAs fourCCFormat dx10Of ddsOf sheetHeader
     headerOf openedAs foundAs openedVerdict foundVerdict
 hold-sized-ktx1s = tt
 
--- KTX 2: each number; a scheme is refused behind the format
+-- KTX 2: each number; a scheme is refused before the format, and behind what is not flat
 ktx2s : List Row
 ktx2s =
     row (opens (ktx2 131 4 4 0 0 1 1 0 ++ entry 104 8 ++ zeros 8)) (0 ∷ 3 ∷ 8 ∷ 0 ∷ 4 ∷ 4 ∷ 1 ∷ 0 ∷ 0 ∷ 0 ∷ [])
@@ -303,14 +333,18 @@ ktx2s =
     ∷ row (opens (ktx2 154 4 4 0 0 1 1 0 ++ entry 104 8 ++ zeros 8)) (0 ∷ 3 ∷ 5 ∷ 0 ∷ 4 ∷ 4 ∷ 1 ∷ 0 ∷ 0 ∷ 0 ∷ [])
     ∷ row (opens (ktx2 155 4 4 0 0 1 1 0 ++ entry 104 16 ++ zeros 16)) (0 ∷ 3 ∷ 6 ∷ 0 ∷ 4 ∷ 4 ∷ 1 ∷ 0 ∷ 0 ∷ 0 ∷ [])
     ∷ row (opens (ktx2 156 4 4 0 0 1 1 0 ++ entry 104 16 ++ zeros 16)) (0 ∷ 3 ∷ 7 ∷ 0 ∷ 4 ∷ 4 ∷ 1 ∷ 0 ∷ 0 ∷ 0 ∷ [])
-    ∷ row (opens (ktx2 0 4 4 0 0 1 1 1 ++ entry 104 8 ++ zeros 8)) (23 ∷ [])
-    ∷ row (opens (ktx2 130 4 4 0 0 1 1 1 ++ entry 104 8 ++ zeros 8)) (23 ∷ [])
-    ∷ row (opens (ktx2 135 4 4 0 0 1 1 1 ++ entry 104 8 ++ zeros 8)) (23 ∷ [])
-    ∷ row (opens (ktx2 136 4 4 0 0 1 1 1 ++ entry 104 8 ++ zeros 8)) (23 ∷ [])
-    ∷ row (opens (ktx2 139 4 4 0 0 1 1 1 ++ entry 104 8 ++ zeros 8)) (23 ∷ [])
-    ∷ row (opens (ktx2 143 4 4 0 0 1 1 1 ++ entry 104 8 ++ zeros 8)) (23 ∷ [])
-    ∷ row (opens (ktx2 157 4 4 0 0 1 1 1 ++ entry 104 8 ++ zeros 8)) (23 ∷ [])
-    ∷ row (opens (ktx2 65683 4 4 0 0 1 1 1 ++ entry 104 8 ++ zeros 8)) (23 ∷ [])
+    ∷ row (opens (ktx2 135 4 4 0 0 1 1 0 ++ entry 104 16 ++ zeros 16)) (0 ∷ 3 ∷ 12 ∷ 0 ∷ 4 ∷ 4 ∷ 1 ∷ 0 ∷ 0 ∷ 0 ∷ [])
+    ∷ row (opens (ktx2 136 4 4 0 0 1 1 0 ++ entry 104 16 ++ zeros 16)) (0 ∷ 3 ∷ 12 ∷ 1 ∷ 4 ∷ 4 ∷ 1 ∷ 0 ∷ 0 ∷ 0 ∷ [])
+    ∷ row (opens (ktx2 139 4 4 0 0 1 1 0 ++ entry 104 8 ++ zeros 8)) (0 ∷ 3 ∷ 13 ∷ 0 ∷ 4 ∷ 4 ∷ 1 ∷ 0 ∷ 0 ∷ 0 ∷ [])
+    ∷ row (opens (ktx2 140 4 4 0 0 1 1 0 ++ entry 104 8 ++ zeros 8)) (0 ∷ 3 ∷ 14 ∷ 0 ∷ 4 ∷ 4 ∷ 1 ∷ 0 ∷ 0 ∷ 0 ∷ [])
+    ∷ row (opens (ktx2 141 4 4 0 0 1 1 0 ++ entry 104 16 ++ zeros 16)) (0 ∷ 3 ∷ 15 ∷ 0 ∷ 4 ∷ 4 ∷ 1 ∷ 0 ∷ 0 ∷ 0 ∷ [])
+    ∷ row (opens (ktx2 142 4 4 0 0 1 1 0 ++ entry 104 16 ++ zeros 16)) (0 ∷ 3 ∷ 16 ∷ 0 ∷ 4 ∷ 4 ∷ 1 ∷ 0 ∷ 0 ∷ 0 ∷ [])
+    ∷ row (opens (ktx2 0 4 4 0 0 1 1 1 ++ entry 104 8 ++ zeros 8)) (41 ∷ [])
+    ∷ row (opens (ktx2 0 4 4 0 0 1 1 0 ++ entry 104 8 ++ zeros 8)) (23 ∷ [])
+    ∷ row (opens (ktx2 130 4 4 0 0 1 1 0 ++ entry 104 8 ++ zeros 8)) (23 ∷ [])
+    ∷ row (opens (ktx2 143 4 4 0 0 1 1 0 ++ entry 104 8 ++ zeros 8)) (23 ∷ [])
+    ∷ row (opens (ktx2 157 4 4 0 0 1 1 0 ++ entry 104 8 ++ zeros 8)) (23 ∷ [])
+    ∷ row (opens (ktx2 65683 4 4 0 0 1 1 0 ++ entry 104 8 ++ zeros 8)) (23 ∷ [])
     ∷ row (opens (ktx2 147 4 4 0 0 1 1 1 ++ entry 104 8 ++ zeros 8)) (41 ∷ [])
     ∷ row (opens (ktx2 147 4 4 0 0 1 1 2 ++ entry 104 8 ++ zeros 8)) (41 ∷ [])
     ∷ row (opens (ktx2 147 4 4 0 0 1 1 3 ++ entry 104 8 ++ zeros 8)) (41 ∷ [])
@@ -327,10 +361,10 @@ ktx2s =
     ∷ []
 
 hold-ktx2s : T (every ktx2s)
-unfolding answer row every zeros word words pkm identifier ktx1 level ktx2 entry dds dx10 rec ktx2s
+unfolding answer row every zeros word words pkm identifier ktx1 level ktx2 entry dds dx10 rec orientation qt-orientation keyed keyed2 ktx2s
     little big inBytes bigBytes sizeOf walked kept payloadAt formatOf headVerdict formatAt known word32
     bytesFor insideOf afterSize inIndex fitOf levelAt nextSpot levelsFrom levelsOf tooMany heldOf openedBy foundBy
-    pkmAs pkmOf ktx1As ktx1In ktx1Of ktx2As ktx2Of ddsFlat dx10Flat ddsAs fourCCFormat dx10Of ddsOf sheetHeader
+    isOrientation rowsTold rowsIn orientationOf pkmAs pkmOf ktx1As ktx1In ktx1Of ktx2As ktx2Of ddsFlat dx10Flat ddsAs fourCCFormat dx10Of ddsOf sheetHeader
     headerOf openedAs foundAs openedVerdict foundVerdict
 hold-ktx2s = tt
 
@@ -363,12 +397,78 @@ placed-ktx2s =
     ∷ []
 
 hold-placed-ktx2s : T (every placed-ktx2s)
-unfolding answer row every zeros word words pkm identifier ktx1 level ktx2 entry dds dx10 rec placed-ktx2s
+unfolding answer row every zeros word words pkm identifier ktx1 level ktx2 entry dds dx10 rec orientation qt-orientation keyed keyed2 placed-ktx2s
     little big inBytes bigBytes sizeOf walked kept payloadAt formatOf headVerdict formatAt known word32
     bytesFor insideOf afterSize inIndex fitOf levelAt nextSpot levelsFrom levelsOf tooMany heldOf openedBy foundBy
-    pkmAs pkmOf ktx1As ktx1In ktx1Of ktx2As ktx2Of ddsFlat dx10Flat ddsAs fourCCFormat dx10Of ddsOf sheetHeader
+    isOrientation rowsTold rowsIn orientationOf pkmAs pkmOf ktx1As ktx1In ktx1Of ktx2As ktx2Of ddsFlat dx10Flat ddsAs fourCCFormat dx10Of ddsOf sheetHeader
     headerOf openedAs foundAs openedVerdict foundVerdict
 hold-placed-ktx2s = tt
+
+-- key and value data: which row comes first, in both orders, with both keys; data that is no run of whole entries tells nothing
+keyed-files : List Row
+keyed-files =
+    row (opens (keyed false (word false 23 ++ orientation ++ (83 ∷ 61 ∷ 114 ∷ 44 ∷ 84 ∷ 61 ∷ 100 ∷ 0 ∷ 0 ∷ [])))) (0 ∷ 2 ∷ 0 ∷ 0 ∷ 4 ∷ 4 ∷ 1 ∷ 0 ∷ 1 ∷ 0 ∷ [])
+    ∷ row (opens (keyed false (word false 22 ++ orientation ++ (83 ∷ 61 ∷ 114 ∷ 44 ∷ 84 ∷ 61 ∷ 117 ∷ 0 ∷ 0 ∷ [])))) (0 ∷ 2 ∷ 0 ∷ 0 ∷ 4 ∷ 4 ∷ 1 ∷ 0 ∷ 2 ∷ 0 ∷ [])
+    ∷ row (opens (keyed false (word false 27 ++ qt-orientation ++ (83 ∷ 61 ∷ 114 ∷ 44 ∷ 84 ∷ 61 ∷ 100 ∷ 44 ∷ 82 ∷ 61 ∷ 105 ∷ 0 ∷ 0 ∷ []))))
+    (0 ∷ 2 ∷ 0 ∷ 0 ∷ 4 ∷ 4 ∷ 1 ∷ 0 ∷ 1 ∷ 0 ∷ [])
+    ∷ row (opens (keyed true (word true 23 ++ orientation ++ (83 ∷ 61 ∷ 114 ∷ 44 ∷ 84 ∷ 61 ∷ 100 ∷ 0 ∷ 0 ∷ [])))) (0 ∷ 2 ∷ 0 ∷ 0 ∷ 4 ∷ 4 ∷ 1 ∷ 1 ∷ 1 ∷ 0 ∷ [])
+    ∷ row (opens (keyed true (word true 22 ++ orientation ++ (83 ∷ 61 ∷ 114 ∷ 44 ∷ 84 ∷ 61 ∷ 117 ∷ 0 ∷ 0 ∷ [])))) (0 ∷ 2 ∷ 0 ∷ 0 ∷ 4 ∷ 4 ∷ 1 ∷ 1 ∷ 2 ∷ 0 ∷ [])
+    ∷ row (opens (keyed true (word true 27 ++ qt-orientation ++ (83 ∷ 61 ∷ 114 ∷ 44 ∷ 84 ∷ 61 ∷ 100 ∷ 44 ∷ 82 ∷ 61 ∷ 105 ∷ 0 ∷ 0 ∷ [])))) (0 ∷ 2 ∷ 0 ∷ 0 ∷ 4 ∷ 4 ∷ 1 ∷ 1 ∷ 1 ∷ 0 ∷ [])
+    ∷ row (opens (keyed false (word false 21 ++ orientation ++ (83 ∷ 61 ∷ 114 ∷ 44 ∷ 84 ∷ 61 ∷ 100 ∷ 0 ∷ 0 ∷ [])))) (0 ∷ 2 ∷ 0 ∷ 0 ∷ 4 ∷ 4 ∷ 1 ∷ 0 ∷ 0 ∷ 0 ∷ [])
+    ∷ row (opens (keyed false (word false 22 ++ orientation ++ (83 ∷ 61 ∷ 114 ∷ 44 ∷ 84 ∷ 61 ∷ 120 ∷ 0 ∷ 0 ∷ [])))) (0 ∷ 2 ∷ 0 ∷ 0 ∷ 4 ∷ 4 ∷ 1 ∷ 0 ∷ 0 ∷ 0 ∷ [])
+    ∷ row (opens (keyed false (word false 22
+    ++ (75 ∷ 84 ∷ 88 ∷ 111 ∷ 114 ∷ 105 ∷ 101 ∷ 110 ∷ 116 ∷ 97 ∷ 116 ∷ 105 ∷ 111 ∷ 78 ∷ 0 ∷ 83 ∷ 61 ∷ 114 ∷ 44 ∷ 84 ∷ 61 ∷ 100 ∷ 0 ∷ 0 ∷ []))))
+    (0 ∷ 2 ∷ 0 ∷ 0 ∷ 4 ∷ 4 ∷ 1 ∷ 0 ∷ 0 ∷ 0 ∷ [])
+    ∷ row (opens (keyed false (word false 22
+    ++ (75 ∷ 84 ∷ 88 ∷ 111 ∷ 114 ∷ 105 ∷ 101 ∷ 110 ∷ 116 ∷ 97 ∷ 122 ∷ 105 ∷ 111 ∷ 110 ∷ 0 ∷ 83 ∷ 61 ∷ 114 ∷ 44 ∷ 84 ∷ 61 ∷ 100 ∷ 0 ∷ 0 ∷ []))))
+    (0 ∷ 2 ∷ 0 ∷ 0 ∷ 4 ∷ 4 ∷ 1 ∷ 0 ∷ 0 ∷ 0 ∷ [])
+    ∷ row (opens (keyed false (word false 22 ++ (75 ∷ 84 ∷ 88 ∷ 111 ∷ 114 ∷ 105 ∷ 101 ∷ 110 ∷ 116 ∷ 97 ∷ 108 ∷ 0 ∷ 0 ∷ 0 ∷ 0 ∷ 83 ∷ 61 ∷ 114 ∷ 44 ∷ 84 ∷ 61 ∷ 100 ∷ 0 ∷ 0 ∷ []))))
+    (0 ∷ 2 ∷ 0 ∷ 0 ∷ 4 ∷ 4 ∷ 1 ∷ 0 ∷ 0 ∷ 0 ∷ [])
+    ∷ row (opens (keyed false (word false 22
+    ++ (75 ∷ 84 ∷ 88 ∷ 97 ∷ 114 ∷ 105 ∷ 101 ∷ 110 ∷ 116 ∷ 97 ∷ 116 ∷ 105 ∷ 111 ∷ 110 ∷ 0 ∷ 83 ∷ 61 ∷ 114 ∷ 44 ∷ 84 ∷ 61 ∷ 100 ∷ 0 ∷ 0 ∷ []))))
+    (0 ∷ 2 ∷ 0 ∷ 0 ∷ 4 ∷ 4 ∷ 1 ∷ 0 ∷ 0 ∷ 0 ∷ [])
+    ∷ row (opens (keyed false (word false 22
+    ++ (75 ∷ 84 ∷ 88 ∷ 111 ∷ 114 ∷ 120 ∷ 101 ∷ 110 ∷ 116 ∷ 97 ∷ 116 ∷ 105 ∷ 111 ∷ 110 ∷ 0 ∷ 83 ∷ 61 ∷ 114 ∷ 44 ∷ 84 ∷ 61 ∷ 100 ∷ 0 ∷ 0 ∷ []))))
+    (0 ∷ 2 ∷ 0 ∷ 0 ∷ 4 ∷ 4 ∷ 1 ∷ 0 ∷ 0 ∷ 0 ∷ [])
+    ∷ row (opens (keyed false (word false 22
+    ++ (75 ∷ 84 ∷ 88 ∷ 111 ∷ 114 ∷ 105 ∷ 101 ∷ 110 ∷ 116 ∷ 97 ∷ 116 ∷ 105 ∷ 111 ∷ 110 ∷ 1 ∷ 83 ∷ 61 ∷ 114 ∷ 44 ∷ 84 ∷ 61 ∷ 100 ∷ 0 ∷ 0 ∷ []))))
+    (0 ∷ 2 ∷ 0 ∷ 0 ∷ 4 ∷ 4 ∷ 1 ∷ 0 ∷ 0 ∷ 0 ∷ [])
+    ∷ row (opens (keyed false (word false 22 ++ orientation ++ (83 ∷ 61 ∷ 114 ∷ 44 ∷ 84 ∷ 61 ∷ 100 ∷ 0 ∷ [])))) (0 ∷ 2 ∷ 0 ∷ 0 ∷ 4 ∷ 4 ∷ 1 ∷ 0 ∷ 0 ∷ 0 ∷ [])
+    ∷ row (opens (keyed false (word false 24 ++ orientation ++ (83 ∷ 61 ∷ 114 ∷ 44 ∷ 84 ∷ 61 ∷ 100 ∷ [])))) (0 ∷ 2 ∷ 0 ∷ 0 ∷ 4 ∷ 4 ∷ 1 ∷ 0 ∷ 0 ∷ 0 ∷ [])
+    ∷ row (opens (keyed false (word false 3 ++ (97 ∷ 98 ∷ 0 ∷ 0 ∷ []) ++ word false 22 ++ orientation ++ (83 ∷ 61 ∷ 114 ∷ 44 ∷ 84 ∷ 61 ∷ 117 ∷ 0 ∷ 0 ∷ []))))
+    (0 ∷ 2 ∷ 0 ∷ 0 ∷ 4 ∷ 4 ∷ 1 ∷ 0 ∷ 2 ∷ 0 ∷ [])
+    ∷ row (opens (keyed false (word false 22 ++ orientation ++ (83 ∷ 61 ∷ 114 ∷ 44 ∷ 84 ∷ 61 ∷ 117 ∷ 0 ∷ 0 ∷ []) ++ word false 3 ++ (97 ∷ 98 ∷ 0 ∷ 0 ∷ []))))
+    (0 ∷ 2 ∷ 0 ∷ 0 ∷ 4 ∷ 4 ∷ 1 ∷ 0 ∷ 2 ∷ 0 ∷ [])
+    ∷ row (opens (keyed false (word false 22 ++ orientation ++ (83 ∷ 61 ∷ 114 ∷ 44 ∷ 84 ∷ 61 ∷ 117 ∷ 0 ∷ 0 ∷ []) ++ (3 ∷ 0 ∷ 0 ∷ [])))) (0 ∷ 2 ∷ 0 ∷ 0 ∷ 4 ∷ 4 ∷ 1 ∷ 0 ∷ 0 ∷ 0 ∷ [])
+    ∷ row (opens (keyed false (word false 22 ++ orientation ++ (83 ∷ 61 ∷ 114 ∷ 44 ∷ 84 ∷ 61 ∷ 117 ∷ 0 ∷ 0 ∷ []) ++ word false 5 ++ (97 ∷ 98 ∷ 0 ∷ 0 ∷ []))))
+    (0 ∷ 2 ∷ 0 ∷ 0 ∷ 4 ∷ 4 ∷ 1 ∷ 0 ∷ 0 ∷ 0 ∷ [])
+    ∷ row (opens (keyed false (word false 22 ++ orientation
+    ++ (83 ∷ 61 ∷ 114 ∷ 44 ∷ 84 ∷ 61 ∷ 117 ∷ 0 ∷ 0 ∷ [])
+    ++ word false 22 ++ orientation
+    ++ (83 ∷ 61 ∷ 114 ∷ 44 ∷ 84 ∷ 61 ∷ 100 ∷ 0 ∷ 0 ∷ []))))
+    (0 ∷ 2 ∷ 0 ∷ 0 ∷ 4 ∷ 4 ∷ 1 ∷ 0 ∷ 1 ∷ 0 ∷ [])
+    ∷ row (opens (keyed2 112 24 (word false 18 ++ orientation ++ (114 ∷ 100 ∷ 0 ∷ 0 ∷ 0 ∷ [])))) (0 ∷ 3 ∷ 1 ∷ 0 ∷ 4 ∷ 4 ∷ 1 ∷ 0 ∷ 1 ∷ 24 ∷ [])
+    ∷ row (opens (keyed2 112 24 (word false 18 ++ orientation ++ (114 ∷ 117 ∷ 0 ∷ 0 ∷ 0 ∷ [])))) (0 ∷ 3 ∷ 1 ∷ 0 ∷ 4 ∷ 4 ∷ 1 ∷ 0 ∷ 2 ∷ 24 ∷ [])
+    ∷ row (opens (keyed2 112 24 (word false 18 ++ orientation ++ (114 ∷ 120 ∷ 0 ∷ 0 ∷ 0 ∷ [])))) (0 ∷ 3 ∷ 1 ∷ 0 ∷ 4 ∷ 4 ∷ 1 ∷ 0 ∷ 0 ∷ 24 ∷ [])
+    ∷ row (opens (keyed2 112 24 (word false 18 ++ orientation ++ (108 ∷ 100 ∷ 0 ∷ 0 ∷ 0 ∷ [])))) (0 ∷ 3 ∷ 1 ∷ 0 ∷ 4 ∷ 4 ∷ 1 ∷ 0 ∷ 0 ∷ 24 ∷ [])
+    ∷ row (opens (keyed2 112 24 (word false 17 ++ orientation ++ (114 ∷ 100 ∷ 0 ∷ 0 ∷ 0 ∷ [])))) (0 ∷ 3 ∷ 1 ∷ 0 ∷ 4 ∷ 4 ∷ 1 ∷ 0 ∷ 1 ∷ 24 ∷ [])
+    ∷ row (opens (keyed2 112 24 (word false 16 ++ orientation ++ (114 ∷ 100 ∷ 0 ∷ 0 ∷ 0 ∷ [])))) (0 ∷ 3 ∷ 1 ∷ 0 ∷ 4 ∷ 4 ∷ 1 ∷ 0 ∷ 0 ∷ 24 ∷ [])
+    ∷ row (opens (keyed2 112 25 (word false 18 ++ orientation ++ (114 ∷ 100 ∷ 0 ∷ 0 ∷ 0 ∷ [])))) (0 ∷ 3 ∷ 1 ∷ 0 ∷ 4 ∷ 4 ∷ 1 ∷ 0 ∷ 0 ∷ 24 ∷ [])
+    ∷ row (opens (keyed2 113 24 (word false 18 ++ orientation ++ (114 ∷ 100 ∷ 0 ∷ 0 ∷ 0 ∷ [])))) (0 ∷ 3 ∷ 1 ∷ 0 ∷ 4 ∷ 4 ∷ 1 ∷ 0 ∷ 0 ∷ 24 ∷ [])
+    ∷ row (opens (keyed2 112 20 (word false 18 ++ orientation ++ (114 ∷ 100 ∷ 0 ∷ 0 ∷ 0 ∷ [])))) (0 ∷ 3 ∷ 1 ∷ 0 ∷ 4 ∷ 4 ∷ 1 ∷ 0 ∷ 0 ∷ 24 ∷ [])
+    ∷ row (opens (keyed2 112 0 (word false 18 ++ orientation ++ (114 ∷ 100 ∷ 0 ∷ 0 ∷ 0 ∷ [])))) (0 ∷ 3 ∷ 1 ∷ 0 ∷ 4 ∷ 4 ∷ 1 ∷ 0 ∷ 0 ∷ 24 ∷ [])
+    ∷ row (opens (keyed2 4294967295 4294967295 (word false 18 ++ orientation ++ (114 ∷ 100 ∷ 0 ∷ 0 ∷ 0 ∷ [])))) (0 ∷ 3 ∷ 1 ∷ 0 ∷ 4 ∷ 4 ∷ 1 ∷ 0 ∷ 0 ∷ 24 ∷ [])
+    ∷ row (opens (keyed2 137 0 (word false 18 ++ orientation ++ (114 ∷ 100 ∷ 0 ∷ 0 ∷ 0 ∷ [])))) (0 ∷ 3 ∷ 1 ∷ 0 ∷ 4 ∷ 4 ∷ 1 ∷ 0 ∷ 0 ∷ 24 ∷ [])
+    ∷ row (opens (keyed2 112 24 (word false 18 ++ qt-orientation ++ (114 ∷ 100 ∷ 0 ∷ 0 ∷ 0 ∷ [])))) (0 ∷ 3 ∷ 1 ∷ 0 ∷ 4 ∷ 4 ∷ 1 ∷ 0 ∷ 1 ∷ 24 ∷ [])
+    ∷ []
+
+hold-keyed-files : T (every keyed-files)
+unfolding answer row every zeros word words pkm identifier ktx1 level ktx2 entry dds dx10 rec orientation qt-orientation keyed keyed2 keyed-files
+    little big inBytes bigBytes sizeOf walked kept payloadAt formatOf headVerdict formatAt known word32
+    bytesFor insideOf afterSize inIndex fitOf levelAt nextSpot levelsFrom levelsOf tooMany heldOf openedBy foundBy
+    isOrientation rowsTold rowsIn orientationOf pkmAs pkmOf ktx1As ktx1In ktx1Of ktx2As ktx2Of ddsFlat dx10Flat ddsAs fourCCFormat dx10Of ddsOf sheetHeader
+    headerOf openedAs foundAs openedVerdict foundVerdict
+hold-keyed-files = tt
 
 -- DDS: FourCCs and DXGI numbers, and where they mean nothing
 ddss : List Row
@@ -376,7 +476,14 @@ ddss =
     row (opens (dds 4 0x44585431 4 4 0 0x0 ++ zeros 8)) (0 ∷ 4 ∷ 9 ∷ 0 ∷ 4 ∷ 4 ∷ 1 ∷ 0 ∷ 0 ∷ 0 ∷ [])
     ∷ row (opens (dds 4 0x44585434 4 4 0 0x0 ++ zeros 16)) (0 ∷ 4 ∷ 10 ∷ 0 ∷ 4 ∷ 4 ∷ 1 ∷ 0 ∷ 0 ∷ 0 ∷ [])
     ∷ row (opens (dds 2147483653 0x44585435 4 4 0 0x0 ++ zeros 16)) (0 ∷ 4 ∷ 10 ∷ 0 ∷ 4 ∷ 4 ∷ 1 ∷ 0 ∷ 0 ∷ 0 ∷ [])
-    ∷ row (opens (dds 4 0x44585433 4 4 0 0x0 ++ zeros 16)) (23 ∷ [])
+    ∷ row (opens (dds 4 0x44585432 4 4 0 0x0 ++ zeros 16)) (0 ∷ 4 ∷ 12 ∷ 0 ∷ 4 ∷ 4 ∷ 1 ∷ 0 ∷ 0 ∷ 0 ∷ [])
+    ∷ row (opens (dds 4 0x44585433 4 4 0 0x0 ++ zeros 16)) (0 ∷ 4 ∷ 12 ∷ 0 ∷ 4 ∷ 4 ∷ 1 ∷ 0 ∷ 0 ∷ 0 ∷ [])
+    ∷ row (opens (dds 4 0x41544931 4 4 0 0x0 ++ zeros 8)) (0 ∷ 4 ∷ 13 ∷ 0 ∷ 4 ∷ 4 ∷ 1 ∷ 0 ∷ 0 ∷ 0 ∷ [])
+    ∷ row (opens (dds 4 0x42433455 4 4 0 0x0 ++ zeros 8)) (0 ∷ 4 ∷ 13 ∷ 0 ∷ 4 ∷ 4 ∷ 1 ∷ 0 ∷ 0 ∷ 0 ∷ [])
+    ∷ row (opens (dds 4 0x42433453 4 4 0 0x0 ++ zeros 8)) (0 ∷ 4 ∷ 14 ∷ 0 ∷ 4 ∷ 4 ∷ 1 ∷ 0 ∷ 0 ∷ 0 ∷ [])
+    ∷ row (opens (dds 4 0x41544932 4 4 0 0x0 ++ zeros 16)) (0 ∷ 4 ∷ 15 ∷ 0 ∷ 4 ∷ 4 ∷ 1 ∷ 0 ∷ 0 ∷ 0 ∷ [])
+    ∷ row (opens (dds 4 0x42433555 4 4 0 0x0 ++ zeros 16)) (0 ∷ 4 ∷ 15 ∷ 0 ∷ 4 ∷ 4 ∷ 1 ∷ 0 ∷ 0 ∷ 0 ∷ [])
+    ∷ row (opens (dds 4 0x42433553 4 4 0 0x0 ++ zeros 16)) (0 ∷ 4 ∷ 16 ∷ 0 ∷ 4 ∷ 4 ∷ 1 ∷ 0 ∷ 0 ∷ 0 ∷ [])
     ∷ row (opens (dds 4 0x44585436 4 4 0 0x0 ++ zeros 16)) (23 ∷ [])
     ∷ row (opens (dds 0 0x44585431 4 4 0 0x0 ++ zeros 16)) (23 ∷ [])
     ∷ row (opens (dds 3 0x44585431 4 4 0 0x0 ++ zeros 16)) (23 ∷ [])
@@ -396,19 +503,26 @@ ddss =
     ∷ row (opens (dds 4 0x44583130 4 4 0 0x0 ++ dx10 98 3 0 1 ++ zeros 16)) (0 ∷ 4 ∷ 11 ∷ 0 ∷ 4 ∷ 4 ∷ 1 ∷ 0 ∷ 0 ∷ 0 ∷ [])
     ∷ row (opens (dds 4 0x44583130 4 4 0 0x0 ++ dx10 99 3 0 1 ++ zeros 16)) (0 ∷ 4 ∷ 11 ∷ 1 ∷ 4 ∷ 4 ∷ 1 ∷ 0 ∷ 0 ∷ 0 ∷ [])
     ∷ row (opens (dds 4 0x44583130 4 4 0 0x0 ++ dx10 69 3 0 1 ++ zeros 16)) (23 ∷ [])
-    ∷ row (opens (dds 4 0x44583130 4 4 0 0x0 ++ dx10 73 3 0 1 ++ zeros 16)) (23 ∷ [])
-    ∷ row (opens (dds 4 0x44583130 4 4 0 0x0 ++ dx10 75 3 0 1 ++ zeros 16)) (23 ∷ [])
-    ∷ row (opens (dds 4 0x44583130 4 4 0 0x0 ++ dx10 79 3 0 1 ++ zeros 16)) (23 ∷ [])
+    ∷ row (opens (dds 4 0x44583130 4 4 0 0x0 ++ dx10 73 3 0 1 ++ zeros 16)) (0 ∷ 4 ∷ 12 ∷ 0 ∷ 4 ∷ 4 ∷ 1 ∷ 0 ∷ 0 ∷ 0 ∷ [])
+    ∷ row (opens (dds 4 0x44583130 4 4 0 0x0 ++ dx10 74 3 0 1 ++ zeros 16)) (0 ∷ 4 ∷ 12 ∷ 0 ∷ 4 ∷ 4 ∷ 1 ∷ 0 ∷ 0 ∷ 0 ∷ [])
+    ∷ row (opens (dds 4 0x44583130 4 4 0 0x0 ++ dx10 75 3 0 1 ++ zeros 16)) (0 ∷ 4 ∷ 12 ∷ 1 ∷ 4 ∷ 4 ∷ 1 ∷ 0 ∷ 0 ∷ 0 ∷ [])
+    ∷ row (opens (dds 4 0x44583130 4 4 0 0x0 ++ dx10 79 3 0 1 ++ zeros 8)) (0 ∷ 4 ∷ 13 ∷ 0 ∷ 4 ∷ 4 ∷ 1 ∷ 0 ∷ 0 ∷ 0 ∷ [])
+    ∷ row (opens (dds 4 0x44583130 4 4 0 0x0 ++ dx10 80 3 0 1 ++ zeros 8)) (0 ∷ 4 ∷ 13 ∷ 0 ∷ 4 ∷ 4 ∷ 1 ∷ 0 ∷ 0 ∷ 0 ∷ [])
+    ∷ row (opens (dds 4 0x44583130 4 4 0 0x0 ++ dx10 81 3 0 1 ++ zeros 8)) (0 ∷ 4 ∷ 14 ∷ 0 ∷ 4 ∷ 4 ∷ 1 ∷ 0 ∷ 0 ∷ 0 ∷ [])
+    ∷ row (opens (dds 4 0x44583130 4 4 0 0x0 ++ dx10 82 3 0 1 ++ zeros 16)) (0 ∷ 4 ∷ 15 ∷ 0 ∷ 4 ∷ 4 ∷ 1 ∷ 0 ∷ 0 ∷ 0 ∷ [])
+    ∷ row (opens (dds 4 0x44583130 4 4 0 0x0 ++ dx10 83 3 0 1 ++ zeros 16)) (0 ∷ 4 ∷ 15 ∷ 0 ∷ 4 ∷ 4 ∷ 1 ∷ 0 ∷ 0 ∷ 0 ∷ [])
+    ∷ row (opens (dds 4 0x44583130 4 4 0 0x0 ++ dx10 84 3 0 1 ++ zeros 16)) (0 ∷ 4 ∷ 16 ∷ 0 ∷ 4 ∷ 4 ∷ 1 ∷ 0 ∷ 0 ∷ 0 ∷ [])
+    ∷ row (opens (dds 4 0x44583130 4 4 0 0x0 ++ dx10 85 3 0 1 ++ zeros 16)) (23 ∷ [])
     ∷ row (opens (dds 4 0x44583130 4 4 0 0x0 ++ dx10 96 3 0 1 ++ zeros 16)) (23 ∷ [])
     ∷ row (opens (dds 4 0x44583130 4 4 0 0x0 ++ dx10 100 3 0 1 ++ zeros 16)) (23 ∷ [])
     ∷ row (opens (dds 4 0x44583130 4 4 0 0x0 ++ dx10 65607 3 0 1 ++ zeros 16)) (23 ∷ [])
     ∷ []
 
 hold-ddss : T (every ddss)
-unfolding answer row every zeros word words pkm identifier ktx1 level ktx2 entry dds dx10 rec ddss
+unfolding answer row every zeros word words pkm identifier ktx1 level ktx2 entry dds dx10 rec orientation qt-orientation keyed keyed2 ddss
     little big inBytes bigBytes sizeOf walked kept payloadAt formatOf headVerdict formatAt known word32
     bytesFor insideOf afterSize inIndex fitOf levelAt nextSpot levelsFrom levelsOf tooMany heldOf openedBy foundBy
-    pkmAs pkmOf ktx1As ktx1In ktx1Of ktx2As ktx2Of ddsFlat dx10Flat ddsAs fourCCFormat dx10Of ddsOf sheetHeader
+    isOrientation rowsTold rowsIn orientationOf pkmAs pkmOf ktx1As ktx1In ktx1Of ktx2As ktx2Of ddsFlat dx10Flat ddsAs fourCCFormat dx10Of ddsOf sheetHeader
     headerOf openedAs foundAs openedVerdict foundVerdict
 hold-ddss = tt
 
@@ -436,10 +550,10 @@ flat-ddss =
     ∷ []
 
 hold-flat-ddss : T (every flat-ddss)
-unfolding answer row every zeros word words pkm identifier ktx1 level ktx2 entry dds dx10 rec flat-ddss
+unfolding answer row every zeros word words pkm identifier ktx1 level ktx2 entry dds dx10 rec orientation qt-orientation keyed keyed2 flat-ddss
     little big inBytes bigBytes sizeOf walked kept payloadAt formatOf headVerdict formatAt known word32
     bytesFor insideOf afterSize inIndex fitOf levelAt nextSpot levelsFrom levelsOf tooMany heldOf openedBy foundBy
-    pkmAs pkmOf ktx1As ktx1In ktx1Of ktx2As ktx2Of ddsFlat dx10Flat ddsAs fourCCFormat dx10Of ddsOf sheetHeader
+    isOrientation rowsTold rowsIn orientationOf pkmAs pkmOf ktx1As ktx1In ktx1Of ktx2As ktx2Of ddsFlat dx10Flat ddsAs fourCCFormat dx10Of ddsOf sheetHeader
     headerOf openedAs foundAs openedVerdict foundVerdict
 hold-flat-ddss = tt
 
@@ -470,10 +584,10 @@ sized-ddss =
     ∷ []
 
 hold-sized-ddss : T (every sized-ddss)
-unfolding answer row every zeros word words pkm identifier ktx1 level ktx2 entry dds dx10 rec sized-ddss
+unfolding answer row every zeros word words pkm identifier ktx1 level ktx2 entry dds dx10 rec orientation qt-orientation keyed keyed2 sized-ddss
     little big inBytes bigBytes sizeOf walked kept payloadAt formatOf headVerdict formatAt known word32
     bytesFor insideOf afterSize inIndex fitOf levelAt nextSpot levelsFrom levelsOf tooMany heldOf openedBy foundBy
-    pkmAs pkmOf ktx1As ktx1In ktx1Of ktx2As ktx2Of ddsFlat dx10Flat ddsAs fourCCFormat dx10Of ddsOf sheetHeader
+    isOrientation rowsTold rowsIn orientationOf pkmAs pkmOf ktx1As ktx1In ktx1Of ktx2As ktx2Of ddsFlat dx10Flat ddsAs fourCCFormat dx10Of ddsOf sheetHeader
     headerOf openedAs foundAs openedVerdict foundVerdict
 hold-sized-ddss = tt
 
@@ -512,9 +626,9 @@ sheets =
     ∷ []
 
 hold-sheets : T (every sheets)
-unfolding answer row every zeros word words pkm identifier ktx1 level ktx2 entry dds dx10 rec sheets
+unfolding answer row every zeros word words pkm identifier ktx1 level ktx2 entry dds dx10 rec orientation qt-orientation keyed keyed2 sheets
     little big inBytes bigBytes sizeOf walked kept payloadAt formatOf headVerdict formatAt known word32
     bytesFor insideOf afterSize inIndex fitOf levelAt nextSpot levelsFrom levelsOf tooMany heldOf openedBy foundBy
-    pkmAs pkmOf ktx1As ktx1In ktx1Of ktx2As ktx2Of ddsFlat dx10Flat ddsAs fourCCFormat dx10Of ddsOf sheetHeader
+    isOrientation rowsTold rowsIn orientationOf pkmAs pkmOf ktx1As ktx1In ktx1Of ktx2As ktx2Of ddsFlat dx10Flat ddsAs fourCCFormat dx10Of ddsOf sheetHeader
     headerOf openedAs foundAs openedVerdict foundVerdict
 hold-sheets = tt

@@ -19,7 +19,8 @@ use Rattle.rules.specs.Modes.{tBases, tDistance, hBases, notLess, hDista
 use Rattle.rules.specs.Modes.{rgbPixel, rgba1Pixel, etc1Pixel}
 use Rattle.rules.specs.Channels.{alphaStep, alphaByte, rgba8Pixel, eacValue, eacByte, redPixel, redGreenPixel}
 use Rattle.numbers.specs.Numbers.{little}
-use Rattle.rules.specs.Desktop.{bc1Pixel, bc3Alpha, bc3Pixel}
+use Rattle.rules.specs.Desktop.{bc1Pixel, bc3Alpha, bc3Pixel, bc2Alpha, bc2Pixel}
+use Rattle.rules.specs.Rgtc.{halfByte, bc4Pixel, bc5Pixel}
 use Rattle.rules.specs.Bptc.{two, three, anchorOfTwo, anchorOfThree1, anchorOfThree2, subset, anchor}
 use Rattle.rules.specs.Bc7.{modeTable, lowest, bitsBefore, pixelIn, bc7Pixel}
 use Rattle.rules.specs.Formats.{sizeOf, showsOf}
@@ -228,6 +229,6 @@ hold : T (kinds && numbers && tested && words && orders && places && every (benc
 unfolding kinds short isShort numbers numbersOf tested words orders places every bench table pitches leftovers opaques recorded verdictOf paints leaves holds marked needed
     painted firstOf differential wrapped kindBySums outOfRange tBases tDistance hBases hDistance planarBases planarChannel indexed
     rgbPixel rgba1Pixel etc1Pixel alphaStep alphaByte rgba8Pixel eacValue eacByte redPixel redGreenPixel sizeOf showsOf
-    little bc1Pixel bc3Alpha bc3Pixel
+    little bc1Pixel bc3Alpha bc3Pixel bc2Alpha bc2Pixel halfByte bc4Pixel bc5Pixel
     two three anchorOfTwo anchorOfThree1 anchorOfThree2 subset anchor modeTable lowest bitsBefore pixelIn bc7Pixel
 hold = tt

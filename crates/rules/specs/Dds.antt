@@ -14,7 +14,7 @@ use lib.ListN.{length}
 use Rattle.numbers.specs.Numbers.{little, big}
 use Rattle.rules.specs.Notation.{bit}
 use Rattle.rules.specs.FileFormats.{row, known, has4, oneAtLeast}
-use Rattle.rules.specs.declared.Format.the-variants.{Bc1Alpha, Bc3, Bc7}
+use Rattle.rules.specs.declared.Format.the-variants.{Bc1Alpha, Bc3, Bc7, Bc2, Bc4, Bc4Signed, Bc5, Bc5Signed}
 use Rattle.rules.specs.declared.Answer.the-variants.{HeaderCut, UnknownFormat, NotFlat}
 use Rattle.rules.specs.declared.KnownFormat.{KnownFormat}
 use Rattle.rules.specs.declared.KnownFormat.the-variants.{As, Not}
@@ -24,19 +24,39 @@ use Rattle.rules.specs.declared.FileHeader.the-variants.{Holds, Refused}
 abbrev pub isDds : List ℕ → Bool
 isDds d = has4 d 0 0x44445320
 
--- four letters as a number: "DXT1", which has a bit of alpha, "DXT4" and "DXT5"
+-- four letters as a number: "DXT1", which has a bit of alpha, "DXT2" to "DXT5", "ATI1", "BC4U", "BC4S", "ATI2", "BC5U" and "BC5S"
 abbrev pub fourCCRows : List ℕ
-fourCCRows = row 0x44585431 Bc1Alpha 0 ++ row 0x44585434 Bc3 0 ++ row 0x44585435 Bc3 0
+fourCCRows =
+    row 0x44585431 Bc1Alpha 0
+    ++ row 0x44585432 Bc2 0
+    ++ row 0x44585433 Bc2 0
+    ++ row 0x44585434 Bc3 0
+    ++ row 0x44585435 Bc3 0
+    ++ row 0x41544931 Bc4 0
+    ++ row 0x42433455 Bc4 0
+    ++ row 0x42433453 Bc4Signed 0
+    ++ row 0x41544932 Bc5 0
+    ++ row 0x42433555 Bc5 0
+    ++ row 0x42433553 Bc5Signed 0
 
--- DXGI's numbers: a TYPELESS, a UNORM and a UNORM_SRGB of each
+-- DXGI's numbers: a TYPELESS, a UNORM and a UNORM_SRGB of each, and of BC4 and BC5 a TYPELESS, a UNORM and a SNORM
 abbrev pub dxgiRows : List ℕ
 dxgiRows =
     row 70 Bc1Alpha 0
     ++ row 71 Bc1Alpha 0
     ++ row 72 Bc1Alpha 1
+    ++ row 73 Bc2 0
+    ++ row 74 Bc2 0
+    ++ row 75 Bc2 1
     ++ row 76 Bc3 0
     ++ row 77 Bc3 0
     ++ row 78 Bc3 1
+    ++ row 79 Bc4 0
+    ++ row 80 Bc4 0
+    ++ row 81 Bc4Signed 0
+    ++ row 82 Bc5 0
+    ++ row 83 Bc5 0
+    ++ row 84 Bc5Signed 0
     ++ row 97 Bc7 0
     ++ row 98 Bc7 0
     ++ row 99 Bc7 1

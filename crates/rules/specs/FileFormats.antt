@@ -8,13 +8,31 @@ use lib.ListN.{length, getD}
 use Rattle.numbers.specs.Numbers.{little, big}
 use Rattle.rules.specs.declared.Format.{Format}
 use Rattle.rules.specs.declared.Format.the-variants.{Etc1, Etc2Rgb, Etc2Rgba1, Etc2Rgba8, EacR, EacRSigned, EacRg, EacRgSigned}
-use Rattle.rules.specs.declared.Format.the-variants.{Bc1, Bc1Alpha, Bc3, Bc7}
+use Rattle.rules.specs.declared.Format.the-variants.{Bc1, Bc1Alpha, Bc3, Bc7, Bc2, Bc4, Bc4Signed, Bc5, Bc5Signed}
 use Rattle.rules.specs.declared.KnownFormat.{KnownFormat}
 use Rattle.rules.specs.declared.KnownFormat.the-variants.{As, Not}
 
 -- the formats in the order of their numbers: 0 to 7 are those of a sheet
 abbrev pub formatList : List Format
-formatList = Etc1 ∷ Etc2Rgb ∷ Etc2Rgba1 ∷ Etc2Rgba8 ∷ EacR ∷ EacRSigned ∷ EacRg ∷ EacRgSigned ∷ Bc1 ∷ Bc1Alpha ∷ Bc3 ∷ Bc7 ∷ []
+formatList =
+    Etc1
+    ∷ Etc2Rgb
+    ∷ Etc2Rgba1
+    ∷ Etc2Rgba8
+    ∷ EacR
+    ∷ EacRSigned
+    ∷ EacRg
+    ∷ EacRgSigned
+    ∷ Bc1
+    ∷ Bc1Alpha
+    ∷ Bc3
+    ∷ Bc7
+    ∷ Bc2
+    ∷ Bc4
+    ∷ Bc4Signed
+    ∷ Bc5
+    ∷ Bc5Signed
+    ∷ []
 
 unfoldable pub formatAt : ℕ → Format
 formatAt n = getD formatList n Etc1
@@ -33,6 +51,11 @@ formatNumber Bc1 = 8
 formatNumber Bc1Alpha = 9
 formatNumber Bc3 = 10
 formatNumber Bc7 = 11
+formatNumber Bc2 = 12
+formatNumber Bc4 = 13
+formatNumber Bc4Signed = 14
+formatNumber Bc5 = 15
+formatNumber Bc5Signed = 16
 
 -- a row of a container's table of formats: the container's number, the format, and 1 where its colours are sRGB
 abbrev pub row : ℕ → Format → ℕ → List ℕ

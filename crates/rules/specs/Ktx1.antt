@@ -13,8 +13,9 @@ use lib.Dec.{eqb, ltb}
 use lib.ListN.{length}
 use Rattle.numbers.specs.Numbers.{big}
 use Rattle.rules.specs.FileFormats.{row, known, word32, has4, oneAtLeast, isFlat}
+use Rattle.rules.specs.Keys.{orientationOf}
 use Rattle.rules.specs.declared.Format.the-variants.{Etc1, Etc2Rgb, Etc2Rgba1, Etc2Rgba8, EacR, EacRSigned, EacRg, EacRgSigned}
-use Rattle.rules.specs.declared.Format.the-variants.{Bc1, Bc1Alpha, Bc3, Bc7}
+use Rattle.rules.specs.declared.Format.the-variants.{Bc1, Bc1Alpha, Bc3, Bc7, Bc2, Bc4, Bc4Signed, Bc5, Bc5Signed}
 use Rattle.rules.specs.declared.Answer.the-variants.{HeaderCut, UnknownVersion, UnknownFormat, NotFlat}
 use Rattle.rules.specs.declared.KnownFormat.{KnownFormat}
 use Rattle.rules.specs.declared.KnownFormat.the-variants.{As, Not}
@@ -47,6 +48,12 @@ glRows =
     ++ row 0x8C4F Bc3 1
     ++ row 0x8E8C Bc7 0
     ++ row 0x8E8D Bc7 1
+    ++ row 0x83F2 Bc2 0
+    ++ row 0x8C4E Bc2 1
+    ++ row 0x8DBB Bc4 0
+    ++ row 0x8DBC Bc4Signed 0
+    ++ row 0x8DBD Bc5 0
+    ++ row 0x8DBE Bc5Signed 0
 
 -- the rest of the header, with what glInternalFormat stands for
 unfoldable pub ktx1As : KnownFormat → Bool → List ℕ → FileHeader
@@ -61,7 +68,7 @@ ktx1As (As f srgb) order d =
       height = word32 order d 40;
       levels = oneAtLeast (word32 order d 56);
       «big_endian» = cond order 1 0;
-      orientation = 0;
+      orientation = orientationOf false order d 64 (word32 order d 60);
       start = 64 + word32 order d 60;
       agrees = true;
     })

@@ -5,15 +5,16 @@
 --    48  dfdByteOffset    52  dfdByteLength             56  kvdByteOffset       60  kvdByteLength
 --    64  sgdByteOffset    72  sgdByteLength             80  the index: for each level byteOffset, byteLength, uncompressedByteLength
 -- Assumes nothing.
-use mathlib.Core.Bool.{Bool, true, cond, _&&_}
+use mathlib.Core.Bool.{Bool, true, false, cond, _&&_}
 use mathlib.Core.List.{List, [], _++_}
 use Prim.Native.Nat.{ℕ}
 use lib.Dec.{eqb, ltb}
 use lib.ListN.{length}
 use Rattle.numbers.specs.Numbers.{little}
 use Rattle.rules.specs.FileFormats.{row, known, has4, oneAtLeast, isFlat}
+use Rattle.rules.specs.Keys.{orientationOf}
 use Rattle.rules.specs.declared.Format.the-variants.{Etc2Rgb, Etc2Rgba1, Etc2Rgba8, EacR, EacRSigned, EacRg, EacRgSigned}
-use Rattle.rules.specs.declared.Format.the-variants.{Bc1, Bc1Alpha, Bc3, Bc7}
+use Rattle.rules.specs.declared.Format.the-variants.{Bc1, Bc1Alpha, Bc3, Bc7, Bc2, Bc4, Bc4Signed, Bc5, Bc5Signed}
 use Rattle.rules.specs.declared.Answer.the-variants.{HeaderCut, UnknownFormat, NotFlat, Supercompressed}
 use Rattle.rules.specs.declared.KnownFormat.{KnownFormat}
 use Rattle.rules.specs.declared.KnownFormat.the-variants.{As, Not}
@@ -31,8 +32,14 @@ vkRows =
     ++ row 132 Bc1 1
     ++ row 133 Bc1Alpha 0
     ++ row 134 Bc1Alpha 1
+    ++ row 135 Bc2 0
+    ++ row 136 Bc2 1
     ++ row 137 Bc3 0
     ++ row 138 Bc3 1
+    ++ row 139 Bc4 0
+    ++ row 140 Bc4Signed 0
+    ++ row 141 Bc5 0
+    ++ row 142 Bc5Signed 0
     ++ row 145 Bc7 0
     ++ row 146 Bc7 1
     ++ row 147 Etc2Rgb 0
@@ -46,12 +53,11 @@ vkRows =
     ++ row 155 EacRg 0
     ++ row 156 EacRgSigned 0
 
--- the rest of the header, with what vkFormat stands for; supercompressionScheme 0 is "None"
+-- the rest of the header, with what vkFormat stands for
 unfoldable pub ktx2As : KnownFormat → List ℕ → FileHeader
 ktx2As Not d = Refused UnknownFormat
 ktx2As (As f srgb) d =
-    cond (eqb (little 4 44 d) 0)
-    (Holds
+    Holds
     (record {
       container = 3;
       format = f;
@@ -60,14 +66,15 @@ ktx2As (As f srgb) d =
       height = little 4 24 d;
       levels = oneAtLeast (little 4 40 d);
       «big_endian» = 0;
-      orientation = 0;
+      orientation = orientationOf true false d (little 4 56 d) (little 4 60 d);
       start = 80;
       agrees = true;
-    }))
-    (Refused Supercompressed)
+    })
 
+-- supercompressionScheme 0 is "None". It is looked at before vkFormat, which is 0 in files of BasisLZ.
 unfoldable pub ktx2Of : List ℕ → FileHeader
 ktx2Of d =
     cond (ltb (length d) 80) (Refused HeaderCut)
-    (cond (isFlat (little 4 28 d) (little 4 32 d) (little 4 36 d)) (ktx2As (known vkRows (little 4 12 d)) d)
+    (cond (isFlat (little 4 28 d) (little 4 32 d) (little 4 36 d))
+    (cond (eqb (little 4 44 d) 0) (ktx2As (known vkRows (little 4 12 d)) d) (Refused Supercompressed))
     (Refused NotFlat))

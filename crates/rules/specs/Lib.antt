@@ -11,8 +11,9 @@ pub mod Colour
 pub mod Modes
 -- alpha and single channels
 pub mod Channels
--- BC1 and BC3, of document 02
+-- BC1 and BC3, of document 02, and BC2; BC4 and BC5
 pub mod Desktop
+pub mod Rgtc
 -- bits, and BC7, of document 02
 pub mod Bits
 pub mod Bptc
@@ -40,6 +41,7 @@ pub mod Whole
 -- files: PKM, KTX 1, KTX 2, DDS and sheets
 pub mod FileFormats
 pub mod FileLevels
+pub mod Keys
 pub mod Pkm
 pub mod Ktx1
 pub mod Ktx2

@@ -42,7 +42,8 @@ walked (suc turns) [] = ended
 walked (suc turns) (b ∷ l) =
     cond (isCut (b ∷ l)) short (more (recordIn (b ∷ l)) (walked turns (behind (b ∷ l))))
 
--- each record has six bytes or more, so that as many turns as there are bytes reach the end (crates/sheet/proofs/records/Walk.antt shows it)
+-- each record has six bytes or more, so that as many turns as there are bytes reach the end, as crates/sheet/proofs/records/Walk.antt
+-- shows
 abbrev pub recordsOf : List ℕ → Records
 recordsOf d = walked (length d) d
 

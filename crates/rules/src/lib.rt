@@ -1,6 +1,7 @@
 // The vocabulary: the words that the rules, the readers and their callers share. It has no functions.
 
-// The formats: the eight of document 01, in its order of readers, and those of M-106 and M-108.
+// The formats: the eight of document 01, in its order of readers, those of M-106 and M-108, and the rest of the desktop's eight-bit ones.
+// BC6H, whose pixels are half floats, is not among them.
 pub enum Format {
     Etc1,
     Etc2Rgb,
@@ -14,6 +15,11 @@ pub enum Format {
     Bc1Alpha,
     Bc3,
     Bc7,
+    Bc2,
+    Bc4,
+    Bc4Signed,
+    Bc5,
+    Bc5Signed,
 }
 
 // The five kinds of colour block.

@@ -14,7 +14,7 @@ use Rattle.rules.specs.declared.Answer.{Answer}
 use Rattle.rules.specs.declared.Answer.the-variants.{ShortData}
 use Rattle.rules.specs.declared.Format.{Format}
 use Rattle.rules.specs.declared.Format.the-variants.{Etc1, Etc2Rgb, Etc2Rgba1, Etc2Rgba8, EacR, EacRSigned, EacRg, EacRgSigned}
-use Rattle.rules.specs.declared.Format.the-variants.{Bc1, Bc1Alpha, Bc3, Bc7}
+use Rattle.rules.specs.declared.Format.the-variants.{Bc1, Bc1Alpha, Bc3, Bc7, Bc2, Bc4, Bc4Signed, Bc5, Bc5Signed}
 use Rattle.textures.specs.Textures.{fileLimit}
 use Rattle.textures.specs.declared.Texture.{Texture}
 use Rattle.guard.specs.Viewers.{guardOf}
@@ -36,6 +36,11 @@ isAsked Bc1 = false
 isAsked Bc1Alpha = false
 isAsked Bc3 = false
 isAsked Bc7 = false
+isAsked Bc2 = false
+isAsked Bc4 = false
+isAsked Bc4Signed = false
+isAsked Bc5 = false
+isAsked Bc5Signed = false
 
 abbrev pub viewerOf : Format → Viewer
 viewerOf Etc1 = viewer.Etc1
@@ -50,6 +55,11 @@ viewerOf Bc1 = viewer.Etc1
 viewerOf Bc1Alpha = viewer.Etc1
 viewerOf Bc3 = viewer.Etc1
 viewerOf Bc7 = viewer.Etc1
+viewerOf Bc2 = viewer.Etc1
+viewerOf Bc4 = viewer.Etc1
+viewerOf Bc4Signed = viewer.Etc1
+viewerOf Bc5 = viewer.Etc1
+viewerOf Bc5Signed = viewer.Etc1
 
 -- whether a level has bytes behind its blocks that its viewer minds: only a strict reader does
 abbrev pub leftOver : Viewer → Texture → Bool

@@ -93,6 +93,11 @@ fn is_asked(f: Format) -> bool
         Format::Bc1Alpha => false,
         Format::Bc3 => false,
         Format::Bc7 => false,
+        Format::Bc2 => false,
+        Format::Bc4 => false,
+        Format::Bc4Signed => false,
+        Format::Bc5 => false,
+        Format::Bc5Signed => false,
     }
 }
 
@@ -113,6 +118,11 @@ fn viewer_of(f: Format) -> Viewer
         Format::Bc1Alpha => Viewer::Etc1,
         Format::Bc3 => Viewer::Etc1,
         Format::Bc7 => Viewer::Etc1,
+        Format::Bc2 => Viewer::Etc1,
+        Format::Bc4 => Viewer::Etc1,
+        Format::Bc4Signed => Viewer::Etc1,
+        Format::Bc5 => Viewer::Etc1,
+        Format::Bc5Signed => Viewer::Etc1,
     }
 }
 

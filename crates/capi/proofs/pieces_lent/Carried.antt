@@ -6,17 +6,18 @@ use mathlib.Core.List.{List, [], _∷_}
 use Prim.Native.Nat.{ℕ}
 use Rattle.rules.specs.Answers.{accepts}
 use Rattle.rules.specs.Pieces.{after, pieceVerdict, Starts, Takes}
+use Rattle.rules.specs.FileFormats.{formatAt, formatNumber}
 use Rattle.rules.specs.declared.Format.{Format}
-use Rattle.rules.specs.declared.Format.the-variants.{Etc1, Etc2Rgb, Etc2Rgba1, Etc2Rgba8, EacR, EacRSigned, EacRg, EacRgSigned, Bc1, Bc1Alpha, Bc3, Bc7}
+use Rattle.rules.specs.declared.Format.the-variants.{Etc1, Etc2Rgb, Etc2Rgba1, Etc2Rgba8, EacR, EacRSigned, EacRg, EacRgSigned, Bc1, Bc1Alpha, Bc3, Bc7, Bc2, Bc4, Bc4Signed, Bc5, Bc5Signed}
 use Rattle.rules.specs.declared.Picture.{Picture}
 use Rattle.rules.specs.declared.Progress.{Progress}
 use Rattle.rules.specs.declared.Started.{Started}
 use Rattle.rules.specs.declared.Taken.{Taken}
-use Rattle.capi.specs.pieces_lent.Lent.{formatAt, numberOf, stateIn, withTaken, StartLent, PieceLent}
+use Rattle.capi.specs.pieces_lent.Lent.{stateIn, withTaken, StartLent, PieceLent}
 
 -- each format is that of its number
-numbered : (f : Format) → formatAt (numberOf f) ≡ f
-unfolding formatAt numberOf
+numbered : (f : Format) → formatAt (formatNumber f) ≡ f
+unfolding formatAt
 numbered Etc1 = refl
 numbered Etc2Rgb = refl
 numbered Etc2Rgba1 = refl
@@ -29,8 +30,13 @@ numbered Bc1 = refl
 numbered Bc1Alpha = refl
 numbered Bc3 = refl
 numbered Bc7 = refl
+numbered Bc2 = refl
+numbered Bc4 = refl
+numbered Bc4Signed = refl
+numbered Bc5 = refl
+numbered Bc5Signed = refl
 
-pub begun : (f : Format) (p : Picture) (n m : ℕ) (t : Started) → Starts f p n t → m ≡ numberOf f → StartLent f p n (t .answer) (m ∷ p .width ∷ p .height ∷ p .pitch ∷ 0 ∷ []) (t .progress .kept)
+pub begun : (f : Format) (p : Picture) (n m : ℕ) (t : Started) → Starts f p n t → m ≡ formatNumber f → StartLent f p n (t .answer) (m ∷ p .width ∷ p .height ∷ p .pitch ∷ 0 ∷ []) (t .progress .kept)
 begun f p n m t a e =
     record {
       starts =

@@ -7,34 +7,11 @@ use Prim.Native.Nat.{ℕ}
 use lib.ListN.{getD}
 use Rattle.rules.specs.Places.{pitched}
 use Rattle.rules.specs.Pieces.{Starts, Takes}
+use Rattle.rules.specs.FileFormats.{formatAt, formatNumber}
 use Rattle.rules.specs.declared.Answer.{Answer}
 use Rattle.rules.specs.declared.Format.{Format}
-use Rattle.rules.specs.declared.Format.the-variants.{Etc1, Etc2Rgb, Etc2Rgba1, Etc2Rgba8, EacR, EacRSigned, EacRg, EacRgSigned}
-use Rattle.rules.specs.declared.Format.the-variants.{Bc1, Bc1Alpha, Bc3, Bc7}
 use Rattle.rules.specs.declared.Picture.{Picture}
 use Rattle.rules.specs.declared.Progress.{Progress}
-
--- the formats by their numbers here, a table of its own; a number behind it is read as the first
-abbrev pub formats : List Format
-formats = Etc1 ∷ Etc2Rgb ∷ Etc2Rgba1 ∷ Etc2Rgba8 ∷ EacR ∷ EacRSigned ∷ EacRg ∷ EacRgSigned ∷ Bc1 ∷ Bc1Alpha ∷ Bc3 ∷ Bc7 ∷ []
-
-unfoldable pub formatAt : ℕ → Format
-formatAt n = getD formats n Etc1
-
--- and the number of each, which starting writes
-unfoldable pub numberOf : Format → ℕ
-numberOf Etc1 = 0
-numberOf Etc2Rgb = 1
-numberOf Etc2Rgba1 = 2
-numberOf Etc2Rgba8 = 3
-numberOf EacR = 4
-numberOf EacRSigned = 5
-numberOf EacRg = 6
-numberOf EacRgSigned = 7
-numberOf Bc1 = 8
-numberOf Bc1Alpha = 9
-numberOf Bc3 = 10
-numberOf Bc7 = 11
 
 -- the state that the arrays hold, whatever is in them
 abbrev pub stateIn : List ℕ → List ℕ → Progress
@@ -53,7 +30,7 @@ withTaken numbers taken = getD numbers 0 0 ∷ getD numbers 1 0 ∷ getD numbers
 -- Starting: the arrays hold the state that comes of it, and the five numbers are these.
 pub record StartLent (f : Format) (p : Picture) (elements : ℕ) (answer : Answer) (numbers kept : List ℕ) : Type 0 where
   pub starts : Starts f p elements (record { answer = answer; progress = stateIn numbers kept })
-  pub these : numbers ≡ numberOf f ∷ p .width ∷ p .height ∷ p .pitch ∷ 0 ∷ []
+  pub these : numbers ≡ formatNumber f ∷ p .width ∷ p .height ∷ p .pitch ∷ 0 ∷ []
 
 -- A piece e: so do they, and of the five numbers only that of the bytes taken is written.
 pub record PieceLent (numbers kept e image : List ℕ) (answer : Answer) (numbers' kept' : List ℕ) (painted unused : ℕ) (new : List ℕ)

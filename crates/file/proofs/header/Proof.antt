@@ -24,10 +24,10 @@ header-requires-2 c κs = search needs
 
 returns-2 : tie.Need-returns-2
 unfolding headerOf
-returns-2 c =     simp (
-      sym (c .before .before .before .before .has4 .ensures) ∙ c .before .before .before .if1 .left,
-      sym (c .before .before .has42 .ensures) ∙ c .before .if2 .taken,
-    )
+returns-2 c = simp (
+  sym (c .before .before .before .before .has4 .ensures) ∙ c .before .before .before .if1 .left,
+  sym (c .before .before .has42 .ensures) ∙ c .before .if2 .taken,
+)
     (c .header2 .ensures)
 
 is-ktx1-requires : tie.Need-is-ktx1-requires
@@ -38,11 +38,11 @@ header-requires-3 c κs = search needs
 
 returns-3 : tie.Need-returns-3
 unfolding headerOf
-returns-3 c =     simp (
-      sym (c .before .before .before .before .before .before .has4 .ensures) ∙ c .before .before .before .before .before .if1 .left,
-      sym (c .before .before .before .before .has42 .ensures) ∙ c .before .before .before .if2 .left,
-      sym (c .before .before .is-ktx1 .ensures) ∙ c .before .if3 .taken,
-    )
+returns-3 c = simp (
+  sym (c .before .before .before .before .before .before .has4 .ensures) ∙ c .before .before .before .before .before .if1 .left,
+  sym (c .before .before .before .before .has42 .ensures) ∙ c .before .before .before .if2 .left,
+  sym (c .before .before .is-ktx1 .ensures) ∙ c .before .if3 .taken,
+)
     (c .header3 .ensures)
 
 is-ktx2-requires : tie.Need-is-ktx2-requires
@@ -53,12 +53,12 @@ header-requires-4 c κs = search needs
 
 returns-4 : tie.Need-returns-4
 unfolding headerOf
-returns-4 c =     simp (
-      sym (c .before .before .before .before .before .before .before .before .has4 .ensures) ∙ c .before .before .before .before .before .before .before .if1 .left,
-      sym (c .before .before .before .before .before .before .has42 .ensures) ∙ c .before .before .before .before .before .if2 .left,
-      sym (c .before .before .before .before .is-ktx1 .ensures) ∙ c .before .before .before .if3 .left,
-      sym (c .before .before .is-ktx2 .ensures) ∙ c .before .if4 .taken,
-    )
+returns-4 c = simp (
+  sym (c .before .before .before .before .before .before .before .before .has4 .ensures) ∙ c .before .before .before .before .before .before .before .if1 .left,
+  sym (c .before .before .before .before .before .before .has42 .ensures) ∙ c .before .before .before .before .before .if2 .left,
+  sym (c .before .before .before .before .is-ktx1 .ensures) ∙ c .before .before .before .if3 .left,
+  sym (c .before .before .is-ktx2 .ensures) ∙ c .before .if4 .taken,
+)
     (c .header4 .ensures)
 
 is-sheet-requires : tie.Need-is-sheet-requires
@@ -69,24 +69,24 @@ header-requires-5 c κs = search needs
 
 returns-5 : tie.Need-returns-5
 unfolding headerOf
-returns-5 c =     simp (
-      sym (c .before .before .before .before .before .before .before .before .before .before .has4 .ensures) ∙ c .before .before .before .before .before .before .before .before .before .if1 .left,
-      sym (c .before .before .before .before .before .before .before .before .has42 .ensures) ∙ c .before .before .before .before .before .before .before .if2 .left,
-      sym (c .before .before .before .before .before .before .is-ktx1 .ensures) ∙ c .before .before .before .before .before .if3 .left,
-      sym (c .before .before .before .before .is-ktx2 .ensures) ∙ c .before .before .before .if4 .left,
-      sym (c .before .before .is-sheet .ensures) ∙ c .before .if5 .taken,
-    )
+returns-5 c = simp (
+  sym (c .before .before .before .before .before .before .before .before .before .before .has4 .ensures) ∙ c .before .before .before .before .before .before .before .before .before .if1 .left,
+  sym (c .before .before .before .before .before .before .before .before .has42 .ensures) ∙ c .before .before .before .before .before .before .before .if2 .left,
+  sym (c .before .before .before .before .before .before .is-ktx1 .ensures) ∙ c .before .before .before .before .before .if3 .left,
+  sym (c .before .before .before .before .is-ktx2 .ensures) ∙ c .before .before .before .if4 .left,
+  sym (c .before .before .is-sheet .ensures) ∙ c .before .if5 .taken,
+)
     (c .header5 .ensures)
 
 returns-6 : tie.Need-returns-6
 unfolding headerOf
-returns-6 c =     simp (
-      sym (c .before .before .before .before .before .before .before .before .before .has4 .ensures) ∙ c .before .before .before .before .before .before .before .before .if1 .left,
-      sym (c .before .before .before .before .before .before .before .has42 .ensures) ∙ c .before .before .before .before .before .before .if2 .left,
-      sym (c .before .before .before .before .before .is-ktx1 .ensures) ∙ c .before .before .before .before .if3 .left,
-      sym (c .before .before .before .is-ktx2 .ensures) ∙ c .before .before .if4 .left,
-      sym (c .before .is-sheet .ensures) ∙ c .if5 .left,
-    )
+returns-6 c = simp (
+  sym (c .before .before .before .before .before .before .before .before .before .has4 .ensures) ∙ c .before .before .before .before .before .before .before .before .if1 .left,
+  sym (c .before .before .before .before .before .before .before .has42 .ensures) ∙ c .before .before .before .before .before .before .if2 .left,
+  sym (c .before .before .before .before .before .is-ktx1 .ensures) ∙ c .before .before .before .before .if3 .left,
+  sym (c .before .before .before .is-ktx2 .ensures) ∙ c .before .before .if4 .left,
+  sym (c .before .is-sheet .ensures) ∙ c .if5 .left,
+)
 
 pub header-spec : {M : Type 1} → statement M
 header-spec =

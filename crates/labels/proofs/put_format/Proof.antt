@@ -116,6 +116,51 @@ slice-aggregate-put-12 c = search needs
 put-requires-12 : tie.Need-put-requires-12
 put-requires-12 c κs = search needs
 
+enum-told-13 : tie.Need-enum-told-13
+enum-told-13 c = search needs
+
+slice-aggregate-put-13 : tie.Need-slice-aggregate-put-13
+slice-aggregate-put-13 c = search needs
+
+put-requires-13 : tie.Need-put-requires-13
+put-requires-13 c κs = search needs
+
+enum-told-14 : tie.Need-enum-told-14
+enum-told-14 c = search needs
+
+slice-aggregate-put-14 : tie.Need-slice-aggregate-put-14
+slice-aggregate-put-14 c = search needs
+
+put-requires-14 : tie.Need-put-requires-14
+put-requires-14 c κs = search needs
+
+enum-told-15 : tie.Need-enum-told-15
+enum-told-15 c = search needs
+
+slice-aggregate-put-15 : tie.Need-slice-aggregate-put-15
+slice-aggregate-put-15 c = search needs
+
+put-requires-15 : tie.Need-put-requires-15
+put-requires-15 c κs = search needs
+
+enum-told-16 : tie.Need-enum-told-16
+enum-told-16 c = search needs
+
+slice-aggregate-put-16 : tie.Need-slice-aggregate-put-16
+slice-aggregate-put-16 c = search needs
+
+put-requires-16 : tie.Need-put-requires-16
+put-requires-16 c κs = search needs
+
+enum-told-17 : tie.Need-enum-told-17
+enum-told-17 c = search needs
+
+slice-aggregate-put-17 : tie.Need-slice-aggregate-put-17
+slice-aggregate-put-17 c = search needs
+
+put-requires-17 : tie.Need-put-requires-17
+put-requires-17 c κs = search needs
+
 same-length : tie.Need-same-length
 same-length c = search needs
 
@@ -224,6 +269,51 @@ returns-12 c =
     let p = c .before .before in
     briefly _ _ _ _ _ _ 20 (sym (ap formatName (p .before .before .before .enum-told12 .given .1))) (p .put12 .ensures) (omega arith)
 
+same-length-13 : tie.Need-same-length-13
+same-length-13 c = search needs
+
+returns-13 : tie.Need-returns-13
+unfolding formatName
+returns-13 c =
+    let p = c .before .before in
+    briefly _ _ _ _ _ _ 20 (sym (ap formatName (p .before .before .before .enum-told13 .given .1))) (p .put13 .ensures) (omega arith)
+
+same-length-14 : tie.Need-same-length-14
+same-length-14 c = search needs
+
+returns-14 : tie.Need-returns-14
+unfolding formatName
+returns-14 c =
+    let p = c .before .before in
+    briefly _ _ _ _ _ _ 20 (sym (ap formatName (p .before .before .before .enum-told14 .given .1))) (p .put14 .ensures) (omega arith)
+
+same-length-15 : tie.Need-same-length-15
+same-length-15 c = search needs
+
+returns-15 : tie.Need-returns-15
+unfolding formatName
+returns-15 c =
+    let p = c .before .before in
+    briefly _ _ _ _ _ _ 20 (sym (ap formatName (p .before .before .before .enum-told15 .given .1))) (p .put15 .ensures) (omega arith)
+
+same-length-16 : tie.Need-same-length-16
+same-length-16 c = search needs
+
+returns-16 : tie.Need-returns-16
+unfolding formatName
+returns-16 c =
+    let p = c .before .before in
+    briefly _ _ _ _ _ _ 20 (sym (ap formatName (p .before .before .before .enum-told16 .given .1))) (p .put16 .ensures) (omega arith)
+
+same-length-17 : tie.Need-same-length-17
+same-length-17 c = search needs
+
+returns-17 : tie.Need-returns-17
+unfolding formatName
+returns-17 c =
+    let p = c .before .before in
+    briefly _ _ _ _ _ _ 20 (sym (ap formatName (p .before .before .before .enum-told17 .given .1))) (p .put17 .ensures) (omega arith)
+
 pub put-format-spec : {M : Type 1} → statement M
 put-format-spec =
     tie.close
@@ -264,6 +354,21 @@ put-format-spec =
     enum-told-12
     slice-aggregate-put-12
     put-requires-12
+    enum-told-13
+    slice-aggregate-put-13
+    put-requires-13
+    enum-told-14
+    slice-aggregate-put-14
+    put-requires-14
+    enum-told-15
+    slice-aggregate-put-15
+    put-requires-15
+    enum-told-16
+    slice-aggregate-put-16
+    put-requires-16
+    enum-told-17
+    slice-aggregate-put-17
+    put-requires-17
     same-length
     returns
     same-length-2
@@ -287,4 +392,14 @@ put-format-spec =
     same-length-11
     returns-11
     same-length-12
-    returns-12)
+    returns-12
+    same-length-13
+    returns-13
+    same-length-14
+    returns-14
+    same-length-15
+    returns-15
+    same-length-16
+    returns-16
+    same-length-17
+    returns-17)

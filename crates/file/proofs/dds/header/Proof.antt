@@ -34,7 +34,7 @@ header-as-requires c κs = search needs
 
 returns-3 : tie.Need-returns-3
 unfolding ddsOf
-returns-3 c =     let d = now (c .before .before .before .before .before .before .before .before .args .d) in
+returns-3 c = let d = now (c .before .before .before .before .before .before .before .before .args .d) in
     simp (
       le-ltb _ _ (c .before .before .before .before .before .before .if1 .left),
       sym (c .before .before .before .before .before .is-dx10 .ensures) ∙ c .before .before .before .before .if2 .left,
@@ -44,11 +44,11 @@ returns-3 c =     let d = now (c .before .before .before .before .before .before
 
 returns-4 : tie.Need-returns-4
 unfolding ddsOf
-returns-4 c =     simp (
-      le-ltb _ _ (c .before .before .before .before .if1 .left),
-      sym (c .before .before .before .is-dx10 .ensures) ∙ c .before .before .if2 .left,
-      sym (c .before .dds-flat .ensures) ∙ c .if3 .left,
-    )
+returns-4 c = simp (
+  le-ltb _ _ (c .before .before .before .before .if1 .left),
+  sym (c .before .before .before .is-dx10 .ensures) ∙ c .before .before .if2 .left,
+  sym (c .before .dds-flat .ensures) ∙ c .if3 .left,
+)
 
 pub header-spec : {M : Type 1} → statement M
 header-spec =

@@ -30,13 +30,13 @@ returns c = simp (c .enum-told .given .1)
 
 returns-2 : tie.Need-returns-2
 unfolding ddsAs
-returns-2 c =     simp (
-      c .before .before .before .before .before .known .given .1,
-      sym (c .before .before .before .little4 .ensures .0),
-      sym (c .before .before .little42 .ensures .0),
-      sym (c .before .little43 .ensures .0),
-      sym (c .one-at-least .ensures),
-    )
+returns-2 c = simp (
+  c .before .before .before .before .before .known .given .1,
+  sym (c .before .before .before .little4 .ensures .0),
+  sym (c .before .before .little42 .ensures .0),
+  sym (c .before .little43 .ensures .0),
+  sym (c .one-at-least .ensures),
+)
 
 pub header-as-spec : {M : Type 1} → statement M
 header-as-spec =

@@ -10,7 +10,10 @@ use Rattle.rules.specs.FileFormats.{formatList, formatAt}
 use Rattle.file.proofs.formats.format_at.Statement.{statement}
 use Rattle.file.proofs.formats.format_at.Tie as tie
 
--- the one that is left of the twelve
+-- the one that is left of the seventeen
+highest : (n : ℕ) → n < 17 → (n ≡ 12 → ⊥) → (n ≡ 13 → ⊥) → (n ≡ 14 → ⊥) → (n ≡ 15 → ⊥) → (n ≡ 16 → ⊥) → n < 12
+highest n h a b c d e = omega arith
+
 high : (n : ℕ) → n < 12 → (n ≡ 8 → ⊥) → (n ≡ 9 → ⊥) → (n ≡ 10 → ⊥) → (n ≡ 11 → ⊥) → n < 8
 high n h a b c d = omega arith
 
@@ -20,22 +23,29 @@ low n h a b c d = omega arith
 first : (n : ℕ) → n < 4 → (n ≡ 1 → ⊥) → (n ≡ 2 → ⊥) → (n ≡ 3 → ⊥) → n ≡ 0
 first n h a b c = omega arith
 
--- none of 1 to 7
+-- none of 1 to 7, and none of 1 to 11
 Lower : ℕ → Type 0
 Lower n =
     ((((((Unit {0} × (n ≡ 1 → ⊥)) × (n ≡ 2 → ⊥)) × (n ≡ 3 → ⊥)) × (n ≡ 4 → ⊥)) × (n ≡ 5 → ⊥)) × (n ≡ 6 → ⊥)) × (n ≡ 7 → ⊥)
+
+Middle : ℕ → Type 0
+Middle n = (((Lower n × (n ≡ 8 → ⊥)) × (n ≡ 9 → ⊥)) × (n ≡ 10 → ⊥)) × (n ≡ 11 → ⊥)
 
 zero-of : (n : ℕ) → n < 8 → Lower n → n ≡ 0
 unfolding Lower
 zero-of n h r =
     first n (low n h (r .0 .0 .0 .1) (r .0 .0 .1) (r .0 .1) (r .1)) (r .0 .0 .0 .0 .0 .0 .1) (r .0 .0 .0 .0 .0 .1) (r .0 .0 .0 .0 .1)
 
-others : (n : ℕ) → (((Lower n × (n ≡ 8 → ⊥)) × (n ≡ 9 → ⊥)) × (n ≡ 10 → ⊥)) × (n ≡ 11 → ⊥) → Etc1 ≡ formatAt n
+zero-in : (n : ℕ) → n < 12 → Middle n → n ≡ 0
+unfolding Middle
+zero-in n h r = zero-of n (high n h (r .0 .0 .0 .1) (r .0 .0 .1) (r .0 .1) (r .1)) (r .0 .0 .0 .0)
+
+others : (n : ℕ) → ((((Middle n × (n ≡ 12 → ⊥)) × (n ≡ 13 → ⊥)) × (n ≡ 14 → ⊥)) × (n ≡ 15 → ⊥)) × (n ≡ 16 → ⊥) → Etc1 ≡ formatAt n
 unfolding formatAt
 others n r =
-    elim (decLt n 12) [
-      | yes h ↦ sym (ap formatAt (zero-of n (high n h (r .0 .0 .0 .1) (r .0 .0 .1) (r .0 .1) (r .1)) (r .0 .0 .0 .0)))
-      | no h ↦ let k : 12 ≤ n = omega (arith, h) in sym (List·getD-eq-default formatList Etc1 k)
+    elim (decLt n 17) [
+      | yes h ↦ sym (ap formatAt (zero-in n (highest n h (r .0 .0 .0 .0 .1) (r .0 .0 .0 .1) (r .0 .0 .1) (r .0 .1) (r .1)) (r .0 .0 .0 .0 .0)))
+      | no h ↦ let k : 17 ≤ n = omega (arith, h) in sym (List·getD-eq-default formatList Etc1 k)
     ]
 
 returns : tie.Need-returns
@@ -83,8 +93,28 @@ unfolding formatAt
 returns-11 c = sym (ap formatAt (c .match .keys11))
 
 returns-12 : tie.Need-returns-12
-unfolding Lower
-returns-12 c = others (c .before .args .n) (c .match .rest)
+unfolding formatAt
+returns-12 c = sym (ap formatAt (c .match .keys12))
+
+returns-13 : tie.Need-returns-13
+unfolding formatAt
+returns-13 c = sym (ap formatAt (c .match .keys13))
+
+returns-14 : tie.Need-returns-14
+unfolding formatAt
+returns-14 c = sym (ap formatAt (c .match .keys14))
+
+returns-15 : tie.Need-returns-15
+unfolding formatAt
+returns-15 c = sym (ap formatAt (c .match .keys15))
+
+returns-16 : tie.Need-returns-16
+unfolding formatAt
+returns-16 c = sym (ap formatAt (c .match .keys16))
+
+returns-17 : tie.Need-returns-17
+unfolding Lower Middle
+returns-17 c = others _ (c .match .rest)
 
 pub format-at-spec : {M : Type 1} → statement M
 format-at-spec =
@@ -101,4 +131,9 @@ format-at-spec =
     returns-9
     returns-10
     returns-11
-    returns-12)
+    returns-12
+    returns-13
+    returns-14
+    returns-15
+    returns-16
+    returns-17)

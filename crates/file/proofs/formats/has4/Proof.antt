@@ -18,7 +18,7 @@ big4-requires : tie.Need-big4-requires
 big4-requires c κs = search needs
 
 returns-2 : tie.Need-returns-2
-returns-2 c =     let a = c .before .before .before .args in
+returns-2 c = let a = c .before .before .before .args in
     simp (le-ltb _ _ (c .before .if1 .left)) (ap (λ (z : ℕ). eqb z (a .number)) (c .big4 .ensures .0))
 
 pub has4-spec : {M : Type 1} → statement M

@@ -48,7 +48,7 @@ shared-slice-read-t15 : tie.Need-shared-slice-read-t15 Inv-loop μ-loop
 shared-slice-read-t15 c = omega arith
 
 returns : tie.Need-returns Inv-loop μ-loop
-returns c =     let l = c .before .before .before .before .before .loop in
+returns c = let l = c .before .before .before .before .before .loop in
     let a = c .before .before .before .before .before .before .args in
     sym (sym (l .inv .1) ∙ turn (now (a .table)) (l .i) (a .number) (omega arith) ∙ simp (eq-eqb (a .number) _ (sym (c .before .before .if1 .taken))))
 
@@ -59,12 +59,12 @@ loop-less : tie.Need-loop-less Inv-loop μ-loop
 loop-less c = omega arith
 
 loop-again : tie.Need-loop-again Inv-loop μ-loop
-loop-again c =     let l = c .before .before .before .loop in
+loop-again c = let l = c .before .before .before .loop in
     let a = c .before .before .before .before .args in
     (omega arith, sym (turn (now (a .table)) (l .i) (a .number) (omega arith) ∙ simp (ne-eqb (a .number) (getD (now (a .table)) (l .i) 0) (λ z. c .if1 .left (sym z)))) ∙ l .inv .1)
 
 returns-2 : tie.Need-returns-2 Inv-loop μ-loop
-returns-2 c =     let l = c .before .loop in
+returns-2 c = let l = c .before .loop in
     let a = c .before .before .args in
     sym (over (now (a .table)) (l .i) (a .number) (omega arith)) ∙ l .inv .1
 

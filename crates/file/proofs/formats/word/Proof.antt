@@ -16,12 +16,12 @@ little4-requires c κs = search needs
 
 returns : tie.Need-returns
 unfolding word32
-returns c =     let a = c .before .before .before .args in
+returns c = let a = c .before .before .before .args in
     (c .big4 .ensures .0 ∙ sym (ap (λ (b : Bool). word32 b (now (a .d)) (a .at)) (c .before .if1 .taken)), c .big4 .ensures .1)
 
 returns-2 : tie.Need-returns-2
 unfolding word32
-returns-2 c =     let a = c .before .before .before .args in
+returns-2 c = let a = c .before .before .before .args in
     (c .little4 .ensures .0 ∙ sym (ap (λ (b : Bool). word32 b (now (a .d)) (a .at)) (c .before .if1 .left)), c .little4 .ensures .1)
 
 pub word-spec : {M : Type 1} → statement M

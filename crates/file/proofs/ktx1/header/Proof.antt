@@ -26,12 +26,12 @@ header-in-requires-2 c κs = search needs
 
 returns-3 : tie.Need-returns-3
 unfolding ktx1Of
-returns-3 c =     let v = c .before .before .before .big4 .ensures .0 in
+returns-3 c = let v = c .before .before .before .big4 .ensures .0 in
     simp (le-ltb _ _ (c .before .before .before .before .if1 .left), other v (c .before .before .if2 .left), same v (c .before .if3 .taken)) (c .header-in2 .ensures)
 
 returns-4 : tie.Need-returns-4
 unfolding ktx1Of
-returns-4 c =     let v = c .before .before .big4 .ensures .0 in
+returns-4 c = let v = c .before .before .big4 .ensures .0 in
     simp (le-ltb _ _ (c .before .before .before .if1 .left), other v (c .before .if2 .left), other v (c .if3 .left))
 
 pub header-spec : {M : Type 1} → statement M

@@ -30,6 +30,9 @@ order-number-requires c κs = search needs
 word-requires-4 : tie.Need-word-requires-4
 word-requires-4 c κs = search needs
 
+orientation-requires : tie.Need-orientation-requires
+orientation-requires c κs = search needs
+
 add-start : tie.Need-add-start
 add-start c = search needs
 
@@ -39,15 +42,15 @@ returns c = simp (c .enum-told .given .1)
 
 returns-2 : tie.Need-returns-2
 unfolding ktx1As
-returns-2 c =     simp (
-      c .before .before .before .before .before .before .before .known .given .1,
-      sym (c .before .before .before .before .before .word .ensures .0),
-      sym (c .before .before .before .before .word2 .ensures .0),
-      sym (c .before .before .before .word3 .ensures .0),
-      sym (c .word4 .ensures .0),
-      sym (c .before .before .one-at-least .ensures),
-      sym (c .before .order-number .ensures),
-    )
+returns-2 c = simp (
+  c .before .before .before .before .before .before .before .before .known .given .1,
+  sym (c .before .before .before .before .before .before .word .ensures .0),
+  sym (c .before .before .before .before .before .word2 .ensures .0),
+  sym (c .before .before .before .before .word3 .ensures .0),
+  sym (c .before .word4 .ensures .0),
+  sym (c .before .before .before .one-at-least .ensures),
+)
+    (rw (sym (c .orientation .ensures), sym (c .before .before .order-number .ensures)))
 
 pub header-as-spec : {M : Type 1} → statement M
 header-as-spec =
@@ -61,6 +64,7 @@ header-as-spec =
     one-at-least-requires
     order-number-requires
     word-requires-4
+    orientation-requires
     add-start
     returns
     returns-2)

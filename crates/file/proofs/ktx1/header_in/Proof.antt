@@ -32,7 +32,7 @@ header-as-requires c κs = search needs
 
 returns : tie.Need-returns
 unfolding ktx1In
-returns c =     let a = c .before .before .before .before .before .before .before .before .before .args in
+returns c = let a = c .before .before .before .before .before .before .before .before .before .args in
     simp (
       sym (c .before .before .before .before .before .before .before .word .ensures .0),
       sym (c .before .before .before .before .before .before .word2 .ensures .0),
@@ -43,12 +43,12 @@ returns c =     let a = c .before .before .before .before .before .before .befor
 
 returns-2 : tie.Need-returns-2
 unfolding ktx1In
-returns-2 c =     simp (
-      sym (c .before .before .before .before .word .ensures .0),
-      sym (c .before .before .before .word2 .ensures .0),
-      sym (c .before .before .word3 .ensures .0),
-      sym (c .before .is-flat .ensures) ∙ c .if1 .left,
-    )
+returns-2 c = simp (
+  sym (c .before .before .before .before .word .ensures .0),
+  sym (c .before .before .before .word2 .ensures .0),
+  sym (c .before .before .word3 .ensures .0),
+  sym (c .before .is-flat .ensures) ∙ c .if1 .left,
+)
 
 pub header-in-spec : {M : Type 1} → statement M
 header-in-spec =

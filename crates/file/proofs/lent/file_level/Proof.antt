@@ -23,7 +23,7 @@ number-requires : tie.Need-number-requires
 number-requires c κs = search needs
 
 returns : tie.Need-returns
-returns c =     let k = c .before .before .before .before in
+returns c = let k = c .before .before .before .before in
     let a = k .before .before .args in
     let e = c .before .before .told .given .1 in
     record {
@@ -34,7 +34,7 @@ returns c =     let k = c .before .before .before .before in
     }
 
 returns-2 : tie.Need-returns-2
-returns-2 c =     let k = c .before .before .before .before in
+returns-2 c = let k = c .before .before .before .before in
     let a = k .before .before .args in
     let e = c .before .before .told2 .given .1 in
     record {

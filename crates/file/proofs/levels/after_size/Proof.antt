@@ -14,7 +14,7 @@ use Rattle.file.proofs.levels.after_size.Tie as tie
 
 returns : tie.Need-returns
 unfolding afterSize
-returns c =     let a = c .before .before .args in
+returns c = let a = c .before .before .args in
     simp (lt-ltb (length (now (a .bytes))) (a .at + 4) (omega arith))
 
 sub-if2 : tie.Need-sub-if2
@@ -22,7 +22,7 @@ sub-if2 c = search needs
 
 returns-2 : tie.Need-returns-2
 unfolding afterSize
-returns-2 c =     let a = c .before .before .before .args in
+returns-2 c = let a = c .before .before .before .args in
     simp (lt-ltb (length (now (a .bytes))) (a .at + 4) (omega arith))
 
 word-requires : tie.Need-word-requires
@@ -30,7 +30,7 @@ word-requires c κs = search needs
 
 returns-3 : tie.Need-returns-3
 unfolding afterSize
-returns-3 c =     let a = c .before .before .before .before .before .args in
+returns-3 c = let a = c .before .before .before .before .before .args in
     simp (le-ltb (length (now (a .bytes))) (a .at + 4) (omega arith), other (c .before .word .ensures .0) (c .if3 .taken))
 
 add-inside : tie.Need-add-inside
@@ -41,7 +41,7 @@ inside-requires c κs = search needs
 
 returns-4 : tie.Need-returns-4
 unfolding afterSize
-returns-4 c =     let a = c .before .before .before .before .before .before .args in
+returns-4 c = let a = c .before .before .before .before .before .before .args in
     simp (le-ltb (length (now (a .bytes))) (a .at + 4) (omega arith), same (c .before .before .word .ensures .0) (c .before .if3 .left)) (c .inside .ensures)
 
 pub after-size-spec : {M : Type 1} → statement M

@@ -20,13 +20,13 @@ size-requires : tie.Need-size-requires
 size-requires c κs = search needs
 
 mul-result : tie.Need-mul-result
-mul-result c =     let b = c .before .before in
+mul-result c = let b = c .before .before in
     let h : b .blocks-of .result * c .size .result ≤ 0x100000000 = mul-le-mul (b .blocks-of .ensures .1) (c .size .ensures .1) in
     omega arith
 
 returns : tie.Need-returns
 unfolding bytesFor
-returns c =     let b = c .before .before in
+returns c = let b = c .before .before in
     (ap₂ _*_ (b .blocks-of .ensures .0) (c .size .ensures .0 ∙ ap sizeOf (c .before .format-at .ensures)), mul-le-mul (b .blocks-of .ensures .1) (c .size .ensures .1))
 
 pub bytes-for-spec : {M : Type 1} → statement M

@@ -26,11 +26,11 @@ returns-2 c = simp (sym (c .before .before .before .is-empty .ensures) ∙ c .be
 
 returns-3 : tie.Need-returns-3
 unfolding heldOf
-returns-3 c =     simp (
-      sym (c .before .before .before .before .before .is-empty .ensures) ∙ c .before .before .before .before .if1 .left,
-      sym (c .before .before .before .too-large .ensures) ∙ c .before .before .if2 .left,
-      not-true (c .before .before .before .before .before .before .before .args .l .agrees) (c .if3 .taken),
-    )
+returns-3 c = simp (
+  sym (c .before .before .before .before .before .is-empty .ensures) ∙ c .before .before .before .before .if1 .left,
+  sym (c .before .before .before .too-large .ensures) ∙ c .before .before .if2 .left,
+  not-true (c .before .before .before .before .before .before .before .args .l .agrees) (c .if3 .taken),
+)
 
 larger-requires : tie.Need-larger-requires
 larger-requires c κs = search needs
@@ -43,7 +43,7 @@ too-many-requires c κs = search needs
 
 returns-4 : tie.Need-returns-4
 unfolding heldOf
-returns-4 c =     let a = c .before .before .before .before .before .before .before .before .before .before .before .args in
+returns-4 c = let a = c .before .before .before .before .before .before .before .before .before .before .before .args in
     simp (
       sym (c .before .before .before .before .before .before .before .before .before .is-empty .ensures) ∙ c .before .before .before .before .before .before .before .before .if1 .left,
       sym (c .before .before .before .before .before .before .before .too-large .ensures) ∙ c .before .before .before .before .before .before .if2 .left,
@@ -52,7 +52,7 @@ returns-4 c =     let a = c .before .before .before .before .before .before .bef
     )
 
 levels-requires : tie.Need-levels-requires
-levels-requires c κs =     let a = c .before .before .before .before .before .before .before .before .before .before .before .args in
+levels-requires c κs = let a = c .before .before .before .before .before .before .before .before .before .before .before .args in
     let p = sound (a .l .width) (a .l .height) (a .l .levels)
     (sym (c .before .before .before .before .before .before .before .too-large .ensures) ∙ c .before .before .before .before .before .before .if2 .left)
     (sym (c .before .too-many .ensures ∙ ap₂ tooMany (c .before .before .before .larger .ensures) (c .before .before .less .ensures)) ∙ c .if4 .left) in
@@ -60,7 +60,7 @@ levels-requires c κs =     let a = c .before .before .before .before .before .b
 
 returns-5 : tie.Need-returns-5
 unfolding heldOf
-returns-5 c =     let a = c .before .before .before .before .before .before .before .before .before .before .before .before .args in
+returns-5 c = let a = c .before .before .before .before .before .before .before .before .before .before .before .before .args in
     simp (
       sym (c .before .before .before .before .before .before .before .before .before .before .is-empty .ensures) ∙ c .before .before .before .before .before .before .before .before .before .if1 .left,
       sym (c .before .before .before .before .before .before .before .before .too-large .ensures) ∙ c .before .before .before .before .before .before .before .if2 .left,

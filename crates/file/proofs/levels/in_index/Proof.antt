@@ -48,7 +48,7 @@ inside-requires c κs = search needs
 
 returns-3 : tie.Need-returns-3
 unfolding inIndex
-returns-3 c =     let e = c .before .before in
+returns-3 c = let e = c .before .before in
     let a = e .before .before .before .before .args in
     simp (le-ltb _ _ (e .before .before .if1 .left), same (e .before .little8 .ensures) (e .if2 .left))
     (c .inside .ensures ∙ ap (λ (z : ℕ). insideOf (now (a .bytes)) z (a .need)) (c .before .little82 .ensures))

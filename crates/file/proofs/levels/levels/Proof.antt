@@ -15,7 +15,7 @@ use Rattle.file.proofs.levels.levels.Statement.{statement}
 use Rattle.file.proofs.levels.levels.Tie as tie
 
 abbrev Inv-loop : tie.InvT-loop
-Inv-loop bytes l n s₀ left₀ found₀ i₀ s left found i =     (i ≤ l .levels)
+Inv-loop bytes l n s₀ left₀ found₀ i₀ s left found i = (i ≤ l .levels)
     × (s .width ≤ limit)
     × (s .height ≤ limit)
     × (levelsFrom l bytes n left found i (l .levels - i) s ≡ levelsOf l bytes n)
@@ -38,7 +38,7 @@ level-at-requires c κs = omega arith
 
 left-behind-requires : tie.Need-left-behind-requires Inv-loop μ-loop
 unfolding levelAt
-left-behind-requires c κs =     let f = c .before .before .before .before in
+left-behind-requires c κs = let f = c .before .before .before .before in
     let l = c .before .before .before .before .before .before .before .loop in
     let a = c .before .before .before .before .before .before .before .before .before .args in
     simp (c .level-at .ensures)
@@ -48,7 +48,7 @@ chosen-requires : tie.Need-chosen-requires Inv-loop μ-loop
 chosen-requires c κs = search needs
 
 next-spot-requires : tie.Need-next-spot-requires Inv-loop μ-loop
-next-spot-requires c κs =     let l = c .before .before .before .before .before .before .before .before .before .loop in
+next-spot-requires c κs = let l = c .before .before .before .before .before .before .before .before .before .loop in
     let a = c .before .before .before .before .before .before .before .before .before .before .before .args in
     let h = fits (a .l) (now (a .bytes)) (l .i) (l .s) _ (sym (c .before .before .before .before .fit .given .1) ∙ c .before .before .before .before .before .before .fit-of .ensures) in
     (omega arith, omega arith, omega arith)
@@ -61,32 +61,31 @@ loop-less c = omega arith
 
 loop-again : tie.Need-loop-again Inv-loop μ-loop
 unfolding levelAt
-loop-again c =     let t = c .before .before .before .level-at in
+loop-again c = let t = c .before .before .before .level-at in
     let l = c .before .before .before .before .before .before .before .before .before .before .loop in
-    let a = c .before .before .before .before .before .before .before .before .before .before .before .before .args in
-    (
+    let a = c .before .before .before .before .before .before .before .before .before .before .before .before .args in (
       omega arith,
       c .next-spot .ensures .1,
       c .next-spot .ensures .2,
       onward (a .l) (now (a .bytes)) (a .n) (l .left) (l .found) (l .i) (l .s) (c .before .before .before .before .before .fit .given .0 .0) _ _ _
-      (omega arith)
-      (sym (c .before .before .before .before .before .fit .given .1) ∙ c .before .before .before .before .before .before .before .fit-of .ensures)
-      (c .before .before .left-behind .ensures ∙ ap (λ (z : FileLevel). lesser (l .left) (length (now (a .bytes)) - (z .start + z .length))) (t .ensures))
-      (c .before .chosen .ensures ∙ ap (λ (z : FileLevel). chosen (a .n) (l .i) z (l .found)) (t .ensures))
-      (c .next-spot .ensures .0)
-      ∙ l .inv .3,
+          (omega arith)
+          (sym (c .before .before .before .before .before .fit .given .1) ∙ c .before .before .before .before .before .before .before .fit-of .ensures)
+          (c .before .before .left-behind .ensures ∙ ap (λ (z : FileLevel). lesser (l .left) (length (now (a .bytes)) - (z .start + z .length))) (t .ensures))
+          (c .before .chosen .ensures ∙ ap (λ (z : FileLevel). chosen (a .n) (l .i) z (l .found)) (t .ensures))
+          (c .next-spot .ensures .0)
+          ∙ l .inv .3,
     )
 
 enum-known-fit-2 : tie.Need-enum-known-fit-2 Inv-loop μ-loop
 enum-known-fit-2 c = search needs
 
 returns : tie.Need-returns Inv-loop μ-loop
-returns c =     let l = c .before .before .before .before .before .before .loop in
+returns c = let l = c .before .before .before .before .before .before .loop in
     let a = c .before .before .before .before .before .before .before .before .args in
     stops (a .l) (now (a .bytes)) (a .n) (l .left) (l .found) (l .i) (l .s) _ (omega arith) (sym (c .before .fit2 .given .1) ∙ c .before .before .before .fit-of .ensures) ∙ l .inv .3
 
 returns-2 : tie.Need-returns-2 Inv-loop μ-loop
-returns-2 c =     let l = c .before .before .loop in
+returns-2 c = let l = c .before .before .loop in
     let a = c .before .before .before .before .args in
     sym (over (a .l) (now (a .bytes)) (a .n) (l .left) (l .found) (l .i) (l .s) (omega arith)) ∙ l .inv .3
 

@@ -21,7 +21,7 @@ halved-requires-2 c κs = search needs
 
 returns : tie.Need-returns
 unfolding nextSpot
-returns c =     let h = c .before .halved in
+returns c = let h = c .before .halved in
     let b = c .before .before .bytes-for in
     (simp (sym (h .ensures .0), sym (c .halved2 .ensures .0), sym (b .ensures .0)), omega (arith, h .ensures .1), omega (arith, c .halved2 .ensures .1))
 

@@ -19,7 +19,7 @@ loop-holds : tie.Need-loop-holds Inv-loop μ-loop
 loop-holds c = (omega arith, simp sub-zero)
 
 returns : tie.Need-returns Inv-loop μ-loop
-returns c =     let l = c .before .before .loop in
+returns c = let l = c .before .before .loop in
     let a = c .before .before .before .args in
     sym (ends (l .side) (a .more) (l .i) (omega arith) (omega arith)) ∙ l .inv .1
 
@@ -30,12 +30,12 @@ loop-less : tie.Need-loop-less Inv-loop μ-loop
 loop-less c = omega arith
 
 loop-again : tie.Need-loop-again Inv-loop μ-loop
-loop-again c =     let l = c .before .before .loop in
+loop-again c = let l = c .before .before .loop in
     let a = c .before .before .before .args in
     (omega arith, halves (l .side) (a .more) (l .i) (omega arith) (omega arith) ∙ l .inv .1)
 
 returns-2 : tie.Need-returns-2 Inv-loop μ-loop
-returns-2 c =     let l = c .before .loop in
+returns-2 c = let l = c .before .loop in
     let a = c .before .before .args in
     sym (enough (l .side) (a .more) (l .i) (omega arith)) ∙ l .inv .1
 

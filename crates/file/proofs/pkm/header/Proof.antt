@@ -29,7 +29,7 @@ header-as-requires c κs = search needs
 
 returns-2 : tie.Need-returns-2
 unfolding pkmOf
-returns-2 c =     let d = now (c .before .before .before .before .before .before .before .args .d) in
+returns-2 c = let d = now (c .before .before .before .before .before .before .before .args .d) in
     simp (le-ltb _ _ (c .before .before .before .before .before .if1 .left), same (c .before .before .before .before .big2 .ensures .0) (c .before .before .if2 .taken))
     (c .header-as .ensures ∙ ap (λ (z : KnownFormat). pkmAs z d) (c .before .type-1 .ensures ∙ ap (known pkmRows1) (c .before .before .before .big22 .ensures .0)))
 
@@ -41,14 +41,14 @@ header-as-requires-2 c κs = search needs
 
 returns-3 : tie.Need-returns-3
 unfolding pkmOf
-returns-3 c =     let d = now (c .before .before .before .before .before .before .before .before .args .d) in
+returns-3 c = let d = now (c .before .before .before .before .before .before .before .before .args .d) in
     let v = c .before .before .before .before .before .big2 .ensures .0 in
     simp (le-ltb _ _ (c .before .before .before .before .before .before .if1 .left), other v (c .before .before .before .if2 .left), same v (c .before .before .if3 .taken))
     (c .header-as2 .ensures ∙ ap (λ (z : KnownFormat). pkmAs z d) (c .before .type-2 .ensures ∙ ap (known pkmRows2) (c .before .before .before .before .big22 .ensures .0)))
 
 returns-4 : tie.Need-returns-4
 unfolding pkmOf
-returns-4 c =     let v = c .before .before .before .big2 .ensures .0 in
+returns-4 c = let v = c .before .before .before .big2 .ensures .0 in
     simp (le-ltb _ _ (c .before .before .before .before .if1 .left), other v (c .before .if2 .left), other v (c .if3 .left))
 
 pub header-spec : {M : Type 1} → statement M

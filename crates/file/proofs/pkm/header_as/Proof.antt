@@ -38,15 +38,15 @@ returns c = simp (c .enum-told .given .1)
 
 returns-2 : tie.Need-returns-2
 unfolding pkmAs
-returns-2 c =     simp (
-      c .before .before .before .before .before .before .before .known .given .1,
-      sym (c .before .before .before .before .before .big2 .ensures .0),
-      sym (c .before .before .before .before .big22 .ensures .0),
-      sym (c .before .before .before .big23 .ensures .0),
-      sym (c .before .big24 .ensures .0),
-      sym (c .before .before .padded .ensures),
-      sym (c .padded2 .ensures),
-    )
+returns-2 c = simp (
+  c .before .before .before .before .before .before .before .known .given .1,
+  sym (c .before .before .before .before .before .big2 .ensures .0),
+  sym (c .before .before .before .before .big22 .ensures .0),
+  sym (c .before .before .before .big23 .ensures .0),
+  sym (c .before .big24 .ensures .0),
+  sym (c .before .before .padded .ensures),
+  sym (c .padded2 .ensures),
+)
 
 pub header-as-spec : {M : Type 1} → statement M
 header-as-spec =

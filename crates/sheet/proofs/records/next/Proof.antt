@@ -62,8 +62,7 @@ loop-again : tie.Need-loop-again Inv-loop μ-loop
 loop-again c =
     let l = c .before .before .before .before .before .before in
     let a = l .before .before .args in
-    let t = turn (c .before) in
-    (
+    let t = turn (c .before) in (
       t .within,
       omega (arith, t .beyond),
       l .loop .inv .2 ∙ skips (now (a .d)) (l .loop .at) _ _ _ t (omega (arith, c .if1 .left)),
