@@ -1,4 +1,5 @@
-/* ETC1, ETC2, EAC, BC1 to BC5 and BC7 textures, and the degrees that their colours mean, read by proved code.
+/* ETC1, ETC2, EAC, BC1 to BC5 and BC7 textures, the files that hold them, and the degrees that their colours mean, read by
+ * proved code.
  *
  * Link with the static library that `bindings/archive FILE.a` writes. Every function may be
  * called from several threads at once, allocates nothing, keeps nothing between calls but in what
