@@ -54,7 +54,7 @@ pub fn near(tolerance: u32, p: u32, q: u32) -> bool
 }
 
 // The larger of two numbers.
-fn larger(a: u32, b: u32) -> u32
+pub fn larger(a: u32, b: u32) -> u32
     ensures { λ r. ⌜ r ≡ max a b ⌝ }
 {
     if a < b { b } else { a }

@@ -51,16 +51,16 @@ module _ (g : Guard) (p : Picture) (d : List ℕ) where
   joins c r n f q w j =
       rw (add-one n)
       (record {
-        few = omega (arith, q .few, w .few, j .pixels);
+        few = omega (arith, q .few, w .all .few, j .pixels);
         fewer = let h = more-most (ltb (f .place) 16) (c .blocks) n (q .fewer) in omega (arith, h, j .blocks);
-        pixels = rw (j .pixels, q .pixels, w .counted);
+        pixels = rw (j .pixels, q .pixels, w .all .counted);
         blocks = rw (j .blocks, q .blocks, w .first);
         block = rw (j .block, q .block, w .first);
         place =
             place-turn (λ b. firstOf (wrongAt g p d b) 16) (firstOf (hasWrong g p d) n) n (c .block) (c .place) (f .place) (r .place)
             (first (wrongAt g p d n) 16 .within) (q .block) (q .place) (w .first) (j .place);
-        colour = rw (j .colour, q .colour, w .farthest);
-        alpha = rw (j .alpha, q .alpha, w .clearest);
+        colour = rw (j .colour, q .colour, w .all .farthest);
+        alpha = rw (j .alpha, q .alpha, w .all .clearest);
       })
 
   -- what is said

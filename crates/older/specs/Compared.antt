@@ -16,16 +16,16 @@ use Rattle.older.specs.declared.Found.{Found}
 use Rattle.older.specs.declared.OlderCounts.{OlderCounts}
 
 -- the first n places compared
-pub record Compared (shown : ℕ → Bool) (old new : ℕ → ℕ) (n pixels place colour alpha : ℕ) : Type 0 where
+pub record Compared (shown : ℕ → Bool) (old new : ℕ → ℕ) (n pixels colour alpha : ℕ) : Type 0 where
   pub few : pixels ≤ n
   pub counted : pixels ≡ countOf (wrong shown old new) n
-  pub first : place ≡ firstOf (wrong shown old new) n
   pub farthest : colour ≡ mostOf (colourOff shown old new) n
   pub clearest : alpha ≡ mostOf (alphaOff shown old new) n
 
 -- a block's sixteen places; and so of block n of a picture
-abbrev pub Finds : (ℕ → Bool) → (ℕ → ℕ) → (ℕ → ℕ) → Found → Type 0
-Finds shown old new f = Compared shown old new 16 (f .pixels) (f .place) (f .colour) (f .alpha)
+pub record Finds (shown : ℕ → Bool) (old new : ℕ → ℕ) (f : Found) : Type 0 where
+  pub all : Compared shown old new 16 (f .pixels) (f .colour) (f .alpha)
+  pub first : f .place ≡ firstOf (wrong shown old new) 16
 
 abbrev pub FindsIn : Guard → Picture → List ℕ → ℕ → Found → Type 0
 FindsIn g p d n f = Finds (inPicture p n) (olderAt g d n) (newerAt g d n) f

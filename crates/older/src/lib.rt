@@ -4,17 +4,17 @@ use guard::Viewer;
 use rules::Answer;
 use rules::Picture;
 ghost use mathlib.Core.Path.{_≡_};
-ghost use mathlib.Core.Bool.{Bool, cond, not, _&&_};
-ghost use Prim.Native.Nat.{ℕ, suc, _*_, _<_, _≤_, max};
+ghost use mathlib.Core.Bool.{cond, not, _&&_};
+ghost use Prim.Native.Nat.{ℕ, suc, _*_, _<_, _≤_};
 ghost use lib.Dec.{ltb, eqb};
 ghost use lib.ListN.{length, getD};
 ghost use Rattle.rules.specs.Pixel.{alphaOf};
 ghost use Rattle.rules.specs.Places.{blocks};
-ghost use Rattle.rules.specs.Answers.{limit};
-ghost use Rattle.rules.specs.Census.{more as moreOf};
+ghost use Rattle.rules.specs.Answers.{limit, firstOf};
+ghost use Rattle.rules.specs.Census.{more};
 ghost use Rattle.rules.specs.Checking.{apart, farthest};
 ghost use Rattle.guard.specs.Viewers.{guardOf};
-ghost use Rattle.older.specs.Older.{CountsOlder};
+ghost use Rattle.older.specs.Older.{wrong, CountsOlder};
 ghost use Rattle.older.specs.Compared.{Finds, FindsIn, clipped, Counted, Joined};
 
 // How many pixels of a picture two rules show differently, and how many blocks have one; the first such block and its first such place,
@@ -24,8 +24,8 @@ pub struct OlderCounts {
     pub blocks: usize,
     pub block: usize,
     pub place: usize,
-    pub colour: usize,
-    pub alpha: usize,
+    pub colour: u32,
+    pub alpha: u32,
 }
 
 // What is answered. The number and values of each case are `olderSaid`, in specs/Older.antt.
@@ -37,10 +37,10 @@ pub enum Older {
 
 // The same of one block: how many pixels, the first of them or 16, and the differences.
 struct Found {
-    pixels: usize,
+    pixels: u32,
     place: usize,
-    colour: usize,
-    alpha: usize,
+    colour: u32,
+    alpha: u32,
 }
 
 // Whether a pixel is shown, and not alike.
@@ -51,47 +51,29 @@ fn is_wrong(shown: bool, p: u32, q: u32) -> bool
 }
 
 // One more where a test holds.
-fn more(n: usize, holds: bool) -> usize
-    requires { ⌜ n ≤ 0x10000000 ⌝ }
-    ensures { λ r. ⌜ r ≡ moreOf holds n ⌝ }
+fn one_more(n: u32, holds: bool) -> u32
+    requires { ⌜ n ≤ 16 ⌝ }
+    ensures { λ r. ⌜ r ≡ more holds n ⌝ }
 {
     if holds { n + 1 } else { n }
 }
 
-// The first place of those up to k, where the first of those before k is known.
-fn first_up_to(first: usize, k: usize, holds: bool) -> usize
-    requires { ⌜ k ≤ 0x10000000 ⌝ }
-    ensures { λ r. ⌜ r ≡ cond (ltb first k) first (cond holds k (suc k)) ⌝ }
-{
-    if first < k {
-        return first;
-    }
-    if holds { k } else { k + 1 }
-}
-
-// The larger of two numbers.
-fn larger(a: usize, b: usize) -> usize
-    ensures { λ r. ⌜ r ≡ max a b ⌝ }
-{
-    if a < b { b } else { a }
-}
-
 // How far the colour of a wrong pixel is off; any other is off by 0.
-fn colour_off(wrong: bool, p: u32, q: u32) -> usize
+fn colour_off(wrong: bool, p: u32, q: u32) -> u32
     ensures { λ r. ⌜ r ≡ cond wrong (farthest p q) 0 ⌝ }
 {
     if wrong {
-        return distance::farthest(p, q) as usize;
+        return distance::farthest(p, q);
     }
     0
 }
 
 // And its alpha.
-fn alpha_off(wrong: bool, p: u32, q: u32) -> usize
+fn alpha_off(wrong: bool, p: u32, q: u32) -> u32
     ensures { λ r. ⌜ r ≡ cond wrong (apart (alphaOf p) (alphaOf q)) 0 ⌝ }
 {
     if wrong {
-        return distance::alphas(p, q) as usize;
+        return distance::alphas(p, q);
     }
     0
 }
@@ -105,28 +87,42 @@ fn is_shown(k: usize, columns: usize, rows: usize) -> bool
     beside & below
 }
 
-// Compares what two rules show of a block, as far as its columns and rows are shown.
+// The first place of a block that two rules show differently, or 16, as far as its columns and rows are shown.
+fn first_wrong(old: &[u32; 16], new: &[u32; 16], columns: usize, rows: usize) -> usize
+    ensures { λ r. ⌜ r ≡ firstOf (wrong (clipped columns rows) (λ (k : ℕ). getD (now (old .entry)) k 0) (λ (k : ℕ). getD (now (new .entry)) k 0)) 16 ⌝ }
+{
+    let mut k: usize = 0;
+    while k < 16 {
+        if is_wrong(is_shown(k, columns, rows), old[k], new[k]) {
+            return k;
+        }
+        k += 1;
+    }
+    16
+}
+
+// Compares what two rules show of a block, as far as its columns and rows are shown. The first place has a loop of its own, which mostly
+// ends at once: without it LLVM compares four places at a time.
 fn compare(old: [u32; 16], new: [u32; 16], columns: usize, rows: usize) -> Found
     ensures { λ r. ⌜ Finds (clipped columns rows) (λ (k : ℕ). getD old k 0) (λ (k : ℕ). getD new k 0) r ⌝ }
 {
-    let mut pixels: usize = 0;
-    let mut place: usize = 0;
-    let mut colour: usize = 0;
-    let mut alpha: usize = 0;
+    let first = first_wrong(&old, &new, columns, rows);
+    let mut pixels: u32 = 0;
+    let mut colour: u32 = 0;
+    let mut alpha: u32 = 0;
     let mut k: usize = 0;
     while k < 16 {
         let p = old[k];
         let q = new[k];
         let wrong = is_wrong(is_shown(k, columns, rows), p, q);
-        pixels = more(pixels, wrong);
-        place = first_up_to(place, k, wrong);
-        colour = larger(colour_off(wrong, p, q), colour);
-        alpha = larger(alpha_off(wrong, p, q), alpha);
+        pixels = one_more(pixels, wrong);
+        colour = distance::larger(colour_off(wrong, p, q), colour);
+        alpha = distance::larger(alpha_off(wrong, p, q), alpha);
         k += 1;
     }
     Found {
         pixels: pixels,
-        place: place,
+        place: first,
         colour: colour,
         alpha: alpha,
     }
@@ -162,6 +158,25 @@ fn in_block(viewer: Viewer, data: &[u8], pic: Picture, b: usize) -> Found
     }
 }
 
+// One more block where it has a wrong pixel.
+fn block_more(n: usize, some: bool) -> usize
+    requires { ⌜ n ≤ 0x10000000 ⌝ }
+    ensures { λ r. ⌜ r ≡ more some n ⌝ }
+{
+    if some { n + 1 } else { n }
+}
+
+// The first block of those up to b, where the first of those before b is known.
+fn first_up_to(first: usize, b: usize, some: bool) -> usize
+    requires { ⌜ b ≤ 0x10000000 ⌝ }
+    ensures { λ r. ⌜ r ≡ cond (ltb first b) first (cond some b (suc b)) ⌝ }
+{
+    if first < b {
+        return first;
+    }
+    if some { b } else { b + 1 }
+}
+
 // The first of two numbers where a test holds, and else the second.
 fn either(holds: bool, a: usize, b: usize) -> usize
     ensures { λ r. ⌜ r ≡ cond holds a b ⌝ }
@@ -177,12 +192,12 @@ fn join(c: OlderCounts, b: usize, f: Found) -> OlderCounts
     let some = f.place < 16;
     let found = c.block < b;
     OlderCounts {
-        pixels: c.pixels + f.pixels,
-        blocks: more(c.blocks, some),
+        pixels: c.pixels + f.pixels as usize,
+        blocks: block_more(c.blocks, some),
         block: first_up_to(c.block, b, some),
         place: either(found, c.place, f.place),
-        colour: larger(f.colour, c.colour),
-        alpha: larger(f.alpha, c.alpha),
+        colour: distance::larger(f.colour, c.colour),
+        alpha: distance::larger(f.alpha, c.alpha),
     }
 }
 

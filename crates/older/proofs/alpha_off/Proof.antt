@@ -7,9 +7,6 @@ use Rattle.older.proofs.alpha_off.Tie as tie
 alphas-requires : tie.Need-alphas-requires
 alphas-requires c κs = search needs
 
-cast-result : tie.Need-cast-result
-cast-result c = search needs
-
 returns : tie.Need-returns
 returns c = rw (c .before .if1 .taken) (c .alphas .ensures)
 
@@ -17,4 +14,4 @@ returns-2 : tie.Need-returns-2
 returns-2 c = search needs
 
 pub alpha-off-spec : {M : Type 1} → statement M
-alpha-off-spec = tie.close (tie.spec alphas-requires cast-result returns returns-2)
+alpha-off-spec = tie.close (tie.spec alphas-requires returns returns-2)

@@ -7,9 +7,6 @@ use Rattle.older.proofs.colour_off.Tie as tie
 farthest-requires : tie.Need-farthest-requires
 farthest-requires c κs = search needs
 
-cast-result : tie.Need-cast-result
-cast-result c = search needs
-
 returns : tie.Need-returns
 returns c = rw (c .before .if1 .taken) (c .farthest .ensures)
 
@@ -17,4 +14,4 @@ returns-2 : tie.Need-returns-2
 returns-2 c = search needs
 
 pub colour-off-spec : {M : Type 1} → statement M
-colour-off-spec = tie.close (tie.spec farthest-requires cast-result returns returns-2)
+colour-off-spec = tie.close (tie.spec farthest-requires returns returns-2)

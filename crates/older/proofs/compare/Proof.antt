@@ -11,11 +11,14 @@ use Rattle.older.proofs.compare.Statement.{statement}
 use Rattle.older.proofs.compare.Tie as tie
 
 abbrev Inv-loop : tie.InvT-loop
-Inv-loop columns rows old new pixels₀ place₀ colour₀ alpha₀ k₀ pixels place colour alpha k =
-    (k ≤ 16) × Compared (clipped columns rows) (λ (i : ℕ). getD old i 0) (λ (i : ℕ). getD new i 0) k pixels place colour alpha
+Inv-loop columns rows old new first pixels₀ colour₀ alpha₀ k₀ pixels colour alpha k =
+    (k ≤ 16) × Compared (clipped columns rows) (λ (i : ℕ). getD old i 0) (λ (i : ℕ). getD new i 0) k pixels colour alpha
 
 abbrev μ-loop : tie.MeasureT-loop
-μ-loop columns rows old new pixels₀ place₀ colour₀ alpha₀ k₀ pixels place colour alpha k = 16 - k
+μ-loop columns rows old new first pixels₀ colour₀ alpha₀ k₀ pixels colour alpha k = 16 - k
+
+first-wrong-requires : tie.Need-first-wrong-requires Inv-loop μ-loop
+first-wrong-requires c κs = search needs
 
 loop-holds : tie.Need-loop-holds Inv-loop μ-loop
 loop-holds c = (omega arith, begin _ _ _)
@@ -38,11 +41,8 @@ is-shown-requires c κs = search needs
 is-wrong-requires : tie.Need-is-wrong-requires Inv-loop μ-loop
 is-wrong-requires c κs = search needs
 
-more-requires : tie.Need-more-requires Inv-loop μ-loop
-more-requires c κs = search needs
-
-first-up-to-requires : tie.Need-first-up-to-requires Inv-loop μ-loop
-first-up-to-requires c κs = search needs
+one-more-requires : tie.Need-one-more-requires Inv-loop μ-loop
+one-more-requires c κs = search needs
 
 colour-off-requires : tie.Need-colour-off-requires Inv-loop μ-loop
 colour-off-requires c κs = search needs
@@ -64,14 +64,13 @@ loop-less c = search needs
 
 loop-again : tie.Need-loop-again Inv-loop μ-loop
 loop-again c =
-    let m = c .before .before .before .before .before in
+    let m = c .before .before .before .before in
     let s = m .before .before in
     let l = s .before .before .loop in (
       omega (arith, s .before .loop-test .taken),
-      turn _ _ _ (l .k) (l .pixels) (l .place) (l .colour) (l .alpha) (m .before .is-wrong .result) _ _ _ _ (l .inv .1)
+      turn _ _ _ (l .k) (l .pixels) (l .colour) (l .alpha) (m .before .is-wrong .result) _ _ _ (l .inv .1)
           (rw (s .is-shown .ensures) at (m .before .is-wrong .ensures))
-          (m .more .ensures)
-          (c .before .before .before .before .first-up-to .ensures)
+          (m .one-more .ensures)
           (rw (c .before .before .before .colour-off .ensures) at (c .before .before .larger .ensures))
           (rw (c .before .alpha-off .ensures) at (c .larger2 .ensures)),
     )
@@ -80,7 +79,7 @@ returns : tie.Need-returns Inv-loop μ-loop
 returns c =
     let l = c .before .loop in
     let e : l .k ≡ 16 = omega (arith, l .inv .0, c .loop-test .left) in
-    rw e at (l .inv .1)
+    record { all = rw e at (l .inv .1); first = c .before .before .first-wrong .ensures }
 
 pub compare-spec : {M : Type 1} → statement M
 compare-spec =
@@ -88,6 +87,7 @@ compare-spec =
     (tie.spec
     Inv-loop
     μ-loop
+    first-wrong-requires
     loop-holds
     mul-p
     array-read-p
@@ -95,8 +95,7 @@ compare-spec =
     array-read-q
     is-shown-requires
     is-wrong-requires
-    more-requires
-    first-up-to-requires
+    one-more-requires
     colour-off-requires
     larger-requires
     alpha-off-requires

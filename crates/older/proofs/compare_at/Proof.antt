@@ -100,11 +100,11 @@ returns c =
     let new = x .before in
     let old = new .before .before in
     let g = guardOf (a .viewer) in
-    alike _ (inPicture (a .pic) (a .b)) _ (olderAt g d (a .b)) _ (newerAt g d (a .b)) 16
+    alike _ (inPicture (a .pic) (a .b)) _ (olderAt g d (a .b)) _ (newerAt g d (a .b))
     (λ k l. place.shown (a .pic) (a .b) (s .pre .0) (x .across .result) (x .across .ensures) k)
     (λ k l. at-place (old .before .own .result) (g .own) d (old .block-at .result) (a .b) k (old .before .own .ensures) (eight (a .viewer)) (old .block-at .ensures) l)
     (λ k l. at-place (new .before .shown .result) (g .shown) d (new .block-at2 .result) (a .b) k (new .before .shown .ensures) (shown-eight (a .viewer)) (new .block-at2 .ensures) l)
-    _ _ _ _ (c .compare .ensures)
+    _ (c .compare .ensures)
 
 pub compare-at-spec : {M : Type 1} → statement M
 compare-at-spec =

@@ -54,7 +54,7 @@ returns-2 c =
     let good : g .bad (bytesOf 8 d (a .b)) ≡ false =
     sym (ap (g .bad) (part 8 (a .b) d))
     ∙ passed (g .number) (sound (a .viewer) .is-refusal) (j .judged .result) _ (a .b) (j .judged .ensures) (ap said (c .enum-told .given .1)) in
-    nothing (inPicture (a .pic) (a .b)) (olderAt g d (a .b)) (newerAt g d (a .b)) (λ k. sound (a .viewer) .agree (bytesOf 8 d (a .b)) (k % 4) (k / 4) good) 16
+    nothing (inPicture (a .pic) (a .b)) (olderAt g d (a .b)) (newerAt g d (a .b)) (λ k. sound (a .viewer) .agree (bytesOf 8 d (a .b)) (k % 4) (k / 4) good)
 
 pub in-block-spec : {M : Type 1} → statement M
 in-block-spec =
