@@ -1,6 +1,7 @@
 // The public list: that of src/etc.rs, BC1, BC3 and BC7. Sixteen block readers, twelve picture readers, strict ETC1 and RGBA1 for an
 // opaque-only viewer, each of these fourteen with a twin that takes the description with its pitch; four readers of EAC's whole values,
-// likewise; the checks of strict ETC1 and of an opaque-only viewer without an image; two censuses; the readers and the writer of sheets; the reader of a picture in pieces; the reader of degrees; and the checker
+// likewise; the checks of strict ETC1 and of an opaque-only viewer without an image; two censuses; two counts of
+// what an older viewer shows wrong; the readers and the writer of sheets; the reader of a picture in pieces; the reader of degrees; and the checker
 // and the baker of ETC1 blocks. None asks anything of its caller. Each promises the answer and every element of what it is lent
 // afterwards, for all inputs; what that is, crates/rules/specs/Readers.antt, Whole.antt, Census.antt, Sheets.antt, Pieces.antt,
 // Degrees.antt, Checking.antt and Baking.antt say for all of them. Refusals: 1 width,
@@ -11,6 +12,8 @@
 // only). A refusal changes nothing. 18 is no refusal: the checker does not accept the block.
 use bake::baker;
 use block_readers::Joined;
+use guard::Viewer;
+use older::Older;
 use rules::Answer;
 use rules::Baking;
 use rules::Format;
@@ -31,6 +34,8 @@ ghost use lib.ListN.{length, getD};
 ghost use Rattle.rules.specs.Places.{sized};
 ghost use Rattle.rules.specs.Answers.{said};
 ghost use Rattle.rules.specs.Census.{CountsRgb, CountsRgba1};
+ghost use Rattle.rules.specs.Guards.{inRange, opaqueOnly};
+ghost use Rattle.older.specs.Older.{CountsOlder};
 ghost use Rattle.rules.specs.Readers.{ReadsPicture, ReadsStrict, ReadsOpaque, ReadsBlock, ReadsAlpha, ReadsChannel, ReplacesChannel};
 ghost use Rattle.rules.specs.Readers.{ChecksStrict, ChecksOpaque};
 ghost use Rattle.rules.specs.Whole.{ReadsWhole};
@@ -500,6 +505,30 @@ pub fn census_etc2_rgba1(data: &[u8], width: usize, height: usize) -> Rgba1Censu
         pitch: width,
     };
     census::rgba1(data, pic)
+}
+
+// Counts what a viewer that knows ETC1 alone shows wrong of an ETC2 RGB picture: pixels, blocks, the first of them, and by how much.
+pub fn older_etc1(data: &[u8], width: usize, height: usize) -> Older
+    ensures { λ r. ⌜ CountsOlder inRange (now («data» .entry)) (sized width height) r ⌝ }
+{
+    let pic = Picture {
+        width: width,
+        height: height,
+        pitch: width,
+    };
+    older::count(Viewer::Etc1, data, pic)
+}
+
+// The same of a viewer that knows ETC2 RGB, but nothing transparent, and an RGBA1 picture.
+pub fn older_rgb(data: &[u8], width: usize, height: usize) -> Older
+    ensures { λ r. ⌜ CountsOlder opaqueOnly (now («data» .entry)) (sized width height) r ⌝ }
+{
+    let pic = Picture {
+        width: width,
+        height: height,
+        pitch: width,
+    };
+    older::count(Viewer::Opaque, data, pic)
 }
 
 // Tells the format, the width and the height that a sheet's head names, or why the sheet is refused: the whole walk without an image,
