@@ -10,6 +10,7 @@ pub mod Opaque
 pub mod Unpainted
 pub mod Older
 pub mod Shown
+pub mod ShownRows
 pub mod Blocks
 pub mod Census
 pub mod Sheets

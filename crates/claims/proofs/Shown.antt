@@ -2,7 +2,7 @@
 -- refuses, and of every pixel. All of it is over the guard; the two pairs stand at the end, each with a block that is refused though every
 -- pixel of it is right.
 -- Assumes nothing.
-use mathlib.Core.Path.{_≡_, _∙_, refl, sym, ap, subst}
+use mathlib.Core.Path.{_≡_, _∙_, refl, sym, ap}
 use mathlib.Core.Bool.{Bool, true, false, cond, not, _&&_, true≢false}
 use mathlib.Core.List.{List, [], _∷_}
 use mathlib.Core.Logic.{⊎-elim}
@@ -10,10 +10,10 @@ use Prim.Native.Nat.{ℕ, zero, suc, _+_, _-_, _*_, _/_, _%_, _<_, _≤_, max}
 use native.Mathlib.Omega.{arith}
 use native.Mathlib.Decide.{decLt}
 use native.Mathlib.Nat.{eq-or-lt-of-le, div-add-mod'}
-use borrow.Author.Tests.{ltb-true, lt-ltb, le-ltb, eqb-true, eqb-false, ne-eqb, eq-eqb}
+use borrow.Author.Tests.{ltb-true, lt-ltb, le-ltb, eqb-true, eq-eqb}
 use lib.Dec.{T as So, ltb, eqb}
 use lib.ListN.{length, getD}
-use Rattle.rules.specs.Pixel.{alphaOf, redOf, greenOf, blueOf}
+use Rattle.rules.specs.Pixel.{alphaOf}
 use Rattle.rules.specs.Places.{element, column, row, inside, across, needed, blocks, blockAt, bytesOf, pixelAt, tile}
 use Rattle.rules.specs.Answers.{firstOf, guarded}
 use Rattle.rules.specs.Census.{countOf}
@@ -21,18 +21,18 @@ use Rattle.rules.specs.Checking.{apart, farthest}
 use Rattle.rules.specs.Colour.{outOfRange, kindBySums, wrapped}
 use Rattle.rules.specs.Counting.{sumOf, mostOf}
 use Rattle.rules.specs.Formats.{sizeOf, showsOf}
-use Rattle.rules.specs.Guards.{Guard, badAt, inRange, opaqueOnly}
+use Rattle.rules.specs.Guards.{Guard, badAt}
 use Rattle.rules.specs.Modes.{etc1Pixel, rgbPixel, indexed, tBases, tDistance}
 use Rattle.rules.specs.Readers.{pictureOf}
 use Rattle.rules.specs.declared.Picture.{Picture}
-use Rattle.laws.proofs.Counts.{nowhere, somewhere, first-then-counted}
+use Rattle.laws.proofs.Counts.{nowhere, somewhere}
 use Rattle.laws.proofs.First.{first}
 use Rattle.laws.proofs.Guards.{Sound, none-bad}
 use Rattle.laws.proofs.Paint.{painted-same, getD-painted}
 use Rattle.pixel.proofs.place.Grid.{rem-at, div-at, covered, column-in, row-in, column-at, row-at, inside-at, reached, roomy}
-use Rattle.blocks.proofs.Blocks.{block-in, stands}
-use Rattle.older.specs.Older.{olderAt, newerAt, inPicture, wrong, wrongAt, hasWrong, colourOff, alphaOff}
-use Rattle.older.specs.Older.{wrongPixels, wrongBlocks, firstBlock, firstPlace, mostColour, mostAlpha, olderCounts}
+use Rattle.blocks.proofs.Blocks.{block-in}
+use Rattle.older.specs.Older.{olderAt, newerAt, inPicture, wrongAt, hasWrong, colourOff, alphaOff}
+use Rattle.older.specs.Older.{wrongPixels, wrongBlocks, firstBlock, mostColour, mostAlpha}
 use Rattle.older.proofs.Turn.{nothing}
 use Rattle.older.proofs.Place.{some-of}
 
@@ -98,10 +98,6 @@ no-later t u n h =
 both : (a b : Bool) → (a && b) ≡ true → (a ≡ true) × (b ≡ true)
 both true b e = (refl, e)
 both false b e = absurd (true≢false (sym e))
-
-as-so : (a : Bool) → a ≡ true → So a
-as-so true e = tt
-as-so false e = absurd (true≢false (sym e))
 
 from-so : (a : Bool) → So a → a ≡ true
 from-so true s = refl
