@@ -10,7 +10,7 @@ use Rattle.rules.specs.Pixel.{alphaOf}
 use Rattle.rules.specs.Places.{across, blocks, bytesOf}
 use Rattle.rules.specs.Answers.{judged, firstOf}
 use Rattle.rules.specs.Formats.{showsOf}
-use Rattle.rules.specs.Guards.{Guard, inRange, opaqueOnly}
+use Rattle.rules.specs.Guards.{Guard}
 use Rattle.rules.specs.Census.{countOf, censusChecks}
 use Rattle.rules.specs.Counting.{sumOf, mostOf}
 use Rattle.rules.specs.Checking.{apart, farthest}

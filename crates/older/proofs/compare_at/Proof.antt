@@ -5,7 +5,7 @@ use mathlib.Core.List.{List}
 use Prim.Native.Nat.{ℕ, _+_, _-_, _*_, _/_, _%_, _<_, _≤_}
 use native.Mathlib.Omega.{arith}
 use denote.Ref.{now}
-use lib.ListN.{length, getD}
+use lib.ListN.{getD}
 use Rattle.rules.specs.Places.{across, blocks, tile, bytesOf}
 use Rattle.rules.specs.Formats.{sizeOf, showsOf}
 use Rattle.rules.specs.declared.Format.{Format}
@@ -15,7 +15,6 @@ use Rattle.guard.specs.declared.Viewer.{Viewer}
 use Rattle.guard.proofs.Scan.{eight, sound}
 use Rattle.blocks.proofs.Blocks.{room}
 use Rattle.older.specs.Older.{olderAt, newerAt, inPicture}
-use Rattle.older.specs.Compared.{Finds, clipped}
 use Rattle.older.proofs.Turn.{alike}
 use Rattle.older.proofs.Place as place
 use borrow.Author.Needs.{needs}

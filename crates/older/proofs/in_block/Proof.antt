@@ -1,12 +1,9 @@
 -- `older::in_block` meets its contract: where the guard lets a block pass, both rules show the same.
 -- Assumes nothing.
 use mathlib.Core.Path.{_≡_, _∙_, sym, ap}
-use mathlib.Core.Bool.{Bool, false}
-use mathlib.Core.List.{List}
-use Prim.Native.Nat.{ℕ, _/_, _%_}
-use native.Mathlib.Omega.{arith}
+use mathlib.Core.Bool.{false}
+use Prim.Native.Nat.{_/_, _%_}
 use denote.Ref.{now}
-use lib.ListN.{length-take, length-drop}
 use Rattle.rules.specs.Places.{bytesOf}
 use Rattle.rules.specs.Answers.{said}
 use Rattle.laws.proofs.Parts.{part}
