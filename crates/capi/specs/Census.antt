@@ -10,7 +10,7 @@ use Rattle.rules.specs.Guards.{Guard}
 use Rattle.rules.specs.declared.Answer.{Answer}
 use Rattle.rules.specs.declared.Picture.{Picture}
 use Rattle.capi.specs.census_lent.Lays.{laid}
-use Rattle.older.specs.Older.{olderCounts}
+use Rattle.rules.specs.Older.{olderCounts}
 
 -- the checks of a census, and then refusal 3 where the room has fewer than n elements, for as many counts
 abbrev pub roomChecks : ℕ → Picture → ℕ → ℕ → List Check

@@ -7,9 +7,9 @@ mod pictures;
 mod pieces_lent;
 
 use guard::Viewer;
-use older::Older;
 use rules::Answer;
 use rules::Format;
+use rules::Older;
 use rules::Picture;
 use rules::RgbCensus;
 use rules::Rgba1Census;

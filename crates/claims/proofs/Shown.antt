@@ -31,8 +31,8 @@ use Rattle.laws.proofs.Guards.{Sound, none-bad}
 use Rattle.laws.proofs.Paint.{painted-same, getD-painted}
 use Rattle.pixel.proofs.place.Grid.{rem-at, div-at, covered, column-in, row-in, column-at, row-at, inside-at, reached, roomy}
 use Rattle.blocks.proofs.Blocks.{block-in}
-use Rattle.older.specs.Older.{olderAt, newerAt, inPicture, wrongAt, hasWrong, colourOff, alphaOff}
-use Rattle.older.specs.Older.{wrongPixels, wrongBlocks, firstBlock, mostColour, mostAlpha}
+use Rattle.rules.specs.Older.{olderAt, newerAt, inPicture, wrongAt, hasWrong, colourOff, alphaOff}
+use Rattle.rules.specs.Older.{wrongPixels, wrongBlocks, firstBlock, mostColour, mostAlpha}
 use Rattle.older.proofs.Turn.{nothing}
 use Rattle.older.proofs.Place.{some-of}
 

@@ -15,7 +15,7 @@ use Rattle.rules.specs.Formats.{showsOf}
 use Rattle.rules.specs.Guards.{inRange, opaqueOnly}
 use Rattle.rules.specs.Modes.{etc1Pixel, rgbPixel, rgba1Pixel, indexed, tBases, tDistance, hBases, hDistance, planarBases, planarChannel}
 use Rattle.rules.proofs.Rows.{same, bytes as eights}
-use Rattle.older.specs.Older.{olderVerdict}
+use Rattle.rules.specs.Older.{olderVerdict}
 
 -- the size and the blocks; what a viewer of ETC1 alone shows wrong of them, and one of RGB
 tells : ℕ → ℕ → List ℕ → List ℕ → List ℕ → Bool

@@ -17,10 +17,10 @@ use Rattle.rules.specs.Counting.{sumOf, mostOf}
 use Rattle.rules.specs.Guards.{Guard}
 use Rattle.rules.specs.declared.Picture.{Picture}
 use Rattle.laws.proofs.First.{first}
-use Rattle.older.specs.Older.{wrongAt, hasWrong, olderCounts, olderVerdict, olderValues}
+use Rattle.rules.specs.Older.{wrongAt, hasWrong, olderCounts, olderVerdict, olderValues}
 use Rattle.older.specs.Compared.{FindsIn, Counted, Joined}
 use Rattle.older.specs.declared.Found.{Found}
-use Rattle.older.specs.declared.OlderCounts.{OlderCounts}
+use Rattle.rules.specs.declared.OlderCounts.{OlderCounts}
 use Rattle.older.proofs.Turn.{more-most}
 
 -- the first place of the first block: where a block was found before, it stays; otherwise it is that of the last block, if it has one

@@ -10,7 +10,7 @@ use lib.Dec.{ltb}
 use Rattle.rules.specs.Places.{across, blocks}
 use Rattle.rules.specs.declared.Picture.{Picture}
 use Rattle.blocks.proofs.Blocks.{stands, high}
-use Rattle.older.specs.Older.{inPicture}
+use Rattle.rules.specs.Older.{inPicture}
 use Rattle.older.specs.Compared.{clipped}
 
 -- a place is left of an edge where it is in what is left of the picture

@@ -13,7 +13,7 @@ use Rattle.rules.specs.Counting.{mostOf}
 use Rattle.rules.specs.Checking.{apart, farthest}
 use Rattle.laws.proofs.First.{first, only, first-alike}
 use Rattle.laws.proofs.Counts.{same-below, nowhere}
-use Rattle.older.specs.Older.{wrong, colourOff, alphaOff}
+use Rattle.rules.specs.Older.{wrong, colourOff, alphaOff}
 use Rattle.older.specs.Compared.{Compared, Finds}
 use Rattle.older.specs.declared.Found.{Found}
 

@@ -10,10 +10,10 @@ use Rattle.rules.specs.Census.{more, countOf}
 use Rattle.rules.specs.Counting.{mostOf}
 use Rattle.rules.specs.Guards.{Guard}
 use Rattle.rules.specs.declared.Picture.{Picture}
-use Rattle.older.specs.Older.{olderAt, newerAt, inPicture, wrong, colourOff, alphaOff}
-use Rattle.older.specs.Older.{wrongPixels, wrongBlocks, firstBlock, firstPlace, mostColour, mostAlpha}
+use Rattle.rules.specs.Older.{olderAt, newerAt, inPicture, wrong, colourOff, alphaOff}
+use Rattle.rules.specs.Older.{wrongPixels, wrongBlocks, firstBlock, firstPlace, mostColour, mostAlpha}
 use Rattle.older.specs.declared.Found.{Found}
-use Rattle.older.specs.declared.OlderCounts.{OlderCounts}
+use Rattle.rules.specs.declared.OlderCounts.{OlderCounts}
 
 -- the first n places compared
 pub record Compared (shown : ℕ → Bool) (old new : ℕ → ℕ) (n pixels colour alpha : ℕ) : Type 0 where

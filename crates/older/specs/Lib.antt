@@ -1,2 +1,1 @@
-pub mod Older
 pub mod Compared

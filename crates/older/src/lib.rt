@@ -2,6 +2,8 @@
 use bake::distance;
 use guard::Viewer;
 use rules::Answer;
+use rules::Older;
+use rules::OlderCounts;
 use rules::Picture;
 ghost use mathlib.Core.Path.{_≡_};
 ghost use mathlib.Core.Bool.{cond, not, _&&_};
@@ -14,26 +16,8 @@ ghost use Rattle.rules.specs.Answers.{limit, firstOf};
 ghost use Rattle.rules.specs.Census.{more};
 ghost use Rattle.rules.specs.Checking.{apart, farthest};
 ghost use Rattle.guard.specs.Viewers.{guardOf};
-ghost use Rattle.older.specs.Older.{wrong, CountsOlder};
+ghost use Rattle.rules.specs.Older.{wrong, CountsOlder};
 ghost use Rattle.older.specs.Compared.{Finds, FindsIn, clipped, Counted, Joined};
-
-// How many pixels of a picture two rules show differently, and how many blocks have one; the first such block and its first such place,
-// or the number of blocks and 16 where there is none; and the largest difference of a red, a green or a blue, and of an alpha.
-pub struct OlderCounts {
-    pub pixels: usize,
-    pub blocks: usize,
-    pub block: usize,
-    pub place: usize,
-    pub colour: u32,
-    pub alpha: u32,
-}
-
-// What is answered. The number and values of each case are `olderSaid`, in specs/Older.antt.
-pub enum Older {
-    Counted(OlderCounts),
-    TooLarge,
-    ShortData,
-}
 
 // The same of one block: how many pixels, the first of them or 16, and the differences.
 struct Found {

@@ -8,7 +8,7 @@ use borrow.Author.Needs.{needs}
 use Rattle.rules.specs.Places.{sized, blocks}
 use Rattle.rules.specs.declared.Answer.the-variants.{TooLarge, ShortData}
 use Rattle.guard.specs.Viewers.{guardOf}
-use Rattle.older.specs.Older.{olderCounts, olderSaid}
+use Rattle.rules.specs.Older.{olderCounts, olderSaid}
 use Rattle.capi.proofs.Counted.{refused, lays}
 use Rattle.capi.proofs.older_counts.Statement.{statement}
 use Rattle.capi.proofs.older_counts.Tie as tie

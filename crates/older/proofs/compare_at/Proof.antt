@@ -14,7 +14,7 @@ use Rattle.guard.specs.Viewers.{guardOf}
 use Rattle.guard.specs.declared.Viewer.{Viewer}
 use Rattle.guard.proofs.Scan.{eight, sound}
 use Rattle.blocks.proofs.Blocks.{room}
-use Rattle.older.specs.Older.{olderAt, newerAt, inPicture}
+use Rattle.rules.specs.Older.{olderAt, newerAt, inPicture}
 use Rattle.older.proofs.Turn.{alike}
 use Rattle.older.proofs.Place as place
 use borrow.Author.Needs.{needs}

@@ -14,7 +14,7 @@ use Rattle.rules.specs.Places.{blocks}
 use Rattle.rules.specs.Answers.{limit, tooLarge}
 use Rattle.checks.proofs.Checks.{within}
 use Rattle.guard.specs.Viewers.{guardOf}
-use Rattle.older.specs.Older.{olderCounts}
+use Rattle.rules.specs.Older.{olderCounts}
 use Rattle.older.proofs.Counts.{told, too-large, too-short, passes}
 use Rattle.older.proofs.count.Statement.{statement}
 use Rattle.older.proofs.count.Tie as tie

@@ -7,7 +7,7 @@ use Prim.Native.Nat.{ℕ, _-_}
 use lib.ListN.{getD}
 use borrow.Author.Needs.{needs}
 use Rattle.guard.proofs.Scan.{Scanned, begin, goes-on, found, ended}
-use Rattle.older.specs.Older.{wrong}
+use Rattle.rules.specs.Older.{wrong}
 use Rattle.older.specs.Compared.{clipped}
 use Rattle.older.proofs.first_wrong.Statement.{statement}
 use Rattle.older.proofs.first_wrong.Tie as tie

@@ -9,7 +9,7 @@ use Rattle.rules.specs.Answers.{said}
 use Rattle.laws.proofs.Parts.{part}
 use Rattle.guard.specs.Viewers.{guardOf}
 use Rattle.guard.proofs.Scan.{sound, passed}
-use Rattle.older.specs.Older.{olderAt, newerAt, inPicture}
+use Rattle.rules.specs.Older.{olderAt, newerAt, inPicture}
 use Rattle.older.proofs.Turn.{nothing}
 use borrow.Author.Needs.{needs}
 use Rattle.older.proofs.in_block.Statement.{statement}

@@ -6,18 +6,18 @@ use mathlib.Core.Path.{_≡_}
 use Prim.Native.Nat.{ℕ, _+_, _*_, _/_, _%_}
 use lib.Dec.{ltb, eqb}
 use lib.ListN.{length}
 use Rattle.rules.specs.Pixel.{alphaOf}
 use Rattle.rules.specs.Places.{across, blocks, bytesOf}
 use Rattle.rules.specs.Answers.{judged, firstOf}
 use Rattle.rules.specs.Formats.{showsOf}
 use Rattle.rules.specs.Guards.{Guard}
 use Rattle.rules.specs.Census.{countOf, censusChecks}
 use Rattle.rules.specs.Counting.{sumOf, mostOf}
 use Rattle.rules.specs.Checking.{apart, farthest}
 use Rattle.rules.specs.declared.Picture.{Picture}
-use Rattle.older.specs.declared.OlderCounts.{OlderCounts}
-use Rattle.older.specs.declared.Older.{Older}
-use Rattle.older.specs.declared.Older.the-variants as older
+use Rattle.rules.specs.declared.OlderCounts.{OlderCounts}
+use Rattle.rules.specs.declared.Older.{Older}
+use Rattle.rules.specs.declared.Older.the-variants as older
 
 -- "by block and place": a block has places 0 to 15, row by row. What the two rules show at place k of block n
 abbrev pub olderAt : Guard → List ℕ → ℕ → ℕ → ℕ
