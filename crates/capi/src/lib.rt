@@ -1059,7 +1059,7 @@ fn older_counts(
             let colour = c.colour as usize;
             let alpha = c.alpha as usize;
             let six = [c.pixels, c.blocks, c.block, c.place, colour, alpha];
-            lay::lay(&six, counts)
+            census_lent::lay(&six, counts)
         }
     }
 }
