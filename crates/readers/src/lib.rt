@@ -1,15 +1,16 @@
 // The public list: that of src/etc.rs, BC1, BC3 and BC7. Sixteen block readers, twelve picture readers, strict ETC1 and RGBA1 for an
 // opaque-only viewer, each of these fourteen with a twin that takes the description with its pitch; four readers of EAC's whole values,
-// likewise; two censuses; the readers and the writer of sheets; the reader of a picture in pieces; the reader of degrees; the checker
-// and the baker of ETC1 blocks; and the opener of texture files. None asks anything of its caller. Each promises the answer and every element of what it is lent
-// afterwards, for all inputs; what that is, crates/rules/specs/Readers.antt, Whole.antt, Census.antt, Sheets.antt, Pieces.antt,
-// Degrees.antt, Checking.antt, Baking.antt and Files.antt say for all of them. Refusals: 1 width,
-// height or pitch above 65,536 (of a sheet: width or height above 16,384); 12 a pitch below the width; 2 too few bytes; 6 too many (strict
-// only); 3 too few elements, or too little room for a sheet; 4 a block out of range, with its number (strict only); 5 a channel above 3; of
-// sheets, 7 a record cut short, 8 no head, 9 another kind, 10 not exactly the blocks; 11 a block whose opaque bit is clear, with its
-// number (opaque only); of degrees, 13 the legend, 14 the digits, 15 the measurement; 16 a base channel above 15 or a flip above 1 (baker
-// only); of files, 20 the header is cut, 21 no known container, 22 no known version, 23 no known format, 24 sizes that disagree, 25 not one
-// flat picture, 26 no pixel, 37 levels missing, 38 no such level, 41 supercompressed. A refusal changes nothing. 18 is no refusal: the checker does not accept the block.
+// likewise; two censuses; the readers and the writer of sheets; the reader of a picture in pieces; the reader of degrees; the checker and
+// the baker of ETC1 blocks; and the opener of texture files. None asks anything of its caller. Each promises the answer and every element
+// of what it is lent afterwards, for all inputs; what that is, crates/rules/specs/Readers.antt, Whole.antt, Census.antt, Sheets.antt,
+// Pieces.antt, Degrees.antt, Checking.antt, Baking.antt and Files.antt say for all of them. Refusals: 1 width, height or pitch above
+// 65,536 (of a sheet: width or height above 16,384); 12 a pitch below the width; 2 too few bytes; 6 too many (strict only); 3 too few
+// elements, or too little room for a sheet; 4 a block out of range, with its number (strict only); 5 a channel above 3; of sheets, 7 a
+// record cut short, 8 no head, 9 another kind, 10 not exactly the blocks; 11 a block whose opaque bit is clear, with its number (opaque
+// only); of degrees, 13 the legend, 14 the digits, 15 the measurement; 16 a base channel above 15 or a flip above 1 (baker only); of
+// files, 20 the header is cut, 21 no known container, 22 no known version, 23 no known format, 24 sizes that disagree, 25 not one flat
+// picture, 26 no pixel, 37 levels missing, 38 no such level, 41 supercompressed. A refusal changes nothing. 18 is no refusal: the checker
+// does not accept the block.
 use bake::baker;
 use block_readers::Joined;
 use rules::Answer;
