@@ -1642,8 +1642,8 @@ pub extern "C" fn yalivucu_bake_etc1_block(
     readers::baking_number(readers::bake_etc1_block(*first, *second, flip, tile, block))
 }
 
-// Opens a texture file. With answer 0 alone, nine numbers are written: the container, the format, 1 where it is sRGB, the width, the height,
-// the number of levels, 1 where the greatest byte is first, the orientation, and the bytes that are left over.
+// Opens a texture file. With answer 0 alone, nine numbers are written: the container, the format, 1 where it is sRGB, the width, the
+// height, the number of levels, 1 where the greatest byte is first, the orientation, and the bytes that are left over.
 #[no_mangle]
 pub extern "C" fn yalivucu_open_file(data: &[u8], out: &mut [usize; 9]) -> u32
     ensures { λ r. ⌜ FileTold (now («data» .entry)) (now (out .entry)) r (now (out .exit)) ⌝ }

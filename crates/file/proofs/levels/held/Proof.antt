@@ -1,6 +1,6 @@
 -- `file::levels::held` meets its contract: the first test that fails decides.
 -- Assumes nothing.
-use mathlib.Core.Path.{_≡_, _∙_, sym, ap, ap₂}
+use mathlib.Core.Path.{_∙_, sym, ap, ap₂}
 use borrow.Author.Tests.{not-true, not-false}
 use mathlib.Core.Bool.{false}
 use Prim.Native.Nat.{_-_}
