@@ -42,5 +42,6 @@ specimens =
     && tells 5 9 (replicate 47 0) (2 ∷ []) (2 ∷ [])
 
 hold : So specimens
-unfolding specimens tells firstOf countOf sumOf mostOf farthest outOfRange kindBySums wrapped differential showsOf etc1Pixel rgbPixel rgba1Pixel indexed tBases tDistance hBases hDistance planarBases planarChannel
+unfolding specimens tells firstOf countOf sumOf mostOf farthest outOfRange kindBySums wrapped differential
+    showsOf etc1Pixel rgbPixel rgba1Pixel indexed tBases tDistance hBases hDistance planarBases planarChannel
 hold = tt

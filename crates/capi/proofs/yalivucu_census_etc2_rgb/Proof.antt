@@ -34,13 +34,15 @@ returns : tie.Need-returns
 returns c =
     let k = c .before .before in
     let a = k .before .before .before .args in
-    census-refused rgbTests (now (a .«data»)) (sized (a .width) (a .height)) (now (a .counts)) TooLarge 1 refl (lit< tt) (sym (ap rgbSaid (c .enum-told .given .1)) ∙ k .census-etc2-rgb .ensures) refl
+    census-refused rgbTests (now (a .«data»)) (sized (a .width) (a .height)) (now (a .counts))
+    TooLarge 1 refl (lit< tt) (sym (ap rgbSaid (c .enum-told .given .1)) ∙ k .census-etc2-rgb .ensures) refl
 
 returns-2 : tie.Need-returns-2
 returns-2 c =
     let k = c .before .before in
     let a = k .before .before .before .args in
-    census-refused rgbTests (now (a .«data»)) (sized (a .width) (a .height)) (now (a .counts)) ShortData 2 refl (lit< tt) (sym (ap rgbSaid (c .enum-told2 .given .1)) ∙ k .census-etc2-rgb .ensures) refl
+    census-refused rgbTests (now (a .«data»)) (sized (a .width) (a .height)) (now (a .counts))
+    ShortData 2 refl (lit< tt) (sym (ap rgbSaid (c .enum-told2 .given .1)) ∙ k .census-etc2-rgb .ensures) refl
 
 same-length : tie.Need-same-length
 same-length c = search needs
@@ -51,7 +53,8 @@ returns-3 c =
     let v = l .before .before .before .before in
     let k = v .before .before in
     let a = k .before .before .before .args in
-    census-lays rgbTests (now (a .«data»)) (sized (a .width) (a .height)) (now (a .counts)) _ (sym (ap rgbSaid (v .c .given .1)) ∙ k .census-etc2-rgb .ensures) (l .lay .result) _ (l .lay .ensures)
+    census-lays rgbTests (now (a .«data»)) (sized (a .width) (a .height)) (now (a .counts))
+    _ (sym (ap rgbSaid (v .c .given .1)) ∙ k .census-etc2-rgb .ensures) (l .lay .result) _ (l .lay .ensures)
 
 pub yalivucu-census-etc2-rgb-spec : {M : Type 1} → statement M
 yalivucu-census-etc2-rgb-spec =

@@ -1,7 +1,6 @@
 -- `file::pkm::header_as` meets its contract, arm by arm.
 -- Assumes nothing.
 use mathlib.Core.Path.{sym}
-use denote.Ref.{now}
 use Rattle.rules.specs.Pkm.{pkmAs}
 use borrow.Author.Needs.{needs}
 use Rattle.file.proofs.pkm.header_as.Statement.{statement}
