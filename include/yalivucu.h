@@ -1,4 +1,5 @@
-/* ETC1, ETC2, EAC, BC1 to BC5 and BC7 textures, and the degrees that their colours mean, read by proved code.
+/* ETC1, ETC2, EAC, BC1 to BC5 and BC7 textures, the files that hold them, and the degrees that their colours mean, read by
+ * proved code.
  *
  * Link with the static library that `bindings/archive FILE.a` writes. Every function may be
  * called from several threads at once, allocates nothing, keeps nothing between calls but in what
@@ -18,7 +19,7 @@
  *   tile, tile_len     the sixteen pixels that a block is held to, row by row; only read.
  *
  * Answers
- *   0  done: the picture's width * height elements, or a block's 16, or a census's 5 or 8 counts
+ *   0  done: the picture's width * height elements, or a block's 16, or a census's 5 or 8 counts, or the 6 of an older viewer
  *      are written. No other element is touched, so gaps and what lies behind keep their value.
  *   1  refused: the width, the height or the pitch is above 65536; of a sheet, and of its writer,
  *      the width or the height above 16384.
@@ -281,6 +282,24 @@ enum yalivucu_rgba1_count {
 
 uint32_t yalivucu_census_etc2_rgb(const uint8_t *data, size_t data_len, size_t width, size_t height, size_t *counts, size_t counts_len);
 uint32_t yalivucu_census_etc2_rgba1(const uint8_t *data, size_t data_len, size_t width, size_t height, size_t *counts, size_t counts_len);
+
+/* What a viewer that knows ETC1 alone shows wrong of an ETC2 RGB picture, and one that knows ETC2 RGB, but
+ * nothing transparent, of an RGBA1 picture, in blocks of 8 bytes: how many pixels differ and how many blocks have
+ * one; the first such block, and the first such pixel of it, 0 to 15, row by row, or the number of blocks and 16
+ * where there is none; the largest difference of any red, green or blue, and of any alpha. A tile that an edge
+ * clips counts as far as it is shown. What follows the blocks is not counted. */
+enum yalivucu_older_count {
+    YALIVUCU_OLDER_PIXELS,
+    YALIVUCU_OLDER_BLOCKS,
+    YALIVUCU_OLDER_FIRST_BLOCK,
+    YALIVUCU_OLDER_FIRST_PLACE,
+    YALIVUCU_OLDER_COLOUR,
+    YALIVUCU_OLDER_ALPHA,
+    YALIVUCU_OLDER_COUNTS
+};
+
+uint32_t yalivucu_older_etc1(const uint8_t *data, size_t data_len, size_t width, size_t height, size_t *counts, size_t counts_len);
+uint32_t yalivucu_older_rgb(const uint8_t *data, size_t data_len, size_t width, size_t height, size_t *counts, size_t counts_len);
 
 /* A sheet: a head that names a format, 0 ETC1, 1 ETC2 RGB, 2 RGBA1, 3 RGBA8, 4 EAC R, 5 R signed,
  * 6 RG, 7 RG signed, with width and height; and the blocks. sheet, sheet_len are its bytes, all of

@@ -36,6 +36,7 @@ mod baking;
 #[cfg(feature = "std")]
 mod bands;
 mod census;
+mod older;
 mod degrees;
 mod file;
 mod pieces;

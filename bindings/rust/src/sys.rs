@@ -147,6 +147,8 @@ extern "C" {
     declared_census! {
         yalivucu_census_etc2_rgb
         yalivucu_census_etc2_rgba1
+        yalivucu_older_etc1
+        yalivucu_older_rgb
     }
     pub fn yalivucu_decode_etc1_strict_pitched(
         data: *const u8,

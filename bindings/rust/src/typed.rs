@@ -16,6 +16,7 @@ pub use crate::bands::{read_in_bands, read_opaque_in_bands, read_strict_in_bands
 pub use crate::census::{census_etc2_rgb, census_etc2_rgba1, KindCounts, RgbCounts, Rgba1Counts};
 pub use crate::degrees::{degrees, Legend, Reading};
 pub use crate::file::{Container, File, Level, Orientation};
+pub use crate::older::{older_etc1, older_rgb, OlderCounts, OlderPixel};
 pub use crate::pieces::{Pieces, Taken};
 pub use crate::refusal::Refusal;
 pub use crate::sheet::{read_sheet, sheet_head, write_sheet, Head};

@@ -1,8 +1,8 @@
-// How far two pixels are from each other: what the checker and the baker of blocks share. Alpha is ignored.
+// How far two pixels are from each other: what the checker and the baker of blocks share, and the counts of what an older viewer shows.
 ghost use mathlib.Core.Path.{_≡_};
-ghost use Prim.Native.Nat.{_<_, _≤_};
-ghost use Rattle.rules.specs.Pixel.{redOf, greenOf, blueOf};
-ghost use Rattle.rules.specs.Checking.{apart as apartOf, near as nearTo, differ as differOf};
+ghost use Prim.Native.Nat.{_<_, _≤_, max};
+ghost use Rattle.rules.specs.Pixel.{alphaOf, redOf, greenOf, blueOf};
+ghost use Rattle.rules.specs.Checking.{apart as apartOf, near as nearTo, differ as differOf, farthest as farthestOf};
 
 // How far two channels differ.
 fn apart(a: u32, b: u32) -> u32
@@ -51,4 +51,25 @@ pub fn near(tolerance: u32, p: u32, q: u32) -> bool
         return false;
     }
     blues(p, q) <= tolerance
+}
+
+// The larger of two numbers.
+pub fn larger(a: u32, b: u32) -> u32
+    ensures { λ r. ⌜ r ≡ max a b ⌝ }
+{
+    if a < b { b } else { a }
+}
+
+// The largest of the three differences.
+pub fn farthest(p: u32, q: u32) -> u32
+    ensures { λ r. ⌜ r ≡ farthestOf p q ⌝ }
+{
+    larger(reds(p, q), larger(greens(p, q), blues(p, q)))
+}
+
+// How far the alphas differ.
+pub fn alphas(p: u32, q: u32) -> u32
+    ensures { λ r. ⌜ r ≡ apartOf (alphaOf p) (alphaOf q) ⌝ }
+{
+    apart(p / 16777216 % 256, q / 16777216 % 256)
 }

@@ -6,8 +6,10 @@ mod degrees_lent;
 mod pictures;
 mod pieces_lent;
 
+use guard::Viewer;
 use rules::Answer;
 use rules::Format;
+use rules::Older;
 use rules::Picture;
 use rules::RgbCensus;
 use rules::Rgba1Census;
@@ -19,6 +21,8 @@ ghost use Rattle.rules.specs.Places.{sized, pitched};
 ghost use Rattle.rules.specs.Readers.{ReadsPicture, ReadsStrict, ReadsOpaque, ReadsBlock, ReadsAlpha, ReadsChannel, ReplacesChannel};
 ghost use Rattle.rules.specs.Readers.{ChecksStrict, ChecksOpaque};
 ghost use Rattle.rules.specs.Census.{rgbTests, rgba1Tests};
+ghost use Rattle.rules.specs.Guards.{inRange, opaqueOnly};
+ghost use Rattle.guard.specs.Viewers.{guardOf};
 ghost use Rattle.rules.specs.Whole.{ReadsWhole};
 ghost use Rattle.rules.specs.Sheets.{ReadsSheet};
 ghost use Rattle.rules.specs.Pieces.{Ends};
@@ -27,7 +31,7 @@ ghost use Rattle.file.specs.lent.Lent.{FileTold, LevelTold};
 ghost use Rattle.rules.specs.Baking.{Bakes};
 ghost use Rattle.capi.specs.pieces_lent.Lent.{stateIn, StartLent, PieceLent};
 ghost use Rattle.capi.specs.degrees_lent.Lent.{legendAt, DegreesTold};
-ghost use Rattle.capi.specs.Census.{CountsInto};
+ghost use Rattle.capi.specs.Census.{CountsInto, OlderInto};
 ghost use Rattle.capi.specs.pictures.Told.{Told, blockOr};
 ghost use Rattle.capi.specs.Told.{HeadTold, WriterTold, BakingTold};
 
@@ -1032,6 +1036,63 @@ pub extern "C" fn yalivucu_census_etc2_rgba1(
     }
 }
 
+// Counts what an older viewer shows wrong: the six counts are laid into the room where they fit.
+fn older_counts(
+    viewer: Viewer,
+    data: &[u8],
+    width: usize,
+    height: usize,
+    counts: &mut [usize],
+) -> u32
+    ensures { λ r. ⌜ Told (λ a. OlderInto (guardOf viewer) (now («data» .entry)) (sized width height)
+        (now (counts .entry)) a (now (counts .exit))) r ⌝ }
+{
+    let pic = Picture {
+        width: width,
+        height: height,
+        pitch: width,
+    };
+    match older::count(viewer, data, pic) {
+        Older::TooLarge => 1,
+        Older::ShortData => 2,
+        Older::Counted(c) => {
+            let colour = c.colour as usize;
+            let alpha = c.alpha as usize;
+            let six = [c.pixels, c.blocks, c.block, c.place, colour, alpha];
+            census_lent::lay(&six, counts)
+        }
+    }
+}
+
+// Counts what a viewer that knows ETC1 alone shows wrong of an ETC2 RGB picture: pixels, blocks, the first such block and its first such
+// place, and the largest differences of a colour and of an alpha.
+#[no_mangle]
+pub extern "C" fn yalivucu_older_etc1(
+    data: &[u8],
+    width: usize,
+    height: usize,
+    counts: &mut [usize],
+) -> u32
+    ensures { λ r. ⌜ Told (λ a. OlderInto inRange (now («data» .entry)) (sized width height)
+        (now (counts .entry)) a (now (counts .exit))) r ⌝ }
+{
+    older_counts(Viewer::Etc1, data, width, height, counts)
+}
+
+// The same of a viewer that knows ETC2 RGB, but nothing transparent, and an RGBA1 picture.
+#[no_mangle]
+pub extern "C" fn yalivucu_older_rgb(
+    data: &[u8],
+    width: usize,
+    height: usize,
+    counts: &mut [usize],
+) -> u32
+    ensures { λ r. ⌜ Told (λ a. OlderInto opaqueOnly (now («data» .entry)) (sized width height)
+        (now (counts .entry)) a (now (counts .exit))) r ⌝ }
+{
+    older_counts(Viewer::Opaque, data, width, height, counts)
+}
+
 // Tells the head of a sheet. With answer 0 alone, the format, the width and the height are written.
 #[no_mangle]
 pub extern "C" fn yalivucu_sheet_head(
@@ -1581,8 +1642,8 @@ pub extern "C" fn yalivucu_bake_etc1_block(
     readers::baking_number(readers::bake_etc1_block(*first, *second, flip, tile, block))
 }
 
-// Opens a texture file. With answer 0 alone, nine numbers are written: the container, the format, 1 where it is sRGB, the width, the height,
-// the number of levels, 1 where the greatest byte is first, the orientation, and the bytes that are left over.
+// Opens a texture file. With answer 0 alone, nine numbers are written: the container, the format, 1 where it is sRGB, the width, the
+// height, the number of levels, 1 where the greatest byte is first, the orientation, and the bytes that are left over.
 #[no_mangle]
 pub extern "C" fn yalivucu_open_file(data: &[u8], out: &mut [usize; 9]) -> u32
     ensures { λ r. ⌜ FileTold (now («data» .entry)) (now (out .entry)) r (now (out .exit)) ⌝ }

@@ -9,7 +9,7 @@ use lib.Dec.{ltb, eqb, eqb→eq}
 use lib.ListN.{getD}
 use Rattle.numbers.specs.Numbers.{little}
 use Rattle.rules.specs.Bptc.{two, three, anchorOfTwo, anchorOfThree1, anchorOfThree2, subset, anchor}
-use Rattle.rules.specs.Bc7.{modeTable, lowest, modeOf, modeAt, indexPlace, secondPlace, endPlace, bitsBefore, pixelIn, blockWord, bc7Pixel}
+use Rattle.rules.specs.Bc7.{modeTable, lowest, modeOf, modeAt, indexPlace, secondPlace, bitsBefore, pixelIn, blockWord, bc7Pixel}
 use Rattle.laws.proofs.Every.{every, below}
 use Rattle.laws.proofs.Tables.{subset-exists, first-pixel, anchor-own, anchor-below, fields-fill}
 

@@ -9,6 +9,8 @@ pub mod Leftovers
 pub mod Opaque
 pub mod Unpainted
 pub mod Older
+pub mod Shown
+pub mod ShownRows
 pub mod Blocks
 pub mod Census
 pub mod Sheets

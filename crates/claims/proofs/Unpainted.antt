@@ -1,17 +1,14 @@
 -- The checks without an image "refuse exactly as the readers do": where the image is long enough the answers are the same, whatever the
 -- bytes and the size; and where it is not, the reader's may be 3 instead, and nothing else.
 -- Assumes nothing.
-use mathlib.Core.Path.{_≡_, _∙_, refl, sym}
-use mathlib.Core.Bool.{Bool, true, false, cond}
-use mathlib.Core.List.{List, [], _∷_}
+use mathlib.Core.Path.{_≡_, _∙_, sym}
+use mathlib.Core.List.{List}
 use mathlib.Core.Logic.{_⊎_, inl, inr, ⊎-elim}
 use Prim.Native.Nat.{ℕ, _≤_}
-use native.Mathlib.Omega.{arith}
-use native.Mathlib.Decide.{decLt}
 use lib.ListN.{length}
 use Rattle.rules.specs.Places.{sized, needed, blocks}
 use Rattle.rules.specs.Answers.{said, judged, guarded}
-use Rattle.rules.specs.Guards.{Guard, badAt}
+use Rattle.rules.specs.Guards.{badAt}
 use Rattle.rules.specs.Readers.{ReadsStrict, ReadsOpaque, ChecksStrict, ChecksOpaque}
 use Rattle.rules.specs.declared.Answer.{Answer}
 use Rattle.rules.specs.declared.Answer.the-variants.{ShortImage}

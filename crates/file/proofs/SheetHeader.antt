@@ -12,7 +12,6 @@ use Rattle.rules.specs.declared.Answer.{Answer}
 use Rattle.rules.specs.declared.Head.{Head}
 use Rattle.rules.specs.declared.Layout.{Layout}
 use Rattle.rules.specs.declared.Picture.{Picture}
-use Rattle.rules.specs.declared.FileHeader.{FileHeader}
 use Rattle.rules.specs.declared.FileHeader.the-variants.{Holds, Refused}
 use Rattle.laws.proofs.Unique.{answered}
 use Rattle.sheet.specs.Shown.{walk, Refuses, sizeOfHead}

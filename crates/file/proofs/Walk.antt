@@ -10,7 +10,7 @@ use lib.Dec.{eqb, ltb}
 use lib.ListN.{length}
 use Rattle.numbers.specs.Numbers.{little}
 use Rattle.rules.specs.FileFormats.{word32}
-use Rattle.rules.specs.FileLevels.{bytesFor, missing, contradicts, insideOf, afterSize, inIndex, fitOf, levelAt, nextSpot, lesser, chosen, fitsThen, levelsFrom, tooMany, larger}
+use Rattle.rules.specs.FileLevels.{bytesFor, insideOf, afterSize, inIndex, fitOf, levelAt, nextSpot, lesser, chosen, fitsThen, levelsFrom, tooMany, larger}
 use Rattle.rules.specs.Places.{sized}
 use Rattle.rules.specs.Answers.{limit, tooLarge}
 use Rattle.rules.specs.declared.Answer.{Answer}

@@ -88,7 +88,8 @@ fn rows_in(second: bool, order: bool, d: &[u8], start: usize, stop: usize) -> us
     0
 }
 
-// Which row comes first, by so many bytes of key and value data from a start on: 0 where they tell nothing, 1 the top one, 2 the bottom one.
+// Which row comes first, by so many bytes of key and value data from a start on: 1 the top one, 2 the bottom one, 0 where they tell
+// nothing.
 pub fn orientation(second: bool, order: bool, d: &[u8], start: usize, size: usize) -> usize
     requires { ⌜ (start < 0x100000000) × (size < 0x100000000) ⌝ }
     ensures { λ r. ⌜ r ≡ orientationOf second order (now (d .entry)) start size ⌝ }

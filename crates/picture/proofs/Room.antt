@@ -1,6 +1,6 @@
 -- A picture without a gap whose image is long enough: the checks of its pitch and of its image pass, so that those of its bytes are left.
 -- Assumes nothing.
-use mathlib.Core.Path.{_≡_, refl, sym, ap}
+use mathlib.Core.Path.{_≡_, refl}
 use mathlib.Core.Bool.{Bool, true, false, cond, _||_}
 use mathlib.Core.List.{List, [], _∷_}
 use mathlib.Core.Logic.{_⊎_, inl, inr}
@@ -11,7 +11,6 @@ use borrow.Author.Tests.{le-ltb}
 use lib.Dec.{ltb, eqb}
 use Rattle.rules.specs.Places.{sized, needed, blocks}
 use Rattle.rules.specs.Answers.{limit, tooLarge, judged}
-use Rattle.rules.specs.declared.Picture.{Picture}
 use Rattle.checks.proofs.Checks.{within}
 use Rattle.guard.specs.declared.Viewer.{Viewer}
 use Rattle.guard.specs.declared.Viewer.the-variants.{Etc1, Opaque}

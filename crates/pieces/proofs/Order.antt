@@ -2,12 +2,12 @@
 -- Assumes nothing.
 use mathlib.Core.Path.{_≡_, refl}
 use mathlib.Core.Bool.{Bool, true, false, cond, _||_}
-use mathlib.Core.List.{List, [], _∷_}
+use mathlib.Core.List.{[], _∷_}
 use Prim.Native.Nat.{ℕ, _+_, _-_, _*_, _≤_}
 use native.Mathlib.Omega.{arith}
 use native.Mathlib.Nat.{mul-le-mul}
 use borrow.Author.Tests.{le-ltb}
-use lib.Dec.{ltb, eqb}
+use lib.Dec.{eqb}
 use Rattle.rules.specs.Places.{needed, blocks}
 use Rattle.rules.specs.Answers.{verdict, limit, overLimit, pictureChecks, limitCheck, pitchCheck, dataCheck}
 use Rattle.rules.specs.Pieces.{startChecks}

@@ -1,15 +1,17 @@
 // The public list: the readers of pictures, single blocks, whole EAC values, pictures in pieces, sheets and texture files; the checks
-// for older viewers; the censuses; the reader of degrees; the checker and the baker of ETC1 blocks.
+// and the counts for older viewers; the censuses; the reader of degrees; the checker and the baker of ETC1 blocks.
 // No function has a precondition. Each promises its answer, and every element of what it is lent, for all inputs, as Readers.antt,
 // Whole.antt, Census.antt, Sheets.antt, Pieces.antt, Degrees.antt, Checking.antt, Baking.antt and Files.antt of crates/rules/specs say.
 // A refusal changes nothing; docs/API.md lists the refusals by number.
 use bake::baker;
 use block_readers::Joined;
+use guard::Viewer;
 use rules::Answer;
 use rules::Baking;
 use rules::Format;
 use rules::FoundLevel;
 use rules::Legend;
+use rules::Older;
 use rules::Opened;
 use rules::Picture;
 use rules::Progress;
@@ -27,6 +29,8 @@ ghost use lib.ListN.{length, getD};
 ghost use Rattle.rules.specs.Places.{sized};
 ghost use Rattle.rules.specs.Answers.{said};
 ghost use Rattle.rules.specs.Census.{CountsRgb, CountsRgba1};
+ghost use Rattle.rules.specs.Guards.{inRange, opaqueOnly};
+ghost use Rattle.rules.specs.Older.{CountsOlder};
 ghost use Rattle.rules.specs.Readers.{ReadsPicture, ReadsStrict, ReadsOpaque, ReadsBlock, ReadsAlpha, ReadsChannel, ReplacesChannel};
 ghost use Rattle.rules.specs.Readers.{ChecksStrict, ChecksOpaque};
 ghost use Rattle.rules.specs.Whole.{ReadsWhole};
@@ -602,6 +606,30 @@ pub fn census_etc2_rgba1(data: &[u8], width: usize, height: usize) -> Rgba1Censu
         pitch: width,
     };
     census::rgba1(data, pic)
+}
+
+// Counts what a viewer that knows ETC1 alone shows wrong of an ETC2 RGB picture: pixels, blocks, the first of them, and by how much.
+pub fn older_etc1(data: &[u8], width: usize, height: usize) -> Older
+    ensures { λ r. ⌜ CountsOlder inRange (now («data» .entry)) (sized width height) r ⌝ }
+{
+    let pic = Picture {
+        width: width,
+        height: height,
+        pitch: width,
+    };
+    older::count(Viewer::Etc1, data, pic)
+}
+
+// The same of a viewer that knows ETC2 RGB, but nothing transparent, and an RGBA1 picture.
+pub fn older_rgb(data: &[u8], width: usize, height: usize) -> Older
+    ensures { λ r. ⌜ CountsOlder opaqueOnly (now («data» .entry)) (sized width height) r ⌝ }
+{
+    let pic = Picture {
+        width: width,
+        height: height,
+        pitch: width,
+    };
+    older::count(Viewer::Opaque, data, pic)
 }
 
 // Tells the format, the width and the height that a sheet's head names, or why the sheet is refused: the whole walk without an image,

@@ -87,7 +87,7 @@ fn another(c: Case, data: &[u8], image: &mut [u32]) -> Said {
     }
 }
 
-// The checks for older viewers, and texture files.
+// The checks and the counts for older viewers, and texture files.
 fn checked(c: Case, data: &[u8], image: &mut [u32]) -> Said {
     let number = c.number;
     match number {
@@ -95,6 +95,8 @@ fn checked(c: Case, data: &[u8], image: &mut [u32]) -> Said {
         171 => told(readers::check_opaque(data, c.width, c.height)),
         172 => told(call_files::open(data, image)),
         173 => told(call_files::level(data, c.a, image)),
+        174 => told(call_census::older(readers::older_etc1(data, c.width, c.height), image)),
+        175 => told(call_census::older(readers::older_rgb(data, c.width, c.height), image)),
         _ => unknown(),
     }
 }

@@ -1,6 +1,7 @@
-// The censuses, with their counts as the first elements of the lent image.
+// The censuses and the counts for older viewers, with their counts as the first elements of the lent image.
 use super::elements;
 use rules::Answer;
+use rules::Older;
 use rules::RgbCensus;
 use rules::Rgba1Census;
 
@@ -33,6 +34,24 @@ pub fn rgba1(data: &[u8], width: usize, height: usize, image: &mut [u32]) -> Ans
                 u.planar,
             ];
             elements::put(&counts, image)
+        }
+    }
+}
+
+pub fn older(counts: Older, image: &mut [u32]) -> Answer {
+    match counts {
+        Older::TooLarge => Answer::TooLarge,
+        Older::ShortData => Answer::ShortData,
+        Older::Counted(c) => {
+            let values = [
+                c.pixels,
+                c.blocks,
+                c.block,
+                c.place,
+                elements::wide(c.colour),
+                elements::wide(c.alpha),
+            ];
+            elements::put(&values, image)
         }
     }
 }

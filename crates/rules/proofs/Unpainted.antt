@@ -1,7 +1,7 @@
 -- The rows of the two checks without an image: what they say of some blocks, and of so many bytes of 00. Answers are worked out by hand:
 -- 1, 2 and, of strict ETC1, 6, in that order, and then the first bad block.
 -- Assumes nothing.
-use mathlib.Core.Bool.{Bool, true, _&&_}
+use mathlib.Core.Bool.{Bool, _&&_}
 use mathlib.Core.List.{List, [], _∷_}
 use mathlib.Core.Path.{_≡_}
 use Prim.Native.Nat.{ℕ}

@@ -1,5 +1,5 @@
--- DDS, from Microsoft's pages on DDS_HEADER, DDS_PIXELFORMAT and DDS_HEADER_DXT10: 128 bytes, 20 more of them with the FourCC DX10, then the levels one
--- behind the other. Numbers have four bytes, the least first.
+-- DDS, from Microsoft's pages on DDS_HEADER, DDS_PIXELFORMAT and DDS_HEADER_DXT10: 128 bytes, 20 more of them with the FourCC DX10, then
+-- the levels one behind the other. Numbers have four bytes, the least first.
 --     0  "DDS "            4  size       8  flags       12  height              16  width              20  pitch or linear size
 --    24  depth            28  mipMapCount              76  pixel format: size  80  its flags          84  FourCC
 --   108  caps            112  caps2                   128  dxgiFormat         132  resourceDimension
@@ -7,7 +7,7 @@
 -- Sizes, flags, caps, depth and the linear size decide no pixel, and real files get them wrong.
 -- Assumes nothing.
 use mathlib.Core.Bool.{Bool, true, cond, not, _&&_, _||_}
-use mathlib.Core.List.{List, [], _++_}
+use mathlib.Core.List.{List, _++_}
 use Prim.Native.Nat.{ℕ}
 use lib.Dec.{eqb, ltb}
 use lib.ListN.{length}

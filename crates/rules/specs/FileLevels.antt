@@ -1,7 +1,7 @@
 -- The levels of a file: each is half as wide and half as high as the one before it, and its blocks must lie in the file as it tells.
 -- Assumes nothing.
 use mathlib.Core.Bool.{Bool, true, false, cond, not, _||_}
-use mathlib.Core.List.{List, [], _∷_}
+use mathlib.Core.List.{List}
 use Prim.Native.Nat.{ℕ, zero, suc, _+_, _-_, _*_, _/_}
 use lib.Dec.{eqb, ltb}
 use lib.ListN.{length}

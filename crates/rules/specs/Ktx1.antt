@@ -7,7 +7,7 @@
 -- glType, glTypeSize, glFormat and glBaseInternalFormat decide no pixel of a compressed picture, and real files get them wrong.
 -- Assumes nothing.
 use mathlib.Core.Bool.{Bool, true, false, cond, _&&_}
-use mathlib.Core.List.{List, [], _++_}
+use mathlib.Core.List.{List, _++_}
 use Prim.Native.Nat.{ℕ, _+_}
 use lib.Dec.{eqb, ltb}
 use lib.ListN.{length}

@@ -6,7 +6,7 @@
 --    64  sgdByteOffset    72  sgdByteLength             80  the index: for each level byteOffset, byteLength, uncompressedByteLength
 -- Assumes nothing.
 use mathlib.Core.Bool.{Bool, true, false, cond, _&&_}
-use mathlib.Core.List.{List, [], _++_}
+use mathlib.Core.List.{List, _++_}
 use Prim.Native.Nat.{ℕ}
 use lib.Dec.{eqb, ltb}
 use lib.ListN.{length}

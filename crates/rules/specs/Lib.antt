@@ -38,6 +38,8 @@ pub mod Checking
 pub mod Baking
 -- all eleven bits of EAC, of document 02
 pub mod Whole
+-- what an older viewer shows wrong
+pub mod Older
 -- files: PKM, KTX 1, KTX 2, DDS and sheets
 pub mod FileFormats
 pub mod FileLevels

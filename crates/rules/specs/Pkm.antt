@@ -2,8 +2,8 @@
 --     0  "PKM "            4  version, "10" or "20"     6  type
 --     8  padded width     10  padded height            12  width      14  height
 -- Assumes nothing.
-use mathlib.Core.Bool.{Bool, true, cond, _&&_}
-use mathlib.Core.List.{List, [], _++_}
+use mathlib.Core.Bool.{Bool, cond, _&&_}
+use mathlib.Core.List.{List, _++_}
 use Prim.Native.Nat.{ℕ, _+_, _*_, _/_}
 use lib.Dec.{eqb, ltb}
 use lib.ListN.{length}

@@ -119,6 +119,24 @@ pub enum Rgba1Census {
     ShortData,
 }
 
+// How many pixels of a picture two rules show differently, and how many blocks have one; the first such block and its first such place,
+// or the number of blocks and 16 where there is none; and the largest difference of a red, a green or a blue, and of an alpha.
+pub struct OlderCounts {
+    pub pixels: usize,
+    pub blocks: usize,
+    pub block: usize,
+    pub place: usize,
+    pub colour: u32,
+    pub alpha: u32,
+}
+
+// What is answered. The number and values of each case are `olderSaid`, in specs/Older.antt.
+pub enum Older {
+    Counted(OlderCounts),
+    TooLarge,
+    ShortData,
+}
+
 // What the head of a sheet says: the number of a format, and the size.
 pub struct Head {
     pub format: usize,

@@ -1,7 +1,6 @@
 -- `pieces::end` meets its contract: it makes the checks of a picture whose image is long enough, over the size of its format's blocks.
 -- Assumes nothing.
 use mathlib.Core.Path.{_∙_, ap}
-use mathlib.Core.List.{List}
 use Prim.Native.Nat.{ℕ}
 use borrow.Author.Needs.{needs}
 use Rattle.rules.specs.Answers.{verdict, pictureChecks}

@@ -33,7 +33,11 @@ header-as-requires c κs = search needs
 returns-2 : tie.Need-returns-2
 unfolding dx10Of
 returns-2 c = let d = now (c .before .before .before .before .before .before .before .before .args .d) in
-    simp (le-ltb _ _ (c .before .before .before .before .before .before .if1 .left), sym (ap₂ _&&_ (c .before .before .before .before .before .dds-flat .ensures) (c .before .before .before .before .dx10-flat .ensures)) ∙ c .before .before .before .if2 .taken)
+    let b = c .before .before .before in
+    simp (
+      le-ltb _ _ (b .before .before .before .if1 .left),
+      sym (ap₂ _&&_ (b .before .before .dds-flat .ensures) (b .before .dx10-flat .ensures)) ∙ b .if2 .taken,
+    )
     (c .header-as .ensures ∙ ap (λ (z : KnownFormat). ddsAs z 148 d) (c .before .dxgi-format .ensures ∙ ap (known dxgiRows) (c .before .before .little4 .ensures .0)))
 
 returns-3 : tie.Need-returns-3

@@ -33,7 +33,10 @@ has4-requires-5 c κs = search needs
 
 returns : tie.Need-returns
 unfolding isOrientation
-returns c = ap₂ _&&_ (ap₂ _||_ (c .before .before .before .before .has4 .ensures) (c .before .before .before .has42 .ensures)) (ap₂ _&&_ (c .before .before .has43 .ensures) (ap₂ _&&_ (c .before .has44 .ensures) (c .has45 .ensures)))
+returns c =
+    let b = c .before .before in
+    ap₂ _&&_ (ap₂ _||_ (b .before .before .has4 .ensures) (b .before .has42 .ensures))
+    (ap₂ _&&_ (b .has43 .ensures) (ap₂ _&&_ (c .before .has44 .ensures) (c .has45 .ensures)))
 
 pub is-orientation-spec : {M : Type 1} → statement M
 is-orientation-spec =

@@ -34,7 +34,10 @@ add-if2 c = omega arith
 returns-2 : tie.Need-returns-2 Inv-loop μ-loop
 returns-2 c = let l = c .before .before .before .loop in
     let a = c .before .before .before .before .before .args in
-    sym (turn (a .second) (a .order) (now (a .d)) (a .stop) (length (now (a .d))) (l .i) (l .at) (l .told) (omega arith) ∙ simp (ne-eqb _ _ (c .before .if1 .left), lt-ltb _ _ (c .if2 .taken))) ∙ l .inv .2
+    sym
+    (turn (a .second) (a .order) (now (a .d)) (a .stop) (length (now (a .d))) (l .i) (l .at) (l .told) (omega arith)
+    ∙ simp (ne-eqb _ _ (c .before .if1 .left), lt-ltb _ _ (c .if2 .taken)))
+    ∙ l .inv .2
 
 word-requires : tie.Need-word-requires Inv-loop μ-loop
 word-requires c κs = omega arith

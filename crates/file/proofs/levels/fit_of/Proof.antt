@@ -22,7 +22,9 @@ in-index-requires c κs = search needs
 
 returns-2 : tie.Need-returns-2
 unfolding fitOf
-returns-2 c = simp (ne-eqb _ _ (c .before .before .before .if1 .left), eq-eqb _ _ (c .before .if2 .taken), sym (c .before .before .before .before .before .bytes-for .ensures .0)) (c .in-index .ensures)
+returns-2 c =
+    let b = c .before .before .before in
+    simp (ne-eqb _ _ (b .if1 .left), eq-eqb _ _ (c .before .if2 .taken), sym (b .before .before .bytes-for .ensures .0)) (c .in-index .ensures)
 
 inside-requires : tie.Need-inside-requires
 inside-requires c κs = search needs

@@ -1,8 +1,7 @@
 -- `file::levels::held` meets its contract: the first test that fails decides.
 -- Assumes nothing.
-use mathlib.Core.Path.{_≡_, _∙_, sym, ap, ap₂}
+use mathlib.Core.Path.{_∙_, sym, ap₂}
 use borrow.Author.Tests.{not-true, not-false}
-use mathlib.Core.Bool.{false}
 use Prim.Native.Nat.{_-_}
 use Rattle.rules.specs.FileLevels.{tooMany, larger, heldOf}
 use Rattle.file.proofs.Walk.{sound}

@@ -1,6 +1,6 @@
 -- `file::levels::too_many` meets its contract: what is left to halve comes to the same at each turn.
 -- Assumes nothing.
-use mathlib.Core.Path.{_≡_, _∙_, refl, sym}
+use mathlib.Core.Path.{_≡_, _∙_, sym}
 use Prim.Native.Nat.{_-_, _≤_}
 use native.Mathlib.Omega.{arith}
 use native.Mathlib.Nat.{sub-zero}

@@ -1,9 +1,7 @@
 -- `file::pkm::header_as` meets its contract, arm by arm.
 -- Assumes nothing.
-use mathlib.Core.Path.{sym, ap}
-use denote.Ref.{now}
+use mathlib.Core.Path.{sym}
 use Rattle.rules.specs.Pkm.{pkmAs}
-use Rattle.rules.specs.declared.KnownFormat.{KnownFormat}
 use borrow.Author.Needs.{needs}
 use Rattle.file.proofs.pkm.header_as.Statement.{statement}
 use Rattle.file.proofs.pkm.header_as.Tie as tie

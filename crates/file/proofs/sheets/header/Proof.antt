@@ -1,6 +1,5 @@
 -- `file::sheets::header` meets its contract, by what the walk found.
 -- Assumes nothing.
-use mathlib.Core.Path.{ap}
 use Rattle.file.proofs.SheetHeader.{holds, refused}
 use borrow.Author.Needs.{needs}
 use Rattle.file.proofs.sheets.header.Statement.{statement}
