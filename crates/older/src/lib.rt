@@ -89,7 +89,8 @@ fn is_shown(k: usize, columns: usize, rows: usize) -> bool
 
 // The first place of a block that two rules show differently, or 16, as far as its columns and rows are shown.
 fn first_wrong(old: &[u32; 16], new: &[u32; 16], columns: usize, rows: usize) -> usize
-    ensures { λ r. ⌜ r ≡ firstOf (wrong (clipped columns rows) (λ (k : ℕ). getD (now (old .entry)) k 0) (λ (k : ℕ). getD (now (new .entry)) k 0)) 16 ⌝ }
+    ensures { λ r. ⌜ r ≡ firstOf
+        (wrong (clipped columns rows) (λ (k : ℕ). getD (now (old .entry)) k 0) (λ (k : ℕ). getD (now (new .entry)) k 0)) 16 ⌝ }
 {
     let mut k: usize = 0;
     while k < 16 {
@@ -203,7 +204,8 @@ fn join(c: OlderCounts, b: usize, f: Found) -> OlderCounts
 
 // Counts what is wrong in the first n blocks of a picture.
 fn tally(viewer: Viewer, data: &[u8], pic: Picture, n: usize) -> OlderCounts
-    requires { ⌜ (n ≡ blocks pic) × (blocks pic * 8 ≤ length (now «data»)) × (n ≤ 0x10000000) × (pic .width ≤ limit) × (pic .height ≤ limit) ⌝ }
+    requires { ⌜ (n ≡ blocks pic) × (blocks pic * 8 ≤ length (now «data»)) × (n ≤ 0x10000000)
+        × (pic .width ≤ limit) × (pic .height ≤ limit) ⌝ }
     ensures { λ r. ⌜ Counted (guardOf viewer) pic (now («data» .entry)) n r ⌝ }
 {
     let mut c = OlderCounts {

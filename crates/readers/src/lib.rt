@@ -1,15 +1,15 @@
 // The public list: that of src/etc.rs, BC1, BC3 and BC7. Sixteen block readers, twelve picture readers, strict ETC1 and RGBA1 for an
 // opaque-only viewer, each of these fourteen with a twin that takes the description with its pitch; four readers of EAC's whole values,
-// likewise; the checks of strict ETC1 and of an opaque-only viewer without an image; two censuses; two counts of
-// what an older viewer shows wrong; the readers and the writer of sheets; the reader of a picture in pieces; the reader of degrees; and the checker
-// and the baker of ETC1 blocks. None asks anything of its caller. Each promises the answer and every element of what it is lent
-// afterwards, for all inputs; what that is, crates/rules/specs/Readers.antt, Whole.antt, Census.antt, Sheets.antt, Pieces.antt,
-// Degrees.antt, Checking.antt and Baking.antt say for all of them. Refusals: 1 width,
-// height or pitch above 65,536 (of a sheet: width or height above 16,384); 12 a pitch below the width; 2 too few bytes; 6 too many (strict
-// only); 3 too few elements, or too little room for a sheet; 4 a block out of range, with its number (strict only); 5 a channel above 3; of
-// sheets, 7 a record cut short, 8 no head, 9 another kind, 10 not exactly the blocks; 11 a block whose opaque bit is clear, with its
-// number (opaque only); of degrees, 13 the legend, 14 the digits, 15 the measurement; 16 a base channel above 15 or a flip above 1 (baker
-// only). A refusal changes nothing. 18 is no refusal: the checker does not accept the block.
+// likewise; the checks of strict ETC1 and of an opaque-only viewer without an image; two censuses; two counts of what an older viewer
+// shows wrong; the readers and the writer of sheets; the reader of a picture in pieces; the reader of degrees; and the checker and the
+// baker of ETC1 blocks. None asks anything of its caller. Each promises the answer and every element of what it is lent afterwards, for
+// all inputs; what that is, crates/rules/specs/Readers.antt, Whole.antt, Census.antt, Sheets.antt, Pieces.antt, Degrees.antt,
+// Checking.antt and Baking.antt say for all of them. Refusals: 1 width, height or pitch above 65,536 (of a sheet: width or height above
+// 16,384); 12 a pitch below the width; 2 too few bytes; 6 too many (strict only); 3 too few elements, or too little room for a sheet; 4 a
+// block out of range, with its number (strict only); 5 a channel above 3; of sheets, 7 a record cut short, 8 no head, 9 another kind, 10
+// not exactly the blocks; 11 a block whose opaque bit is clear, with its number (opaque only); of degrees, 13 the legend, 14 the digits,
+// 15 the measurement; 16 a base channel above 15 or a flip above 1 (baker only). A refusal changes nothing. 18 is no refusal: the checker
+// does not accept the block.
 use bake::baker;
 use block_readers::Joined;
 use guard::Viewer;

@@ -41,13 +41,15 @@ returns : tie.Need-returns
 returns c =
     let k = c .before .before in
     let a = k .before .before .before .args in
-    refused 6 (olderCounts (guardOf (a .viewer)) (sized (a .width) (a .height)) (now (a .«data»)) (blocks (sized (a .width) (a .height)))) (now (a .«data»)) (sized (a .width) (a .height)) (now (a .counts)) TooLarge 1 refl (lit< tt) (sym (ap olderSaid (c .enum-told .given .1)) ∙ k .count .ensures) refl
+    refused 6 (olderCounts (guardOf (a .viewer)) (sized (a .width) (a .height)) (now (a .«data»)) (blocks (sized (a .width) (a .height))))
+    (now (a .«data»)) (sized (a .width) (a .height)) (now (a .counts)) TooLarge 1 refl (lit< tt) (sym (ap olderSaid (c .enum-told .given .1)) ∙ k .count .ensures) refl
 
 returns-2 : tie.Need-returns-2
 returns-2 c =
     let k = c .before .before in
     let a = k .before .before .before .args in
-    refused 6 (olderCounts (guardOf (a .viewer)) (sized (a .width) (a .height)) (now (a .«data»)) (blocks (sized (a .width) (a .height)))) (now (a .«data»)) (sized (a .width) (a .height)) (now (a .counts)) ShortData 2 refl (lit< tt) (sym (ap olderSaid (c .enum-told2 .given .1)) ∙ k .count .ensures) refl
+    refused 6 (olderCounts (guardOf (a .viewer)) (sized (a .width) (a .height)) (now (a .«data»)) (blocks (sized (a .width) (a .height))))
+    (now (a .«data»)) (sized (a .width) (a .height)) (now (a .counts)) ShortData 2 refl (lit< tt) (sym (ap olderSaid (c .enum-told2 .given .1)) ∙ k .count .ensures) refl
 
 same-length : tie.Need-same-length
 same-length c = search needs
@@ -58,7 +60,8 @@ returns-3 c =
     let v = l .before .before .before .before .before .before in
     let k = v .before .before in
     let a = k .before .before .before .args in
-    lays 6 (olderCounts (guardOf (a .viewer)) (sized (a .width) (a .height)) (now (a .«data»)) (blocks (sized (a .width) (a .height)))) (now (a .«data»)) (sized (a .width) (a .height)) (now (a .counts)) refl _ (sym (ap olderSaid (v .c .given .1)) ∙ k .count .ensures) (l .lay .result) _ (l .lay .ensures)
+    lays 6 (olderCounts (guardOf (a .viewer)) (sized (a .width) (a .height)) (now (a .«data»)) (blocks (sized (a .width) (a .height))))
+    (now (a .«data»)) (sized (a .width) (a .height)) (now (a .counts)) refl _ (sym (ap olderSaid (v .c .given .1)) ∙ k .count .ensures) (l .lay .result) _ (l .lay .ensures)
 
 pub older-counts-spec : {M : Type 1} → statement M
 older-counts-spec =
