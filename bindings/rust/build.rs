@@ -9,7 +9,10 @@ fn main() {
     let folder = PathBuf::from(env::var_os("OUT_DIR").unwrap());
     let target = env::var("TARGET").unwrap();
     let linked = folder.join("libyalivucu.a");
-    let carried = Path::new(env!("CARGO_MANIFEST_DIR")).join("archives").join(&target).join("libyalivucu.a");
+    let carried = Path::new(env!("CARGO_MANIFEST_DIR"))
+        .join("archives")
+        .join(&target)
+        .join("libyalivucu.a");
     match env::var_os("YALIVUCU_ARCHIVE") {
         Some(ready) => copy(Path::new(&ready), &linked),
         None if carried.exists() => copy(&carried, &linked),
@@ -29,7 +32,10 @@ fn copy(ready: &Path, linked: &Path) {
 fn make(folder: &Path, archive: &Path, target: &str) {
     let top = Path::new(env!("CARGO_MANIFEST_DIR")).join("../..");
     let script = top.join("bindings/archive");
-    assert!(script.exists(), "this package carries no archive for {target}: name one in YALIVUCU_ARCHIVE");
+    assert!(
+        script.exists(),
+        "this package carries no archive for {target}: name one in YALIVUCU_ARCHIVE"
+    );
     for part in ["crates", "crates.txt", "bindings/archive", "bindings/native.sh"] {
         println!("cargo:rerun-if-changed={}", top.join(part).display());
     }
