@@ -6,7 +6,7 @@ use yalivucu::typed::{older_etc1, older_rgb, read, Format, OlderCounts, Picture,
 
 /// The most of the newer reader's time that a count may take, of a mix of blocks, and where every block is of a newer kind.
 const LIMIT: f64 = 2.5;
-const LIMIT_ALL: f64 = 3.25;
+const LIMIT_ALL: f64 = 4.0;
 
 struct Pair {
     name: &'static str,
