@@ -85,7 +85,12 @@ pub const TABLE: &[Kind] = &[
     kind(Format::EacRgSigned, "eac-rg-signed", "EAC RG signed", RedGreen, ElevenSigned, Older::None),
     kind(Format::Bc1, "bc1", "BC1", Rgb, Eight, Older::None),
     kind(Format::Bc1Alpha, "bc1-alpha", "BC1 with alpha", Rgba, Eight, Older::None),
+    kind(Format::Bc2, "bc2", "BC2", Rgba, Eight, Older::None),
     kind(Format::Bc3, "bc3", "BC3", Rgba, Eight, Older::None),
+    kind(Format::Bc4, "bc4", "BC4", Red, Eight, Older::None),
+    kind(Format::Bc4Signed, "bc4-signed", "BC4 signed", Red, Eight, Older::None),
+    kind(Format::Bc5, "bc5", "BC5", RedGreen, Eight, Older::None),
+    kind(Format::Bc5Signed, "bc5-signed", "BC5 signed", RedGreen, Eight, Older::None),
     kind(Format::Bc7, "bc7", "BC7", Rgba, Eight, Older::None),
 ];
 

@@ -249,6 +249,17 @@ fn what_was_baked_can_be_read() {
 }
 
 #[test]
+fn pixels_outside_the_picture_are_not_compared() {
+    let room = Room::new();
+    for size in [(1, 1), (2, 4), (4, 3), (30, 18)] {
+        room.write("a.ktx", &single(Format::Etc1, size, &blocks(Format::Etc1, size.0, size.1, 5)));
+        room.run(&["unpack", "--force", "a.ktx", "a.png"]).is_done();
+        let ran = room.run(&["compare", "a.ktx", "a.png", "--tolerance", "0"]);
+        assert!(ran.status == 0 && ran.out.contains("the largest difference is 0"), "{size:?}: {ran:?}");
+    }
+}
+
+#[test]
 fn compare_counts_the_blocks_outside() {
     let room = baked();
     room.run(&["unpack", "baked.ktx", "baked.png"]).is_done();
