@@ -192,7 +192,8 @@ fn seconds(options: &crate::Options, list: &mut List) -> Result<()> {
         specimens().into_iter().filter(|s| s.shows() && s.case.reader == ETC1).map(|s| s.exact().0).collect();
     cases.extend(stored_accepted_plan(ETC1, options.seed, false).iter().map(|shape| shape.case()));
     list.group("Android: etc1", &ask(&options.android, cases)?);
-    for reader in FORMATS {
+    // Mesa rounds the signed values of BC4 and BC5 another way (docs/DIFFERENCES.md).
+    for reader in FORMATS.into_iter().filter(|&reader| reader != BC4_SIGNED && reader != BC5_SIGNED) {
         let shapes = stored_accepted_plan(reader, options.seed, reader == ETC1);
         let cases = shapes.iter().map(|shape| shape.case()).collect();
         let seen = ask(&options.mesa, cases)?;
