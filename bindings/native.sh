@@ -1,4 +1,4 @@
-# What bindings/archive and bindings/program share; each reads this file in. It uses their `top`, `work`, `machine` and `folder`.
+# What bindings/archive does besides proving: it reads this file in, which uses its `top`, `work`, `machine` and `folder`.
 
 # The crates that one is made of, each after those that it needs.
 parts() { # NAME

@@ -84,9 +84,10 @@ fn info_tells_what_the_library_tells() {
                 assert_eq!(said["levels"].as_array().map(Vec::len), Some(3));
                 let line = room.run(&["info", "a.ktx"]).out;
                 assert!(
-                    line.starts_with("a.ktx: KTX 1, ") && line.contains("20 x 12") && line.contains("3 levels"),
+                    line.starts_with("a.ktx: KTX 1, ") && line.contains("20 x 12") && line.contains("3 levels, linear"),
                     "{line}"
                 );
+                assert_eq!(line.contains("big endian"), big, "{line}");
                 assert_eq!((line.lines().count(), line.contains(&format!("{k} bytes left over"))), (1, k > 0));
             }
         }

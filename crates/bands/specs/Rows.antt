@@ -2,7 +2,7 @@
 -- Assumes nothing.
 use mathlib.Core.Bool.{cond}
 use mathlib.Core.List.{List, [], _∷_, _++_}
-use Prim.Native.Nat.{ℕ, zero, suc, _+_, _-_, _*_, _/_, _%_, min}
+use Prim.Native.Nat.{ℕ, zero, suc, _+_, _-_, _*_, min}
 use lib.Dec.{ltb}
 use Rattle.rules.specs.Notation.{build}
 use Rattle.rules.specs.Pixel.{Shows}
@@ -10,7 +10,6 @@ use Rattle.rules.specs.Places.{sized, across, bytesOf, pixelAt}
 use Rattle.rules.specs.Answers.{firstOf, guarded}
 use Rattle.rules.specs.Guards.{Guard}
 use Rattle.rules.specs.declared.Picture.{Picture}
-use Rattle.bands.specs.declared.Corner.{Corner}
 
 -- row j of blocks is so many pixels high: four, or what is left
 abbrev pub high : ℕ → ℕ → ℕ
@@ -32,10 +31,6 @@ rowPixels shows s p d j = build (p .width * high (p .height) j) (λ k. pixelAt s
 abbrev pub joined : (ℕ → List ℕ) → ℕ → List ℕ
 joined g zero = []
 joined g (suc n) = joined g n ++ g n
-
--- the first pixel of a block, where n of them are a row
-abbrev pub cornerOf : ℕ → ℕ → Corner
-cornerOf n block = record { column = block % n * 4; row = block / n * 4 }
 
 -- what a guard says of the first n blocks of some bytes
 abbrev pub scanned : Guard → List ℕ → ℕ → List ℕ
