@@ -77,7 +77,7 @@ pub fn read(
 {
     let legend = legend_at(kind, low, step, second);
     handed(
-        degrees::read(legend, named, shown, pixel, measured),
+        degrees::read_degrees(legend, named, shown, pixel, measured),
         predicted,
         seen,
         difference,

@@ -419,7 +419,7 @@ pub extern "C" fn yalivucu_decode_bc2(
         (λ a. ReadsPicture Format.Bc2 (now («data» .entry)) (sized width height) (now (image .entry)) a (now (image .exit)))
         r ⌝ }
 {
-    told::read(Format::Bc2, data, width, height, width, image)
+    pictures::read(Format::Bc2, data, width, height, width, image)
 }
 
 // The same of a picture with a pitch.
@@ -435,7 +435,7 @@ pub extern "C" fn yalivucu_decode_bc2_pitched(
         (λ a. ReadsPicture Format.Bc2 (now («data» .entry)) (pitched width height pitch) (now (image .entry)) a (now (image .exit)))
         r ⌝ }
 {
-    told::read(Format::Bc2, data, width, height, pitch, image)
+    pictures::read(Format::Bc2, data, width, height, pitch, image)
 }
 
 // Reads a BC4 picture.
@@ -450,7 +450,7 @@ pub extern "C" fn yalivucu_decode_bc4(
         (λ a. ReadsPicture Format.Bc4 (now («data» .entry)) (sized width height) (now (image .entry)) a (now (image .exit)))
         r ⌝ }
 {
-    told::read(Format::Bc4, data, width, height, width, image)
+    pictures::read(Format::Bc4, data, width, height, width, image)
 }
 
 // The same of a picture with a pitch.
@@ -466,7 +466,7 @@ pub extern "C" fn yalivucu_decode_bc4_pitched(
         (λ a. ReadsPicture Format.Bc4 (now («data» .entry)) (pitched width height pitch) (now (image .entry)) a (now (image .exit)))
         r ⌝ }
 {
-    told::read(Format::Bc4, data, width, height, pitch, image)
+    pictures::read(Format::Bc4, data, width, height, pitch, image)
 }
 
 // Reads a signed BC4 picture.
@@ -481,7 +481,7 @@ pub extern "C" fn yalivucu_decode_bc4_signed(
         (λ a. ReadsPicture Format.Bc4Signed (now («data» .entry)) (sized width height) (now (image .entry)) a (now (image .exit)))
         r ⌝ }
 {
-    told::read(Format::Bc4Signed, data, width, height, width, image)
+    pictures::read(Format::Bc4Signed, data, width, height, width, image)
 }
 
 // The same of a picture with a pitch.
@@ -497,7 +497,7 @@ pub extern "C" fn yalivucu_decode_bc4_signed_pitched(
         (λ a. ReadsPicture Format.Bc4Signed (now («data» .entry)) (pitched width height pitch) (now (image .entry)) a (now (image .exit)))
         r ⌝ }
 {
-    told::read(Format::Bc4Signed, data, width, height, pitch, image)
+    pictures::read(Format::Bc4Signed, data, width, height, pitch, image)
 }
 
 // Reads a BC5 picture.
@@ -512,7 +512,7 @@ pub extern "C" fn yalivucu_decode_bc5(
         (λ a. ReadsPicture Format.Bc5 (now («data» .entry)) (sized width height) (now (image .entry)) a (now (image .exit)))
         r ⌝ }
 {
-    told::read(Format::Bc5, data, width, height, width, image)
+    pictures::read(Format::Bc5, data, width, height, width, image)
 }
 
 // The same of a picture with a pitch.
@@ -528,7 +528,7 @@ pub extern "C" fn yalivucu_decode_bc5_pitched(
         (λ a. ReadsPicture Format.Bc5 (now («data» .entry)) (pitched width height pitch) (now (image .entry)) a (now (image .exit)))
         r ⌝ }
 {
-    told::read(Format::Bc5, data, width, height, pitch, image)
+    pictures::read(Format::Bc5, data, width, height, pitch, image)
 }
 
 // Reads a signed BC5 picture.
@@ -543,7 +543,7 @@ pub extern "C" fn yalivucu_decode_bc5_signed(
         (λ a. ReadsPicture Format.Bc5Signed (now («data» .entry)) (sized width height) (now (image .entry)) a (now (image .exit)))
         r ⌝ }
 {
-    told::read(Format::Bc5Signed, data, width, height, width, image)
+    pictures::read(Format::Bc5Signed, data, width, height, width, image)
 }
 
 // The same of a picture with a pitch.
@@ -559,7 +559,7 @@ pub extern "C" fn yalivucu_decode_bc5_signed_pitched(
         (λ a. ReadsPicture Format.Bc5Signed (now («data» .entry)) (pitched width height pitch) (now (image .entry)) a (now (image .exit)))
         r ⌝ }
 {
-    told::read(Format::Bc5Signed, data, width, height, pitch, image)
+    pictures::read(Format::Bc5Signed, data, width, height, pitch, image)
 }
 
 // Reads an ETC1 picture that holds no block out of range. Where it refuses for one, `block` is its number; otherwise `block` stays as it

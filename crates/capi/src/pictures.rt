@@ -27,7 +27,7 @@ pub fn read(
         height: height,
         pitch: pitch,
     };
-    answer_numbers::number(picture::read(f, data, pic, image))
+    answer_numbers::number(picture::read_picture(f, data, pic, image))
 }
 
 // Reads whole values of EAC, of red, or of red and green, with any pitch.
@@ -49,7 +49,7 @@ pub fn read_whole(
         height,
         pitch,
     };
-    answer_numbers::number(whole::read(green, signed, data, pic, image))
+    answer_numbers::number(whole::read_whole(green, signed, data, pic, image))
 }
 
 // The number of an answer. The block that it names is written, and an answer that names none writes none.

@@ -40,7 +40,7 @@ fn paint_if_done(answer: Answer, f: Format, data: &[u8], pic: Picture, image: &m
 }
 
 // Reads a picture of any format: the answer and every element of the image, for all inputs.
-pub fn read(f: Format, data: &[u8], pic: Picture, image: &mut [u32]) -> Answer
+pub fn read_picture(f: Format, data: &[u8], pic: Picture, image: &mut [u32]) -> Answer
     ensures { λ r. ⌜ ReadsPicture f (now («data» .entry)) pic (now (image .entry)) r (now (image .exit)) ⌝ }
 {
     let answer = checks::verify(checks::size(f), pic, data.len(), image.len());

@@ -58,7 +58,7 @@ fn read(f: Format, data: &[u8], width: usize, height: usize, image: &mut [u32]) 
         height: height,
         pitch: width,
     };
-    picture::read(f, data, pic, image)
+    picture::read_picture(f, data, pic, image)
 }
 
 // Reads an ETC1 picture.
@@ -72,7 +72,7 @@ pub fn decode_etc1(data: &[u8], width: usize, height: usize, image: &mut [u32]) 
 pub fn decode_etc1_pitched(data: &[u8], pic: Picture, image: &mut [u32]) -> Answer
     ensures { λ r. ⌜ ReadsPicture Format.Etc1 (now («data» .entry)) pic (now (image .entry)) r (now (image .exit)) ⌝ }
 {
-    picture::read(Format::Etc1, data, pic, image)
+    picture::read_picture(Format::Etc1, data, pic, image)
 }
 
 // Reads an ETC2 RGB picture.
@@ -86,7 +86,7 @@ pub fn decode_etc2_rgb(data: &[u8], width: usize, height: usize, image: &mut [u3
 pub fn decode_etc2_rgb_pitched(data: &[u8], pic: Picture, image: &mut [u32]) -> Answer
     ensures { λ r. ⌜ ReadsPicture Format.Etc2Rgb (now («data» .entry)) pic (now (image .entry)) r (now (image .exit)) ⌝ }
 {
-    picture::read(Format::Etc2Rgb, data, pic, image)
+    picture::read_picture(Format::Etc2Rgb, data, pic, image)
 }
 
 // Reads an ETC2 RGBA1 picture.
@@ -100,7 +100,7 @@ pub fn decode_etc2_rgba1(data: &[u8], width: usize, height: usize, image: &mut [
 pub fn decode_etc2_rgba1_pitched(data: &[u8], pic: Picture, image: &mut [u32]) -> Answer
     ensures { λ r. ⌜ ReadsPicture Format.Etc2Rgba1 (now («data» .entry)) pic (now (image .entry)) r (now (image .exit)) ⌝ }
 {
-    picture::read(Format::Etc2Rgba1, data, pic, image)
+    picture::read_picture(Format::Etc2Rgba1, data, pic, image)
 }
 
 // Reads an ETC2 RGBA8 picture.
@@ -114,7 +114,7 @@ pub fn decode_etc2_rgba8(data: &[u8], width: usize, height: usize, image: &mut [
 pub fn decode_etc2_rgba8_pitched(data: &[u8], pic: Picture, image: &mut [u32]) -> Answer
     ensures { λ r. ⌜ ReadsPicture Format.Etc2Rgba8 (now («data» .entry)) pic (now (image .entry)) r (now (image .exit)) ⌝ }
 {
-    picture::read(Format::Etc2Rgba8, data, pic, image)
+    picture::read_picture(Format::Etc2Rgba8, data, pic, image)
 }
 
 // Reads an EAC R picture.
@@ -128,7 +128,7 @@ pub fn decode_eacr(data: &[u8], width: usize, height: usize, image: &mut [u32]) 
 pub fn decode_eacr_pitched(data: &[u8], pic: Picture, image: &mut [u32]) -> Answer
     ensures { λ r. ⌜ ReadsPicture Format.EacR (now («data» .entry)) pic (now (image .entry)) r (now (image .exit)) ⌝ }
 {
-    picture::read(Format::EacR, data, pic, image)
+    picture::read_picture(Format::EacR, data, pic, image)
 }
 
 // Reads a signed EAC R picture.
@@ -143,7 +143,7 @@ pub fn decode_eacr_signed(data: &[u8], width: usize, height: usize, image: &mut 
 pub fn decode_eacr_signed_pitched(data: &[u8], pic: Picture, image: &mut [u32]) -> Answer
     ensures { λ r. ⌜ ReadsPicture Format.EacRSigned (now («data» .entry)) pic (now (image .entry)) r (now (image .exit)) ⌝ }
 {
-    picture::read(Format::EacRSigned, data, pic, image)
+    picture::read_picture(Format::EacRSigned, data, pic, image)
 }
 
 // Reads an EAC RG picture.
@@ -157,7 +157,7 @@ pub fn decode_eacrg(data: &[u8], width: usize, height: usize, image: &mut [u32])
 pub fn decode_eacrg_pitched(data: &[u8], pic: Picture, image: &mut [u32]) -> Answer
     ensures { λ r. ⌜ ReadsPicture Format.EacRg (now («data» .entry)) pic (now (image .entry)) r (now (image .exit)) ⌝ }
 {
-    picture::read(Format::EacRg, data, pic, image)
+    picture::read_picture(Format::EacRg, data, pic, image)
 }
 
 // Reads a signed EAC RG picture.
@@ -172,7 +172,7 @@ pub fn decode_eacrg_signed(data: &[u8], width: usize, height: usize, image: &mut
 pub fn decode_eacrg_signed_pitched(data: &[u8], pic: Picture, image: &mut [u32]) -> Answer
     ensures { λ r. ⌜ ReadsPicture Format.EacRgSigned (now («data» .entry)) pic (now (image .entry)) r (now (image .exit)) ⌝ }
 {
-    picture::read(Format::EacRgSigned, data, pic, image)
+    picture::read_picture(Format::EacRgSigned, data, pic, image)
 }
 
 // Reads a BC1 picture without alpha.
@@ -186,7 +186,7 @@ pub fn decode_bc1(data: &[u8], width: usize, height: usize, image: &mut [u32]) -
 pub fn decode_bc1_pitched(data: &[u8], pic: Picture, image: &mut [u32]) -> Answer
     ensures { λ r. ⌜ ReadsPicture Format.Bc1 (now («data» .entry)) pic (now (image .entry)) r (now (image .exit)) ⌝ }
 {
-    picture::read(Format::Bc1, data, pic, image)
+    picture::read_picture(Format::Bc1, data, pic, image)
 }
 
 // Reads a BC1 picture with one bit of alpha.
@@ -200,7 +200,7 @@ pub fn decode_bc1a(data: &[u8], width: usize, height: usize, image: &mut [u32]) 
 pub fn decode_bc1a_pitched(data: &[u8], pic: Picture, image: &mut [u32]) -> Answer
     ensures { λ r. ⌜ ReadsPicture Format.Bc1Alpha (now («data» .entry)) pic (now (image .entry)) r (now (image .exit)) ⌝ }
 {
-    picture::read(Format::Bc1Alpha, data, pic, image)
+    picture::read_picture(Format::Bc1Alpha, data, pic, image)
 }
 
 // Reads a BC3 picture.
@@ -214,7 +214,7 @@ pub fn decode_bc3(data: &[u8], width: usize, height: usize, image: &mut [u32]) -
 pub fn decode_bc3_pitched(data: &[u8], pic: Picture, image: &mut [u32]) -> Answer
     ensures { λ r. ⌜ ReadsPicture Format.Bc3 (now («data» .entry)) pic (now (image .entry)) r (now (image .exit)) ⌝ }
 {
-    picture::read(Format::Bc3, data, pic, image)
+    picture::read_picture(Format::Bc3, data, pic, image)
 }
 
 // Reads a BC7 picture.
@@ -228,7 +228,7 @@ pub fn decode_bc7(data: &[u8], width: usize, height: usize, image: &mut [u32]) -
 pub fn decode_bc7_pitched(data: &[u8], pic: Picture, image: &mut [u32]) -> Answer
     ensures { λ r. ⌜ ReadsPicture Format.Bc7 (now («data» .entry)) pic (now (image .entry)) r (now (image .exit)) ⌝ }
 {
-    picture::read(Format::Bc7, data, pic, image)
+    picture::read_picture(Format::Bc7, data, pic, image)
 }
 
 // Reads a BC2 picture.
@@ -242,7 +242,7 @@ pub fn decode_bc2(data: &[u8], width: usize, height: usize, image: &mut [u32]) -
 pub fn decode_bc2_pitched(data: &[u8], pic: Picture, image: &mut [u32]) -> Answer
     ensures { λ r. ⌜ ReadsPicture Format.Bc2 (now («data» .entry)) pic (now (image .entry)) r (now (image .exit)) ⌝ }
 {
-    picture::read(Format::Bc2, data, pic, image)
+    picture::read_picture(Format::Bc2, data, pic, image)
 }
 
 // Reads a BC4 picture.
@@ -256,7 +256,7 @@ pub fn decode_bc4(data: &[u8], width: usize, height: usize, image: &mut [u32]) -
 pub fn decode_bc4_pitched(data: &[u8], pic: Picture, image: &mut [u32]) -> Answer
     ensures { λ r. ⌜ ReadsPicture Format.Bc4 (now («data» .entry)) pic (now (image .entry)) r (now (image .exit)) ⌝ }
 {
-    picture::read(Format::Bc4, data, pic, image)
+    picture::read_picture(Format::Bc4, data, pic, image)
 }
 
 // Reads a signed BC4 picture.
@@ -270,7 +270,7 @@ pub fn decode_bc4_signed(data: &[u8], width: usize, height: usize, image: &mut [
 pub fn decode_bc4_signed_pitched(data: &[u8], pic: Picture, image: &mut [u32]) -> Answer
     ensures { λ r. ⌜ ReadsPicture Format.Bc4Signed (now («data» .entry)) pic (now (image .entry)) r (now (image .exit)) ⌝ }
 {
-    picture::read(Format::Bc4Signed, data, pic, image)
+    picture::read_picture(Format::Bc4Signed, data, pic, image)
 }
 
 // Reads a BC5 picture.
@@ -284,7 +284,7 @@ pub fn decode_bc5(data: &[u8], width: usize, height: usize, image: &mut [u32]) -
 pub fn decode_bc5_pitched(data: &[u8], pic: Picture, image: &mut [u32]) -> Answer
     ensures { λ r. ⌜ ReadsPicture Format.Bc5 (now («data» .entry)) pic (now (image .entry)) r (now (image .exit)) ⌝ }
 {
-    picture::read(Format::Bc5, data, pic, image)
+    picture::read_picture(Format::Bc5, data, pic, image)
 }
 
 // Reads a signed BC5 picture.
@@ -298,7 +298,7 @@ pub fn decode_bc5_signed(data: &[u8], width: usize, height: usize, image: &mut [
 pub fn decode_bc5_signed_pitched(data: &[u8], pic: Picture, image: &mut [u32]) -> Answer
     ensures { λ r. ⌜ ReadsPicture Format.Bc5Signed (now («data» .entry)) pic (now (image .entry)) r (now (image .exit)) ⌝ }
 {
-    picture::read(Format::Bc5Signed, data, pic, image)
+    picture::read_picture(Format::Bc5Signed, data, pic, image)
 }
 
 // Reads an ETC1 picture that holds no block out of range and has no bytes behind its blocks; it refuses any other, where a block is out
@@ -377,7 +377,7 @@ fn read_whole(
         height: height,
         pitch: width,
     };
-    whole::read(green, signed, data, pic, image)
+    whole::read_whole(green, signed, data, pic, image)
 }
 
 // Reads all eleven bits of an EAC R picture, 0 to 2047, into 16-bit numbers.
@@ -391,7 +391,7 @@ pub fn decode_eacr11(data: &[u8], width: usize, height: usize, image: &mut [u16]
 pub fn decode_eacr11_pitched(data: &[u8], pic: Picture, image: &mut [u16]) -> Answer
     ensures { λ r. ⌜ ReadsWhole false 1 (now («data» .entry)) pic (now (image .entry)) r (now (image .exit)) ⌝ }
 {
-    whole::read(false, false, data, pic, image)
+    whole::read_whole(false, false, data, pic, image)
 }
 
 // The same of a signed EAC R picture, -1023 to 1023: a negative number is in two's complement.
@@ -405,7 +405,7 @@ pub fn decode_eacr11_signed(data: &[u8], width: usize, height: usize, image: &mu
 pub fn decode_eacr11_signed_pitched(data: &[u8], pic: Picture, image: &mut [u16]) -> Answer
     ensures { λ r. ⌜ ReadsWhole true 1 (now («data» .entry)) pic (now (image .entry)) r (now (image .exit)) ⌝ }
 {
-    whole::read(false, true, data, pic, image)
+    whole::read_whole(false, true, data, pic, image)
 }
 
 // Reads all eleven bits of an EAC RG picture: two numbers to a pixel, red then green.
@@ -419,7 +419,7 @@ pub fn decode_eacrg11(data: &[u8], width: usize, height: usize, image: &mut [u16
 pub fn decode_eacrg11_pitched(data: &[u8], pic: Picture, image: &mut [u16]) -> Answer
     ensures { λ r. ⌜ ReadsWhole false 2 (now («data» .entry)) pic (now (image .entry)) r (now (image .exit)) ⌝ }
 {
-    whole::read(true, false, data, pic, image)
+    whole::read_whole(true, false, data, pic, image)
 }
 
 // The same of a signed EAC RG picture.
@@ -433,7 +433,7 @@ pub fn decode_eacrg11_signed(data: &[u8], width: usize, height: usize, image: &m
 pub fn decode_eacrg11_signed_pitched(data: &[u8], pic: Picture, image: &mut [u16]) -> Answer
     ensures { λ r. ⌜ ReadsWhole true 2 (now («data» .entry)) pic (now (image .entry)) r (now (image .exit)) ⌝ }
 {
-    whole::read(true, true, data, pic, image)
+    whole::read_whole(true, true, data, pic, image)
 }
 
 // Reads an ETC1 block of 8 bytes into the elements 0 to 15.
@@ -692,7 +692,7 @@ pub fn degrees(
 ) -> Reply
     ensures { λ r. ⌜ ReadsDegrees legend «legend_digit» «picture_digit» pixel measured r ⌝ }
 {
-    degrees::read(legend, legend_digit, picture_digit, pixel, measured)
+    degrees::read_degrees(legend, legend_digit, picture_digit, pixel, measured)
 }
 
 // The number of an answer of the two functions below.

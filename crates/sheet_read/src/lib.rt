@@ -30,7 +30,7 @@ pub fn read_sheet(bytes: &[u8], image: &mut [u32]) -> Answer
                 height: head.height,
                 pitch: head.width,
             };
-            picture::read(
+            picture::read_picture(
                 sheet::format_of(head.format),
                 &bytes[start..end],
                 pic,

@@ -264,7 +264,7 @@ fn paint(green: bool, signed: bool, data: &[u8], pic: Picture, image: &mut [u16]
 }
 
 // Reads a picture of whole values: red, or red and green. The answer and every element of the image, for all inputs.
-pub fn read(green: bool, signed: bool, data: &[u8], pic: Picture, image: &mut [u16]) -> Answer
+pub fn read_whole(green: bool, signed: bool, data: &[u8], pic: Picture, image: &mut [u16]) -> Answer
     ensures { λ r. ⌜ ReadsWhole signed (lanes green) (now («data» .entry)) pic (now (image .entry)) r (now (image .exit)) ⌝ }
 {
     let answer = checks::verify(

@@ -37,8 +37,8 @@ part-read-start c = search needs
 part-read-end : tie.Need-part-read-end
 part-read-end c = let t = sheet (c .before) in omega (arith, t .within)
 
-read-requires : tie.Need-read-requires
-read-requires c κs = search needs
+read-picture-requires : tie.Need-read-picture-requires
+read-picture-requires c κs = search needs
 
 enum-known-found-2 : tie.Need-enum-known-found-2
 enum-known-found-2 c = search needs
@@ -52,7 +52,7 @@ returns c =
     let o = b .before .before .before in
     let k = o .before in
     let t = sheet k in
-    let q = rw (o .format-of .ensures) at (b .read .ensures) in
+    let q = rw (o .format-of .ensures) at (b .read-picture .ensures) in
     reads _ _ _ (t .shown) _ _ _ (rw (add-sub-cancel-left (k .before .found .given .0 .1 .0) (k .before .found .given .0 .1 .1 .0)) at q)
 
 returns-2 : tie.Need-returns-2
@@ -71,7 +71,7 @@ read-sheet-spec =
     sub-read
     part-read-start
     part-read-end
-    read-requires
+    read-picture-requires
     enum-known-found-2
     same-length
     returns

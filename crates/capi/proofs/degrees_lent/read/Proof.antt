@@ -10,8 +10,8 @@ use Rattle.capi.proofs.degrees_lent.read.Tie as tie
 legend-at-requires : tie.Need-legend-at-requires
 legend-at-requires c κs = search needs
 
-read-requires : tie.Need-read-requires
-read-requires c κs = search needs
+read-degrees-requires : tie.Need-read-degrees-requires
+read-degrees-requires c κs = search needs
 
 handed-requires : tie.Need-handed-requires
 handed-requires c κs = search needs
@@ -22,11 +22,11 @@ returns c =
     let l = k .before in
     let a = l .before .args in
     let h = c .handed .ensures in
-    let reply = k .read .result in
+    let reply = k .read-degrees .result in
     record {
       reply = reply;
       reads =
-          subst (λ (x : Legend). ReadsDegrees x (a .named) (a .shown) (a .pixel) (a .measured) reply) (l .legend-at .ensures) (k .read .ensures);
+          subst (λ (x : Legend). ReadsDegrees x (a .named) (a .shown) (a .pixel) (a .measured) reply) (l .legend-at .ensures) (k .read-degrees .ensures);
       says = h .0;
       the-predicted = h .1;
       the-measured = h .2;
@@ -34,4 +34,4 @@ returns c =
     }
 
 pub read-spec : {M : Type 1} → statement M
-read-spec = tie.close (tie.spec legend-at-requires read-requires handed-requires returns)
+read-spec = tie.close (tie.spec legend-at-requires read-degrees-requires handed-requires returns)

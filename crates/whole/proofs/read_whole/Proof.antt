@@ -14,8 +14,8 @@ use Rattle.checks.proofs.Checks.{passed-by}
 use Rattle.whole.specs.Lanes.{lanes}
 use Rattle.whole.proofs.Checked.{same-verdict}
 use borrow.Author.Needs.{needs}
-use Rattle.whole.proofs.read.Statement.{statement}
-use Rattle.whole.proofs.read.Tie as tie
+use Rattle.whole.proofs.read_whole.Statement.{statement}
+use Rattle.whole.proofs.read_whole.Tie as tie
 
 lanes-of-requires : tie.Need-lanes-of-requires
 lanes-of-requires c κs = search needs
@@ -79,8 +79,8 @@ returns-2 c =
     done (wholeVerdict (lanes (a .green)) (a .pic) (now (a .«data»)) l) (wholePicture (a .signed) (lanes (a .green)) (a .pic) (now (a .«data»)) l) l _
     (sym (ap said (t .enum-told .given .1)) ∙ told v) (p .paint .ensures)
 
-pub read-spec : {M : Type 1} → statement M
-read-spec =
+pub read-whole-spec : {M : Type 1} → statement M
+read-whole-spec =
     tie.close
     (tie.spec
     lanes-of-requires

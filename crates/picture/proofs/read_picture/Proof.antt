@@ -1,4 +1,4 @@
--- `picture::read` meets its contract: the checks, and then the picture where they pass.
+-- `picture::read_picture` meets its contract: the checks, and then the picture where they pass.
 -- Assumes nothing.
 use mathlib.Core.Path.{_≡_}
 use mathlib.Core.List.{[], _∷_}
@@ -9,8 +9,8 @@ use Rattle.rules.specs.Formats.{sizeOf}
 use Rattle.rules.specs.Readers.{pictureOf, pictureVerdict}
 use Rattle.checks.proofs.Checks.{as-said, passed-by}
 use borrow.Author.Needs.{needs}
-use Rattle.picture.proofs.read.Statement.{statement}
-use Rattle.picture.proofs.read.Tie as tie
+use Rattle.picture.proofs.read_picture.Statement.{statement}
+use Rattle.picture.proofs.read_picture.Tie as tie
 
 size-requires : tie.Need-size-requires
 size-requires c κs = search needs
@@ -43,5 +43,5 @@ returns c =
     let l = now (a .image) in
     as-said (said (v .verify .result)) (pictureVerdict (a .f) (a .pic) d l) (pictureOf (a .f) (a .pic) d l) l _ (p .paint-if-done .result) (told v) (p .paint-if-done .ensures)
 
-pub read-spec : {M : Type 1} → statement M
-read-spec = tie.close (tie.spec size-requires verify-requires paint-if-done-requires same-length returns)
+pub read-picture-spec : {M : Type 1} → statement M
+read-picture-spec = tie.close (tie.spec size-requires verify-requires paint-if-done-requires same-length returns)

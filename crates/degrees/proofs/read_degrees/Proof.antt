@@ -1,4 +1,4 @@
--- `degrees::read` meets its contract: each way out is that of the first check that fails, or the reading.
+-- `degrees::read_degrees` meets its contract: each way out is that of the first check that fails, or the reading.
 -- Assumes nothing.
 use mathlib.Core.Path.{_≡_, sym, _∙_, subst}
 use mathlib.Core.Bool.{true}
@@ -8,8 +8,8 @@ use lib.Ieee.{binary32, fits}
 use Rattle.rules.specs.Degrees.{inDegrees, sound, oneDigit}
 use Rattle.degrees.proofs.Checks.{bad-legend, bad-digit, bad-measurement, not-measured, reads}
 use borrow.Author.Needs.{needs}
-use Rattle.degrees.proofs.read.Statement.{statement}
-use Rattle.degrees.proofs.read.Tie as tie
+use Rattle.degrees.proofs.read_degrees.Statement.{statement}
+use Rattle.degrees.proofs.read_degrees.Tie as tie
 
 -- what is known past each check
 abbrev start : tie.After-unseen → tie.Start
@@ -82,8 +82,8 @@ returns-5 c =
     (subst T (sym (c .predicted .ok)) tt)
     (c .predicted .ensures)
 
-pub read-spec : {M : Type 1} → statement M
-read-spec =
+pub read-degrees-spec : {M : Type 1} → statement M
+read-degrees-spec =
     tie.close
     (tie.spec
     sound-requires
