@@ -28,14 +28,14 @@ add-end c = let t = sheet c in omega (arith, t .within)
 format-of-requires : tie.Need-format-of-requires
 format-of-requires c κs = let t = sheet c in t .shown .begins .sound .known
 
-sub-read : tie.Need-sub-read
-sub-read c = search needs
+sub-read-picture : tie.Need-sub-read-picture
+sub-read-picture c = search needs
 
-part-read-start : tie.Need-part-read-start
-part-read-start c = search needs
+part-read-picture-start : tie.Need-part-read-picture-start
+part-read-picture-start c = search needs
 
-part-read-end : tie.Need-part-read-end
-part-read-end c = let t = sheet (c .before) in omega (arith, t .within)
+part-read-picture-end : tie.Need-part-read-picture-end
+part-read-picture-end c = let t = sheet (c .before) in omega (arith, t .within)
 
 read-picture-requires : tie.Need-read-picture-requires
 read-picture-requires c κs = search needs
@@ -68,9 +68,9 @@ read-sheet-spec =
     enum-known-found
     add-end
     format-of-requires
-    sub-read
-    part-read-start
-    part-read-end
+    sub-read-picture
+    part-read-picture-start
+    part-read-picture-end
     read-picture-requires
     enum-known-found-2
     same-length
