@@ -36,9 +36,9 @@ mod baking;
 #[cfg(feature = "std")]
 mod bands;
 mod census;
-mod older;
 mod degrees;
 mod file;
+mod older;
 mod pieces;
 mod refusal;
 mod sheet;

@@ -20,8 +20,8 @@ pub use crate::older::{older_etc1, older_rgb, OlderCounts, OlderPixel};
 pub use crate::pieces::{Pieces, Taken};
 pub use crate::refusal::Refusal;
 pub use crate::sheet::{read_sheet, sheet_head, write_sheet, Head};
-pub use crate::whole::{decode_eacr11, decode_eacr11_signed, decode_eacrg11, decode_eacrg11_signed};
 use crate::sys;
+pub use crate::whole::{decode_eacr11, decode_eacr11_signed, decode_eacrg11, decode_eacrg11_signed};
 
 /// The formats that can be read.
 #[derive(Clone, Copy, Debug, PartialEq, Eq, Hash)]
