@@ -10,7 +10,8 @@ use Rattle.numbers.specs.Numbers.{little, big, inBytes, bigBytes}
 use Rattle.rules.specs.Formats.{sizeOf}
 use Rattle.rules.specs.Records.{walked, kept, payloadAt}
 use Rattle.rules.specs.Sheets.{formatOf, headVerdict}
-use Rattle.rules.specs.FileFormats.{formatAt, known, word32}
+use Rattle.rules.specs.FileFormats.{formatList, formatNumber, formatAt, known, word32}
+use Rattle.rules.specs.declared.Format.{Format}
 use Rattle.rules.specs.FileLevels.{bytesFor, insideOf, afterSize, inIndex, fitOf, levelAt, nextSpot, levelsFrom, levelsOf, tooMany, heldOf, openedBy, foundBy}
 use Rattle.rules.specs.Keys.{isOrientation, rowsTold, rowsIn, orientationOf}
 use Rattle.rules.specs.Pkm.{pkmAs, pkmOf}
@@ -470,6 +471,92 @@ unfolding answer row every zeros word words pkm identifier ktx1 level ktx2 entry
     headerOf openedAs foundAs openedVerdict foundVerdict
 hold-keyed-files = tt
 
+-- each number has all its bytes and no other; a file that ends beside a field; two levels and more
+edges : List Row
+edges =
+    row (opens (ktx1 false 0x9274 0x1000004 4 0 0 1 1 0 ++ level false 8)) (1 ∷ [])
+    ∷ row (opens (ktx1 false 0x9274 4 4 0 0 2 1 0 ++ level false 8)) (25 ∷ [])
+    ∷ row (opens (ktx1 false 0x9274 4 4 0 0 1 1 0 ++ word false 9)) (24 ∷ [])
+    ∷ row (opens (ktx1 false 0x9274 4 4 0 0 1 1 0 ++ (9 ∷ 0 ∷ 0 ∷ []))) (37 ∷ [])
+    ∷ row (opens (ktx1 false 0x9274 8 4 0 0 1 4 0 ++ level false 16 ++ level false 8 ++ level false 8 ++ level false 8))
+    (0 ∷ 2 ∷ 1 ∷ 0 ∷ 8 ∷ 4 ∷ 4 ∷ 0 ∷ 0 ∷ 0 ∷ [])
+    ∷ row (opens (ktx1 false 0x9274 8 8 0 0 1 2 0 ++ level false 32 ++ level false 8)) (0 ∷ 2 ∷ 1 ∷ 0 ∷ 8 ∷ 8 ∷ 2 ∷ 0 ∷ 0 ∷ 0 ∷ [])
+    ∷ row (opens (ktx2 147 4 4 0 0 1 1 0 ++ entry 104 9)) (24 ∷ [])
+    ∷ row (opens (take 103 (ktx2 147 4 4 0 0 1 1 0 ++ entry 104 9))) (37 ∷ [])
+    ∷ row (opens (ktx2 147 8 4 0 0 1 2 0 ++ entry 0 16 ++ entry 0 9)) (24 ∷ [])
+    ∷ row (opens (take 127 (ktx2 147 8 4 0 0 1 2 0 ++ entry 0 16 ++ entry 0 9))) (37 ∷ [])
+    ∷ row (opens (ktx2 147 8 8 0 0 1 2 0 ++ entry 0 32 ++ entry 0 8)) (0 ∷ 3 ∷ 1 ∷ 0 ∷ 8 ∷ 8 ∷ 2 ∷ 0 ∷ 0 ∷ 96 ∷ [])
+    ∷ row (opens (ktx2 147 4 4 0 0 1 1 0 ++ entry 104 0x100000000000008 ++ zeros 8)) (24 ∷ [])
+    ∷ row (opens (ktx2 147 4 4 0 0 1 1 0 ++ entry 0x100000000000068 8 ++ zeros 8)) (37 ∷ [])
+    ∷ row (opens (ktx2 147 4 4 0 0 1 1 0 ++ inBytes 8 104 ++ inBytes 8 8 ++ inBytes 8 8 ++ zeros 8)) (0 ∷ 3 ∷ 1 ∷ 0 ∷ 4 ∷ 4 ∷ 1 ∷ 0 ∷ 0 ∷ 0 ∷ [])
+    ∷ row (opens ((0 ∷ 0 ∷ 0 ∷ 0 ∷ 32 ∷ 50 ∷ 48 ∷ 187 ∷ 13 ∷ 10 ∷ 26 ∷ 10 ∷ []) ++ words false (147 ∷ 1 ∷ 4 ∷ 4 ∷ 0 ∷ 0 ∷ 1 ∷ 1 ∷ 0 ∷ 0 ∷ 0 ∷ 0 ∷ 0 ∷ []) ++ zeros 16 ++ entry 104 8 ++ zeros 8))
+    (21 ∷ [])
+    ∷ row (opens (ktx2 147 0x1000004 4 0 0 1 1 0 ++ entry 104 8 ++ zeros 8)) (1 ∷ [])
+    ∷ row (opens (ktx2 147 4 0x1000004 0 0 1 1 0 ++ entry 104 8 ++ zeros 8)) (1 ∷ [])
+    ∷ row (opens (ktx2 147 4 4 0x1000000 0 1 1 0 ++ entry 104 8 ++ zeros 8)) (25 ∷ [])
+    ∷ row (opens (ktx2 147 4 4 0 0x1000000 1 1 0 ++ entry 104 8 ++ zeros 8)) (25 ∷ [])
+    ∷ row (opens (ktx2 147 4 4 0 0 0x1000001 1 0 ++ entry 104 8 ++ zeros 8)) (25 ∷ [])
+    ∷ row (opens (ktx2 147 4 4 0 0 1 1 0x1000000 ++ entry 104 8 ++ zeros 8)) (41 ∷ [])
+    ∷ row (opens (ktx2 0x1000093 4 4 0 0 1 1 0 ++ entry 104 8 ++ zeros 8)) (23 ∷ [])
+    ∷ row (opens (identifier 0x32 0x30 ++ words false (147 ∷ 1 ∷ 4 ∷ 4 ∷ 0 ∷ 0 ∷ 1 ∷ 1 ∷ 0 ∷ 104 ∷ 44 ∷ 0 ∷ 0 ∷ []) ++ zeros 16 ++ entry 148 8 ++ zeros 52))
+    (0 ∷ 3 ∷ 1 ∷ 0 ∷ 4 ∷ 4 ∷ 1 ∷ 0 ∷ 0 ∷ 0 ∷ [])
+    ∷ row (opens (pkm 0x3130 0 4 4 4 4)) (37 ∷ [])
+    ∷ row (opens (pkm 0x3130 256 4 4 4 4 ++ zeros 8)) (23 ∷ [])
+    ∷ row (opens (pkm 0x3130 0 256 4 256 4 ++ zeros 512)) (0 ∷ 1 ∷ 0 ∷ 0 ∷ 256 ∷ 4 ∷ 1 ∷ 1 ∷ 0 ∷ 0 ∷ [])
+    ∷ row (opens (dds 4 0x44585435 4 4 0 0x0 ++ zeros 15)) (37 ∷ [])
+    ∷ row (opens (dds 4 0x44585431 0x1000004 4 0 0x0 ++ zeros 8)) (1 ∷ [])
+    ∷ row (opens (dds 4 0x44585431 4 0x1000004 0 0x0 ++ zeros 8)) (1 ∷ [])
+    ∷ row (opens (dds 4 0x44583130 4 4 0 0x0 ++ dx10 71 0x1000003 0 1 ++ zeros 8)) (25 ∷ [])
+    ∷ row (opens (dds 4 0x44583130 4 4 0 0x0 ++ dx10 71 0x1000000 0 1 ++ zeros 8)) (25 ∷ [])
+    ∷ row (opens (dds 4 0x44583130 4 4 0 0x0 ++ dx10 71 3 0 0x1000000 ++ zeros 8)) (25 ∷ [])
+    ∷ row (opens (dds 4 0x44583130 4 4 0 0x0 ++ dx10 71 3 1 1 ++ zeros 8)) (0 ∷ 4 ∷ 9 ∷ 0 ∷ 4 ∷ 4 ∷ 1 ∷ 0 ∷ 0 ∷ 0 ∷ [])
+    ∷ row (opens (dds 4 0x44583130 4 4 0 0x0 ++ dx10 0x1000047 3 0 1 ++ zeros 8)) (23 ∷ [])
+    ∷ row (opens (dds 4 0x44583130 4 4 0 0x0 ++ words false (71 ∷ 3 ∷ 0 ∷ 1 ∷ 3 ∷ []) ++ zeros 8)) (0 ∷ 4 ∷ 9 ∷ 0 ∷ 4 ∷ 4 ∷ 1 ∷ 0 ∷ 0 ∷ 0 ∷ [])
+    ∷ row (opens ((68 ∷ 68 ∷ 83 ∷ 32 ∷ []) ++ words false (124 ∷ 0x1007 ∷ 4 ∷ 4 ∷ 8 ∷ 0 ∷ 1 ∷ 0x5454564e ∷ []) ++ zeros 40
+    ++ words false (32 ∷ 4 ∷ []) ++ bigBytes 4 0x44585431 ++ zeros 20 ++ words false (0x1000 ∷ 0 ∷ []) ++ zeros 12 ++ zeros 8))
+    (0 ∷ 4 ∷ 9 ∷ 0 ∷ 4 ∷ 4 ∷ 1 ∷ 0 ∷ 0 ∷ 0 ∷ [])
+    ∷ row (level-of (dds 4 0x44585435 8 8 2 0x0 ++ zeros 80) 1) (0 ∷ 4 ∷ 4 ∷ 192 ∷ 16 ∷ [])
+    ∷ []
+
+hold-edges : T (every edges)
+unfolding answer row every zeros word words pkm identifier ktx1 level ktx2 entry dds dx10 rec orientation qt-orientation keyed keyed2 edges
+    little big inBytes bigBytes sizeOf walked kept payloadAt formatOf headVerdict formatAt known word32
+    bytesFor insideOf afterSize inIndex fitOf levelAt nextSpot levelsFrom levelsOf tooMany heldOf openedBy foundBy
+    isOrientation rowsTold rowsIn orientationOf pkmAs pkmOf ktx1As ktx1In ktx1Of ktx2As ktx2Of ddsFlat dx10Flat ddsAs fourCCFormat dx10Of ddsOf sheetHeader
+    headerOf openedAs foundAs openedVerdict foundVerdict
+hold-edges = tt
+
+-- key and value data that is cut, is no run of entries, or is told to lie elsewhere
+keyed-edges : List Row
+keyed-edges =
+    row (opens (keyed false (word false 23 ++ orientation ++ (83 ∷ 61 ∷ 114 ∷ 44 ∷ 84 ∷ 61 ∷ 100 ∷ 0 ∷ 0 ∷ []) ++ (0 ∷ 0 ∷ []))))
+    (0 ∷ 2 ∷ 0 ∷ 0 ∷ 4 ∷ 4 ∷ 1 ∷ 0 ∷ 0 ∷ 0 ∷ [])
+    ∷ row (opens (keyed false (word false 23 ++ orientation ++ (83 ∷ 61 ∷ 114 ∷ 44 ∷ 84 ∷ 61 ∷ 100 ∷ 0 ∷ 0 ∷ []) ++ word false 9 ++ zeros 8)))
+    (0 ∷ 2 ∷ 0 ∷ 0 ∷ 4 ∷ 4 ∷ 1 ∷ 0 ∷ 0 ∷ 0 ∷ [])
+    ∷ row (opens (keyed false (word false 23 ++ orientation ++ (83 ∷ 61 ∷ 114 ∷ 44 ∷ 84 ∷ 61 ∷ 100 ∷ 0 ∷ 0 ∷ []) ++ word false 8 ++ zeros 8)))
+    (0 ∷ 2 ∷ 0 ∷ 0 ∷ 4 ∷ 4 ∷ 1 ∷ 0 ∷ 1 ∷ 0 ∷ [])
+    ∷ row (opens (keyed false (word false 5 ++ zeros 8 ++ word false 23 ++ orientation ++ (83 ∷ 61 ∷ 114 ∷ 44 ∷ 84 ∷ 61 ∷ 100 ∷ 0 ∷ 0 ∷ []))))
+    (0 ∷ 2 ∷ 0 ∷ 0 ∷ 4 ∷ 4 ∷ 1 ∷ 0 ∷ 1 ∷ 0 ∷ [])
+    ∷ row (opens (keyed2 112 24 (word false 18 ++ orientation ++ (114 ∷ 100 ∷ 0 ∷ 0 ∷ 0 ∷ [])))) (0 ∷ 3 ∷ 1 ∷ 0 ∷ 4 ∷ 4 ∷ 1 ∷ 0 ∷ 1 ∷ 24 ∷ [])
+    ∷ row (opens (keyed2 0x1000070 24 (word false 18 ++ orientation ++ (114 ∷ 100 ∷ 0 ∷ 0 ∷ 0 ∷ [])))) (0 ∷ 3 ∷ 1 ∷ 0 ∷ 4 ∷ 4 ∷ 1 ∷ 0 ∷ 0 ∷ 24 ∷ [])
+    ∷ row (opens (keyed2 112 0x1000018 (word false 18 ++ orientation ++ (114 ∷ 100 ∷ 0 ∷ 0 ∷ 0 ∷ [])))) (0 ∷ 3 ∷ 1 ∷ 0 ∷ 4 ∷ 4 ∷ 1 ∷ 0 ∷ 0 ∷ 24 ∷ [])
+    ∷ row (opens (keyed2 137 0 (word false 18 ++ orientation ++ (114 ∷ 100 ∷ 0 ∷ 0 ∷ 0 ∷ [])))) (0 ∷ 3 ∷ 1 ∷ 0 ∷ 4 ∷ 4 ∷ 1 ∷ 0 ∷ 0 ∷ 24 ∷ [])
+    ∷ row (opens (keyed2 112 25 (word false 18 ++ orientation ++ (114 ∷ 100 ∷ 0 ∷ 0 ∷ 0 ∷ [])))) (0 ∷ 3 ∷ 1 ∷ 0 ∷ 4 ∷ 4 ∷ 1 ∷ 0 ∷ 0 ∷ 24 ∷ [])
+    ∷ row (opens (keyed2 112 20 (word false 16 ++ orientation ++ (114 ∷ []) ++ (100 ∷ 0 ∷ 0 ∷ 0 ∷ [])))) (0 ∷ 3 ∷ 1 ∷ 0 ∷ 4 ∷ 4 ∷ 1 ∷ 0 ∷ 0 ∷ 24 ∷ [])
+    ∷ row (opens (keyed2 112 26 (word false 18 ++ orientation ++ (114 ∷ 100 ∷ 0 ∷ 0 ∷ 0 ∷ []) ++ (0 ∷ 0 ∷ []))))
+    (0 ∷ 3 ∷ 1 ∷ 0 ∷ 4 ∷ 4 ∷ 1 ∷ 0 ∷ 0 ∷ 26 ∷ [])
+    ∷ row (opens (keyed2 112 36 (word false 18 ++ orientation ++ (114 ∷ 117 ∷ 0 ∷ 0 ∷ 0 ∷ []) ++ word false 9 ++ zeros 8)))
+    (0 ∷ 3 ∷ 1 ∷ 0 ∷ 4 ∷ 4 ∷ 1 ∷ 0 ∷ 0 ∷ 36 ∷ [])
+    ∷ []
+
+hold-keyed-edges : T (every keyed-edges)
+unfolding answer row every zeros word words pkm identifier ktx1 level ktx2 entry dds dx10 rec orientation qt-orientation keyed keyed2 keyed-edges
+    little big inBytes bigBytes sizeOf walked kept payloadAt formatOf headVerdict formatAt known word32
+    bytesFor insideOf afterSize inIndex fitOf levelAt nextSpot levelsFrom levelsOf tooMany heldOf openedBy foundBy
+    isOrientation rowsTold rowsIn orientationOf pkmAs pkmOf ktx1As ktx1In ktx1Of ktx2As ktx2Of ddsFlat dx10Flat ddsAs fourCCFormat dx10Of ddsOf sheetHeader
+    headerOf openedAs foundAs openedVerdict foundVerdict
+hold-keyed-edges = tt
+
 -- DDS: FourCCs and DXGI numbers, and where they mean nothing
 ddss : List Row
 ddss =
@@ -632,3 +719,12 @@ unfolding answer row every zeros word words pkm identifier ktx1 level ktx2 entry
     isOrientation rowsTold rowsIn orientationOf pkmAs pkmOf ktx1As ktx1In ktx1Of ktx2As ktx2Of ddsFlat dx10Flat ddsAs fourCCFormat dx10Of ddsOf sheetHeader
     headerOf openedAs foundAs openedVerdict foundVerdict
 hold-sheets = tt
+
+-- the formats stand in the order of their numbers
+numbersOf : List Format → List ℕ
+numbersOf [] = []
+numbersOf (f ∷ fs) = formatNumber f ∷ numbersOf fs
+
+hold-formats : T (same (numbersOf formatList) (0 ∷ 1 ∷ 2 ∷ 3 ∷ 4 ∷ 5 ∷ 6 ∷ 7 ∷ 8 ∷ 9 ∷ 10 ∷ 11 ∷ 12 ∷ 13 ∷ 14 ∷ 15 ∷ 16 ∷ []))
+unfolding numbersOf
+hold-formats = tt
