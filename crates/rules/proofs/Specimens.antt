@@ -60,6 +60,9 @@ bench =
     ∷ one (picture EacRSigned) 0x8010DB6DB6DB6DB6 (all 0xFF080000)
     ∷ one (picture EacRSigned) 0x8110DB6DB6DB6DB6 (all 0xFF080000)
     ∷ one (picture EacR) 0x8010DB6DB6DB6DB6 (all 0xFF880000)
+    -- signed BC4: the greatest value, 127, is 254, and -128 is read as -127, which is 0
+    ∷ one (picture Bc4Signed) 0x7F80000000000000 (all 0xFFFE0000)
+    ∷ one (picture Bc4Signed) 0x807F000000000000 (all 0xFF000000)
     -- S16
     ∷ shows (picture Etc1) 5 1 (0x0400000200000000 ∷ 0x0000000000000000 ∷ [])
     (0xFF020202 ∷ 0xFF020202 ∷ 0xFFE90202 ∷ 0xFFE90202 ∷ 0xFF020202 ∷ [])
