@@ -1,4 +1,4 @@
-# What bindings/archive and bindings/program share; each reads this file in. It uses their `top`, `work`, `machine` and `folder`.
+# What bindings/archive does besides proving: it reads this file in, which uses its `top`, `work`, `machine` and `folder`.
 
 # The crates that one is made of, each after those that it needs.
 parts() { # NAME
@@ -54,18 +54,19 @@ END
     chmod +x "$2/on/$machine/toolchain/bin/clang"
 }
 
-# Compiles the kept module for this machine. LLVM stops inlining where a function grows past a
-# cost; a block that stays in registers takes half the time of one that is handed on in memory.
-# A reader is not made one piece with the function that C calls it by: of RGBA8 that piece took a
-# tenth more time on a Neoverse-V1 (docs/PERFORMANCE.md).
-native_object() { # TOOLS OBJECT FLAG..
+# Compiles the kept module for a target. LLVM stops inlining where a function grows past a cost; a block that stays in registers takes
+# half the time of one that is handed on in memory, so the limit is raised. Readers are not inlined into their C wrappers: inlined,
+# RGBA8 took a tenth more time on a Neoverse-V1 (docs/PERFORMANCE.md).
+native_object() { # TOOLS OBJECT TARGET FLAG..
     clang="$1/clang --no-default-config -Wno-override-module -O3 -x ir"
     object=$2
-    shift 2
+    target=$3
+    shift 3
+    case $target in *-windows-*) ;; *) set -- -fPIC "$@" ;; esac
     $clang --target=x86_64-unknown-linux-gnu -S -emit-llvm -Xclang -disable-llvm-passes "$work/module.bc" -o "$work/proved.ll" &&
         sed -e '/^target datalayout/d' -e '/^target triple/d' \
             -e 's/ "target-cpu"="x86-64"//' -e 's/"probe-stack"="inline-asm"//' \
             -e 's/^\(define internal .*@"capi::yalivucu_[a-z0-9_]*"(.*)\) #0 {/\1 noinline #0 {/' "$work/proved.ll" >"$work/native.ll" &&
-        $clang --target="$machine-unknown-linux-gnu" -mllvm -inline-threshold=10000 "$@" \
-            -fPIC -ffunction-sections -fdata-sections -c "$work/native.ll" -o "$object"
+        $clang --target="$target" -mllvm -inline-threshold=10000 "$@" \
+            -ffunction-sections -fdata-sections -c "$work/native.ll" -o "$object"
 }

@@ -2,7 +2,7 @@
    that Android's libETC1 shows; and the library's checker and baker held to it.
 
        bake [SEED [TILES]]      compares, and ends with 0 where nothing differs
-       bake --rows              prints the rows of crates/rules/proofs/Bakings.antt
+       bake --rows COUNT        prints rows, as crates/rules/proofs/Bakings.antt has eight of
 
    What it takes from document 01 is where the bases, the codes and the flip stand in a
    block. Which pixels a half has, where a pixel's index bits stand and what they show, it
@@ -161,10 +161,10 @@ static Case some(unsigned kind)
     return c;
 }
 
-static void print_rows(void)
+static void print_rows(unsigned long count)
 {
     state = 0x112;
-    for (unsigned n = 0; n < 8; n++) {
+    for (unsigned n = 0; n < count; n++) {
         Case c = some(n);
         uint8_t block[8];
         bake(&c, block);
@@ -266,7 +266,7 @@ static void refused(void)
 int main(int argc, char **argv)
 {
     learn();
-    if (argc > 1 && strcmp(argv[1], "--rows") == 0) return print_rows(), 0;
+    if (argc > 2 && strcmp(argv[1], "--rows") == 0) return print_rows(strtoul(argv[2], NULL, 10)), 0;
 #ifndef ROWS_ALONE
     state = 0x9E3779B97F4A7C15u ^ strtoull(argc > 1 ? argv[1] : "1", NULL, 10);
     unsigned long tiles = strtoul(argc > 2 ? argv[2] : "20000", NULL, 10);

@@ -149,7 +149,7 @@ listed() {
 # --crate and --program.
 take_options() {
     seed=1 blocks=300000 source=$top/../shared/docs/src only='' day=$(date -u +%F)
-    crate=${ORACLE_CRATE:-answers} program=${ORACLE_PROGRAM:-}
+    crate=${ORACLE_CRATE:-replay} program=${ORACLE_PROGRAM:-}
     while [ $# -gt 0 ]; do
         case $1 in
         --seed | --blocks | --source | --crate | --program | --date | --only) [ $# -gt 1 ] || die "$1 wants a value" ;;

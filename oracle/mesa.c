@@ -1,4 +1,4 @@
-/* Mesa as a decoder, speaking PROTOCOL.md for the twelve picture readers that have a format,
+/* Mesa as a decoder, speaking PROTOCOL.md for the seventeen picture readers that have a format,
    and accepted cases alone. Textures go in compressed; a shader hands out the bits of each texel as
    whole numbers, so nothing is rounded on the way back. Eight-bit formats come back as
    pixel words. Of EAC an element is red16 + 65536 * green16, the sixteen bits that Mesa
@@ -14,10 +14,11 @@
 
 enum { MOST_DATA = 262144, MOST_IMAGE = 65536 };
 
-/* By the numbers of the readers; the first is ETC1 from its own extension, then three are those of S3TC, and the last is BPTC's. */
-enum { S3TC = 34, READERS = 38 };
+/* By the numbers of the readers; the first is ETC1 from its own extension; three are those of S3TC and one BPTC's, then come S3TC's other
+   one and the four of RGTC. */
+enum { S3TC = 8, BC2 = 12, BC4_SIGNED = 14, BC5_SIGNED = 16, READERS = 17 };
 static const GLenum FORMAT[READERS] = {0x8D64, 0x9274, 0x9276, 0x9278, 0x9270, 0x9271, 0x9272, 0x9273,
-                                       [S3TC] = 0x83F0, 0x83F1, 0x83F3, 0x8E8C};
+                                       0x83F0, 0x83F1, 0x83F3, 0x8E8C, 0x83F2, 0x8DBB, 0x8DBC, 0x8DBD, 0x8DBE};
 
 static void need(int fact, const char *what)
 {
@@ -121,6 +122,9 @@ static int whole(float value, int most)
 
 static uint32_t element(int reader, const float *t)
 {
+    if (reader == BC4_SIGNED || reader == BC5_SIGNED) /* -127 to 127 as bytes from 0 on, so that 0 stands at 127 */
+        return 0xFF000000 | (uint32_t)(whole(t[0], 127) + 127) << 16 |
+               (uint32_t)(reader == BC5_SIGNED ? whole(t[1], 127) + 127 : 0) << 8;
     if (reader < 4 || reader >= S3TC)
         return (uint32_t)whole(t[3], 255) << 24 | (uint32_t)whole(t[0], 255) << 16 | (uint32_t)whole(t[1], 255) << 8 |
                (uint32_t)whole(t[2], 255);
@@ -131,20 +135,21 @@ static uint32_t element(int reader, const float *t)
 int main(void)
 {
     static uint8_t data[MOST_DATA];
-    static uint32_t head[6], image[MOST_IMAGE];
+    static uint64_t head[8]; /* number, a, b, c, width, height, bytes, elements */
+    static uint32_t image[MOST_IMAGE];
     static float out[MOST_IMAGE * 4];
     const uint32_t done[2] = {0, 0};
     start();
     use_program();
-    while (fread(head, 4, 6, stdin) == 6) {
-        need(head[0] < READERS && FORMAT[head[0]] && head[4] <= MOST_DATA && head[5] <= MOST_IMAGE, "no such case here");
-        need(fread(data, 1, head[4], stdin) == head[4], "data cut short");
-        need(fread(image, 4, head[5], stdin) == head[5], "image cut short");
-        need(head[2] && head[3] && head[5] == head[2] * head[3], "only pictures that show something");
-        texels((int)head[0], (GLint)head[2], (GLint)head[3], data, (GLsizei)head[4], out);
-        for (uint32_t k = 0; k < head[5]; k++) image[k] = element((int)head[0], out + 4 * k);
+    while (fread(head, 8, 8, stdin) == 8) {
+        need(head[0] < READERS && FORMAT[head[0]] && head[6] <= MOST_DATA && head[7] <= MOST_IMAGE, "no such case here");
+        need(fread(data, 1, head[6], stdin) == head[6], "data cut short");
+        need(fread(image, 4, head[7], stdin) == head[7], "image cut short");
+        need(head[4] && head[5] && head[7] == head[4] * head[5], "only pictures that show something");
+        texels((int)head[0], (GLint)head[4], (GLint)head[5], data, (GLsizei)head[6], out);
+        for (uint32_t k = 0; k < head[7]; k++) image[k] = element((int)head[0], out + 4 * k);
         fwrite(done, 4, 2, stdout);
-        fwrite(image, 4, head[5], stdout);
+        fwrite(image, 4, head[7], stdout);
         fflush(stdout);
     }
     return 0;

@@ -15,7 +15,7 @@ import sys
 from doubt_text import HOLD, NUMERAL, Module, Unreadable
 
 sys.setrecursionlimit(30000)
-TESTS = ["Sheets", "Pieces", "Held", "Censuses", "Bakings", "BitReads", "Eleven", "Outside"]  # the files of proofs/ whose `hold` is a test that computes
+TESTS = ["Partitions", "Sheets", "Pieces", "Held", "Censuses", "Bakings", "BitReads", "Eleven", "FileRows", "Outside"]  # the files of proofs/ whose `hold` is a test that computes
 FLOATS = {"Floats", "Degrees"}  # the files of specs/ whose rows are of floats, which are not computed here
 LATE = {("Answers", "judged"): 1}  # the parameter that is computed only where it is needed: what comes after the checks
 MOST_BITS = 4096  # of a number that is worth computing
@@ -219,7 +219,8 @@ class Writer:
         inner.pop()
         if "∷" in inner:
             at = inner.index("∷")
-            inner = ["∷"] + inner[:at] + inner[at + 1:]
+            rest = inner[at + 1:]
+            inner = ["∷"] + inner[:at] + (["(", *rest, ")"] if "∷" in rest else rest)
         parts = ["{}.parts[%d]" % at for at in range(len(inner))]
         test, parts = PATTERNS.get(inner[0]) or ("{}.name == %r" % self.meaning(inner[0])[1], parts)
         tests.append(test.format(value))
@@ -308,7 +309,7 @@ class Rows:
         paths += [("specs", path) for path in sorted((numbers / "specs").glob("*.antt"))]
         self.files = {(part, path.stem): File(part, Module(path)) for part, path in paths if path.stem != "Lib"}
         self.world = {function.__name__: function for function in USED}
-        self.world["kept"], self.uses = {}, {}
+        self.world["kept"], self.uses, self.tests = {}, {}, []
         for file in list(self.files.values()):
             for name in file.counts:
                 self.define(file, name)
@@ -327,8 +328,11 @@ class Rows:
 
     # `hold : T (..)`: what stands there is the test
     def test(self, file):
-        source = HOLD.sub(r"hold : Bool\nhold = \g<test>\n", file.module.text)
-        self.define(File(file.part, Module(file.module.path, source)), "hold")
+        source = HOLD.sub(r"\g<name> : Bool\n\g<name> = \g<test>\n", file.module.text)
+        stated = File(file.part, Module(file.module.path, source))
+        for match in HOLD.finditer(file.module.text):
+            self.define(stated, match["name"])
+            self.tests.append(python(file.part, file.module.name, match["name"]))
 
     # Whether a test needs a function.
     def leans(self, test, function):
@@ -340,12 +344,11 @@ class Rows:
 
     def hold(self, function=None):
         """Whether every row holds, or every one of the tests that need a function."""
-        tests = [python("proofs", name, "hold") for name in TESTS]
         self.world["kept"].clear()
         signal.signal(signal.SIGVTALRM, too_slow)
         signal.setitimer(signal.ITIMER_VIRTUAL, SECONDS)
         try:
-            return all(self.world[test]() for test in tests if function is None or self.leans(test, function))
+            return all(self.world[test]() for test in self.tests if function is None or self.leans(test, function))
         finally:
             signal.setitimer(signal.ITIMER_VIRTUAL, 0)
 
@@ -356,7 +359,7 @@ class Rows:
         before = self.world.get(function)
         if change.module in FLOATS:
             return "unknown"
-        if not any(self.leans(python("proofs", name, "hold"), function) for name in TESTS):
+        if not any(self.leans(test, function) for test in self.tests):
             return "holds"
         if before is None:
             return "unknown"

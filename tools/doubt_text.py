@@ -11,13 +11,14 @@ FIXITY = {
     "+": (65, "left"), "-": (65, "left"), "++": (65, "left"), "&&": (35, "left"), "||": (30, "left"),
     "*ℤ": (7, "left"), "+ℤ": (6, "left"), "-ℤ": (6, "left"), "≡": (4, "none"), "×": (2, "right"), "→": (1, "right"),
 }
-TOKEN = re.compile(r"(?P<space>\s+|--[^\n]*)|(?P<mark>[(){};,@.])|(?P<word>WORD(?:\.WORD)*)".replace("WORD", r"[^\s(){}.;,@\"«»]+"))
+TOKEN = re.compile(r"(?P<space>\s+|--[^\n]*)|(?P<mark>[(){};,@.])|(?P<word>WORD(?:\.WORD)*)".replace("WORD", r"(?:«[^»]*»|[^\s(){}.;,@\"«»]+)"))
 NUMERAL = re.compile(r"0x[0-9A-Fa-f_]+|[0-9][0-9_]*")
 HEAD = re.compile(r"(?:(?:unfoldable|abbrev|pub) )*(?P<name>[^\s:]+)(?: \{[^}]*\})? : (?P<type>.*)")
 DATA = re.compile(r"(?:pub )?data ")  # it has constructors, and no body to change
 GROUP = re.compile(r"module _(?P<parameters>(?: \([^()]*\))+) where\n")  # definitions that share their first parameters
 RECORD = re.compile(r"(?:pub )?record (?P<name>\S+)(?P<parameters>.*) : Type 0 where")
-HOLD = re.compile(r"^hold : T (?P<test>.*)\n(?:unfolding .*\n(?:[ ]+.*\n)*)?hold = tt\n", re.M)  # the test of a file of specimens
+# the tests of a file of specimens: `hold`, or one for each list of rows
+HOLD = re.compile(r"^(?P<name>hold[\w-]*) : T (?P<test>.*)\n(?:unfolding .*\n(?:[ ]+.*\n)*)?(?P=name) = tt\n", re.M)
 FIELD = re.compile(r" +(?:pub )?(?P<name>\S+) : ")
 
 Token = collections.namedtuple("Token", "text start end")

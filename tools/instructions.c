@@ -16,9 +16,10 @@ static uint8_t data[BLOCKS * 16];
 static uint32_t image[PITCH * SIDE];
 static uint16_t sixteens[SIDE * SIDE * 2];
 
-/* the readers that the crate has too, of blocks of so many bytes */
+/* the readers that stand beside others, the crate's or plain ones, of blocks of so many bytes */
 #define READERS(each) each(etc1, 8) each(etc2_rgb, 8) each(etc2_rgba1, 8) each(etc2_rgba8, 16) each(eacr, 8) each(eacr_signed, 8) \
-    each(eacrg, 16) each(eacrg_signed, 16) each(bc1, 8) each(bc1a, 8) each(bc3, 16) each(bc7, 16)
+    each(eacrg, 16) each(eacrg_signed, 16) each(bc1, 8) each(bc1a, 8) each(bc3, 16) each(bc7, 16) \
+    each(bc2, 16) each(bc4, 8) each(bc4_signed, 8) each(bc5, 16) each(bc5_signed, 16)
 
 #define DECLARED(name, size) uint32_t given_decode_##name(const uint8_t *, size_t, size_t, size_t, uint32_t *, size_t);
 READERS(DECLARED)

@@ -1,5 +1,8 @@
-//! The crate's readers under C names, for tools/instructions.
+//! The crate's readers under C names, for tools/instructions; of BC2, BC4 and BC5 plain ones of the same rules.
 extern crate given;
+
+#[path = "../bench/src/plain.rs"]
+mod plain;
 
 macro_rules! names {
     ($($name:ident = $called:path;)*) => {$(
@@ -35,4 +38,9 @@ names! {
     given_decode_bc1a = given::decode_bc1a;
     given_decode_bc3 = given::decode_bc3;
     given_decode_bc7 = given::decode_bc7;
+    given_decode_bc2 = plain::decode_bc2;
+    given_decode_bc4 = plain::decode_bc4;
+    given_decode_bc4_signed = plain::decode_bc4_signed;
+    given_decode_bc5 = plain::decode_bc5;
+    given_decode_bc5_signed = plain::decode_bc5_signed;
 }

@@ -41,6 +41,10 @@ pub enum Half {
     DesktopAlpha,
     /// Two colours of which the first is above the second: there the crate has four in BC3 too.
     DesktopFour,
+    /// Two signed values in any order.
+    SignedValues,
+    /// Any bytes.
+    Wide,
     /// A BC7 block, with its mode; and the rest of it.
     Bc7,
     Bc7Rest,
@@ -98,8 +102,9 @@ pub fn natural(count: usize, halves: &[Half], random: &mut Random) -> Vec<u8> {
                 Half::Desktop => desktop(share >= 10, random),
                 Half::DesktopAlpha => desktop_alpha(share < 25, random),
                 Half::DesktopFour => desktop(true, random),
+                Half::SignedValues => signed_values(share < 25, random),
                 Half::Bc7 => bc7(share, random),
-                Half::Bc7Rest => wide(random),
+                Half::Bc7Rest | Half::Wide => wide(random),
             });
         }
     }
@@ -225,6 +230,16 @@ fn bc7(share: u64, random: &mut Random) -> [u8; 8] {
     };
     let mut block = wide(random);
     block[0] = (block[0] & !1) << mode | 1 << mode;
+    block
+}
+
+/// A flat half is 0; any other has sevenths.
+fn signed_values(flat: bool, random: &mut Random) -> [u8; 8] {
+    let mut block = desktop_alpha(false, random);
+    (block[0], block[1]) = (block[0] & 0x7f, block[1] | 0x80);
+    if flat {
+        return [0; 8];
+    }
     block
 }
 

@@ -1,5 +1,7 @@
-//! The formats that are measured, and how the crate's pixels are compared with the library's.
+//! The formats that are measured, and how the crate's pixels are compared with the library's. BC2, BC4 and BC5 stand beside plain readers of
+//! the same rules (plain.rs).
 use crate::blocks::Half;
+use crate::plain;
 use yalivucu::typed::{read_opaque, read_strict, Picture, Refusal};
 
 pub type Reader = fn(&[u8], usize, usize, &mut [u32]) -> Result<(), &'static str>;
@@ -20,7 +22,7 @@ pub struct Format {
 /// BC1 has the shape of x86-64's vector code; on Arm the crate's own is quick, and less is gained.
 const BC1: f64 = if cfg!(target_arch = "x86_64") { 0.70 } else { 0.90 };
 
-pub const FORMATS: [Format; 15] = [
+pub const FORMATS: [Format; 20] = [
     Format {
         name: "ETC1",
         halves: &[Half::Colour],
@@ -144,6 +146,46 @@ pub const FORMATS: [Format; 15] = [
         pitched: Some(yalivucu::decode_bc7_pitched),
         given: given::decode_bc7,
         limit: 0.50,
+    },
+    Format {
+        name: "BC2, beside a plain reader",
+        halves: &[Half::Wide, Half::DesktopFour],
+        library: yalivucu::decode_bc2,
+        pitched: Some(yalivucu::decode_bc2_pitched),
+        given: plain::decode_bc2,
+        limit: 0.60,
+    },
+    Format {
+        name: "BC4, beside a plain reader",
+        halves: &[Half::DesktopAlpha],
+        library: yalivucu::decode_bc4,
+        pitched: Some(yalivucu::decode_bc4_pitched),
+        given: plain::decode_bc4,
+        limit: 0.60,
+    },
+    Format {
+        name: "BC4 signed, beside a plain reader",
+        halves: &[Half::SignedValues],
+        library: yalivucu::decode_bc4_signed,
+        pitched: Some(yalivucu::decode_bc4_signed_pitched),
+        given: plain::decode_bc4_signed,
+        limit: 0.60,
+    },
+    Format {
+        name: "BC5, beside a plain reader",
+        halves: &[Half::DesktopAlpha, Half::DesktopAlpha],
+        library: yalivucu::decode_bc5,
+        pitched: Some(yalivucu::decode_bc5_pitched),
+        given: plain::decode_bc5,
+        limit: 0.60,
+    },
+    Format {
+        name: "BC5 signed, beside a plain reader",
+        halves: &[Half::SignedValues, Half::SignedValues],
+        library: yalivucu::decode_bc5_signed,
+        pitched: Some(yalivucu::decode_bc5_signed_pitched),
+        given: plain::decode_bc5_signed,
+        limit: 0.60,
     },
 ];
 

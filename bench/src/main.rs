@@ -7,7 +7,9 @@ mod blocks;
 mod clock;
 mod formats;
 mod gap;
+mod older;
 mod pieces;
+mod plain;
 mod sheet;
 mod whole;
 
@@ -52,6 +54,7 @@ fn main() {
         println!();
         alike &= whole::print(make);
         alike &= gap::print(title, make);
+        alike &= older::print(title, make);
         alike &= bands::print(title, make);
     }
     println!("filling the image alone: {:.2} ms\n", filled(SIDE));

@@ -77,6 +77,8 @@ int main(void)
         {yalivucu_decode_etc2_rgba8_pitched, 16}, {yalivucu_decode_eacr_pitched, 8},        {yalivucu_decode_eacr_signed_pitched, 8},
         {yalivucu_decode_eacrg_pitched, 16},      {yalivucu_decode_eacrg_signed_pitched, 16}, {yalivucu_decode_bc1_pitched, 8},
         {yalivucu_decode_bc1a_pitched, 8},        {yalivucu_decode_bc3_pitched, 16},
+        {yalivucu_decode_bc7_pitched, 16},        {yalivucu_decode_bc2_pitched, 16},        {yalivucu_decode_bc4_pitched, 8},
+        {yalivucu_decode_bc4_signed_pitched, 8},  {yalivucu_decode_bc5_pitched, 16},        {yalivucu_decode_bc5_signed_pitched, 16},
     };
     for (size_t k = 0; k < sizeof data; k++) {
         random = random * 6364136223846793005u + 1442695040888963407u;

@@ -50,6 +50,11 @@ static void pictures(void)
         {"bc1a", yalivucu_decode_bc1a, 8, 0xff000000},
         {"bc3", yalivucu_decode_bc3, 16, 0x00000000},
         {"bc7", yalivucu_decode_bc7, 16, 0x00000000},
+        {"bc2", yalivucu_decode_bc2, 16, 0x00000000},
+        {"bc4", yalivucu_decode_bc4, 8, 0xff000000},
+        {"bc4_signed", yalivucu_decode_bc4_signed, 8, 0xff7f0000},
+        {"bc5", yalivucu_decode_bc5, 16, 0xff000000},
+        {"bc5_signed", yalivucu_decode_bc5_signed, 16, 0xff7f7f00},
     };
     for (size_t k = 0; k < sizeof row / sizeof *row; k++) {
         clear();
@@ -86,6 +91,11 @@ static void pitched(void)
         {"bc1a_pitched", yalivucu_decode_bc1a_pitched, 8, 0xff000000},
         {"bc3_pitched", yalivucu_decode_bc3_pitched, 16, 0x00000000},
         {"bc7_pitched", yalivucu_decode_bc7_pitched, 16, 0x00000000},
+        {"bc2_pitched", yalivucu_decode_bc2_pitched, 16, 0x00000000},
+        {"bc4_pitched", yalivucu_decode_bc4_pitched, 8, 0xff000000},
+        {"bc4_signed_pitched", yalivucu_decode_bc4_signed_pitched, 8, 0xff7f0000},
+        {"bc5_pitched", yalivucu_decode_bc5_pitched, 16, 0xff000000},
+        {"bc5_signed_pitched", yalivucu_decode_bc5_signed_pitched, 16, 0xff7f7f00},
     };
     for (size_t k = 0; k < sizeof row / sizeof *row; k++) {
         const char *name = row[k].name;
@@ -206,6 +216,28 @@ static void nothing(void)
     untouched("nothing", 0);
 }
 
+/* Without an image: a block of red, one out of range, and one of zeros, whose opaque bit is clear. */
+static void checks(void)
+{
+    uint8_t data[24] = {0xf8, 0, 0, 0x02};
+    size_t block = 77;
+    memcpy(data + 8, TWO, 8);
+    same("check strict, too large", yalivucu_check_strict(data, 24, 65537, 1, &block), YALIVUCU_TOO_LARGE);
+    same("check strict, short", yalivucu_check_strict(data, 23, 9, 1, &block), YALIVUCU_SHORT_DATA);
+    same("check strict, left over", yalivucu_check_strict(data, 9, 4, 1, &block), YALIVUCU_LONG_DATA);
+    same("check strict, accepted", yalivucu_check_strict(data, 8, 4, 1, &block), YALIVUCU_DONE);
+    same("check strict, nothing", yalivucu_check_strict(NULL, 0, 65536, 0, &block), YALIVUCU_DONE);
+    same("check opaque, too large", yalivucu_check_opaque(data, 24, 1, 65537, &block), YALIVUCU_TOO_LARGE);
+    same("check opaque, short", yalivucu_check_opaque(data, 23, 9, 1, &block), YALIVUCU_SHORT_DATA);
+    same("check opaque, accepted", yalivucu_check_opaque(data, 24, 8, 1, &block), YALIVUCU_DONE);
+    same("check opaque, nothing", yalivucu_check_opaque(NULL, 0, 0, 0, &block), YALIVUCU_DONE);
+    same("checks, block kept", (uint32_t)block, 77);
+    same("check strict, refused", yalivucu_check_strict(data, 24, 9, 1, &block), YALIVUCU_OUT_OF_RANGE);
+    same("check strict, block", (uint32_t)block, 1);
+    same("check opaque, refused", yalivucu_check_opaque(data, 24, 9, 1, &block), YALIVUCU_NOT_OPAQUE);
+    same("check opaque, block", (uint32_t)block, 2);
+}
+
 static void strict(void)
 {
     uint8_t data[16];
@@ -255,6 +287,11 @@ static void blocks(void)
         {"bc1a_block", yalivucu_decode_bc1a_block, 8, 0xff000000},
         {"bc3_block", yalivucu_decode_bc3_block, 16, 0x00000000},
         {"bc7_block", yalivucu_decode_bc7_block, 16, 0x00000000},
+        {"bc2_block", yalivucu_decode_bc2_block, 16, 0x00000000},
+        {"bc4_block", yalivucu_decode_bc4_block, 8, 0xff000000},
+        {"bc4_signed_block", yalivucu_decode_bc4_signed_block, 8, 0xff7f0000},
+        {"bc5_block", yalivucu_decode_bc5_block, 16, 0xff000000},
+        {"bc5_signed_block", yalivucu_decode_bc5_signed_block, 16, 0xff7f7f00},
     };
     for (size_t k = 0; k < sizeof row / sizeof *row; k++) {
         clear();
@@ -304,6 +341,35 @@ static void desktop(void)
     same("bc3_alpha", yalivucu_decode_bc3_alpha(block, 8, 2, image, MOST), YALIVUCU_DONE);
     same("bc3_alpha, red", image[15], 0x11ff1111);
     untouched("bc3_alpha", 16);
+}
+
+/* The alphas 0 and F0 of BC2, over the thirds; the eight values of BC4 and BC5, sevenths, fifths and both ends, unsigned and signed. */
+static void rest_of_the_desktop(void)
+{
+    const uint8_t four[16] = {0x1f, 0, 0, 0, 0, 0, 0, 0, 0, 0, 0xff, 0xff, 0xe4};
+    const uint8_t eight[16] = {0xff, 0x00, 0x88, 0xc6, 0xfa, 0, 0, 0, 0x80, 0x81, 0x88, 0xc6, 0xfa};
+    clear();
+    same("bc2", yalivucu_decode_bc2(four, 16, 4, 1, image, MOST), YALIVUCU_DONE);
+    same("bc2, fifteen", image[0], 0xff000000);
+    same("bc2, one", image[1], 0x11ffffff);
+    same("bc2, index 2", image[2], 0x00555555);
+    untouched("bc2", 4);
+    same("bc4", yalivucu_decode_bc4(eight, 8, 4, 2, image, MOST), YALIVUCU_DONE);
+    same("bc4, first", image[0], 0xffff0000);
+    same("bc4, six sevenths", image[2], 0xffda0000);
+    same("bc4, a seventh", image[7], 0xff240000);
+    same("bc4_signed", yalivucu_decode_bc4_signed(eight, 8, 4, 2, image, MOST), YALIVUCU_DONE);
+    same("bc4_signed, -1", image[0], 0xff7e0000);
+    same("bc4_signed, 0", image[1], 0xff7f0000);
+    same("bc4_signed, rounded down", image[2], 0xff7e0000);
+    same("bc4_signed, the greatest", image[7], 0xfffe0000);
+    same("bc5", yalivucu_decode_bc5(eight, 16, 4, 2, image, MOST), YALIVUCU_DONE);
+    same("bc5, ends of fifths", image[6], 0xff480000);
+    same("bc5, ends of fifths", image[7], 0xff24ff00);
+    same("bc5_signed", yalivucu_decode_bc5_signed(eight, 16, 4, 2, image, MOST), YALIVUCU_DONE);
+    same("bc5_signed, -128 as -127", image[0], 0xff7e0000);
+    same("bc5_signed, the greatest", image[7], 0xfffefe00);
+    untouched("bc5_signed", 8);
 }
 
 /* A BC7 block of mode 6 whose one colour has all bits set, then of mode 5 with alpha 0 in the place of red. */
@@ -440,6 +506,11 @@ static void pieces(void)
         {"pieces_bc1a", yalivucu_pieces_bc1a, yalivucu_decode_bc1a_pitched, 8},
         {"pieces_bc3", yalivucu_pieces_bc3, yalivucu_decode_bc3_pitched, 16},
         {"pieces_bc7", yalivucu_pieces_bc7, yalivucu_decode_bc7_pitched, 16},
+        {"pieces_bc2", yalivucu_pieces_bc2, yalivucu_decode_bc2_pitched, 16},
+        {"pieces_bc4", yalivucu_pieces_bc4, yalivucu_decode_bc4_pitched, 8},
+        {"pieces_bc4_signed", yalivucu_pieces_bc4_signed, yalivucu_decode_bc4_signed_pitched, 8},
+        {"pieces_bc5", yalivucu_pieces_bc5, yalivucu_decode_bc5_pitched, 16},
+        {"pieces_bc5_signed", yalivucu_pieces_bc5_signed, yalivucu_decode_bc5_signed_pitched, 16},
     };
     uint8_t data[67];
     uint32_t plain[MOST];
@@ -481,6 +552,122 @@ static void pieces(void)
         same(name, yalivucu_pieces_take(&state, data, all, image, MOST, &painted, &unused), YALIVUCU_TOO_LARGE);
         same(name, yalivucu_pieces_end(&state), YALIVUCU_TOO_LARGE);
     }
+}
+
+/* A number of four bytes, the lowest first. */
+static void put4(uint8_t *at, uint32_t number)
+{
+    for (int k = 0; k < 4; k++) at[k] = (uint8_t)(number >> 8 * k);
+}
+
+/* Opens a file: the answer, and all that is told, with 77 in every member that was not written. */
+static void opened(const char *name, const uint8_t *data, size_t len, uint32_t answer, struct yalivucu_file due)
+{
+    struct yalivucu_file told;
+    struct yalivucu_level_place level;
+    const struct yalivucu_file none = {77, 77, 77, 77, 77, 77, 77, 77, 77};
+    const struct yalivucu_level_place no_level = {77, 77, 77, 77};
+    told = none, level = no_level;
+    same(name, yalivucu_open_file(data, len, &told), answer);
+    if (answer) due = none;
+    same(name, memcmp(&told, &due, sizeof due) != 0, 0);
+    same(name, yalivucu_file_level(data, len, answer ? 0 : due.levels, &level), answer ? answer : YALIVUCU_NO_LEVEL);
+    same(name, yalivucu_file_level(data, len, SIZE_MAX, &level), answer ? answer : YALIVUCU_NO_LEVEL);
+    same(name, memcmp(&level, &no_level, sizeof level) != 0, 0);
+}
+
+static void level_is(const char *name, const uint8_t *data, size_t len, size_t n, struct yalivucu_level_place due)
+{
+    struct yalivucu_level_place level = {77, 77, 77, 77};
+    same(name, yalivucu_file_level(data, len, n, &level), YALIVUCU_DONE);
+    same(name, memcmp(&level, &due, sizeof due) != 0, 0);
+}
+
+static const struct yalivucu_file NOTHING;
+
+static void pkm(void)
+{
+    uint8_t file[25] = {'P', 'K', 'M', ' ', '1', '0', 0, 0, 0, 4, 0, 4, 0, 3, 0, 2, 0x04, 0, 0, 0x02};
+    const struct yalivucu_file due = {YALIVUCU_PKM, YALIVUCU_ETC1, 0, 3, 2, 1, 1, YALIVUCU_UNTOLD, 1};
+    opened("PKM", file, 25, YALIVUCU_DONE, due);
+    level_is("PKM, level", file, 25, 0, (struct yalivucu_level_place){3, 2, 16, 8});
+    opened("PKM, no bytes", NULL, 0, YALIVUCU_NO_TEXTURE, NOTHING);
+    opened("PKM, header", file, 15, YALIVUCU_CUT_HEADER, NOTHING);
+    opened("PKM, bytes", file, 23, YALIVUCU_LEVELS_MISSING, NOTHING);
+    file[13] = 5;
+    opened("PKM, sizes", file, 25, YALIVUCU_SIZES_DISAGREE, NOTHING);
+    file[13] = file[9] = 0;
+    opened("PKM, no pixel", file, 25, YALIVUCU_NO_PIXELS, NOTHING);
+    file[4] = '3';
+    opened("PKM, version", file, 25, YALIVUCU_NO_VERSION, NOTHING);
+    file[0] = 'Q';
+    opened("no texture", file, 25, YALIVUCU_NO_TEXTURE, NOTHING);
+}
+
+/* ETC2 RGBA8 in sRGB, 5 by 3 and a level of 2 by 1, as mipgen writes it: with a type of 1401 hex. */
+static void ktx1(void)
+{
+    static const uint8_t head[16] = {0xAB, 'K', 'T', 'X', ' ', '1', '1', 0xBB, 13, 10, 26, 10, 1, 2, 3, 4};
+    uint8_t file[64 + 4 + 32 + 4 + 16] = {0};
+    const struct yalivucu_file due = {YALIVUCU_KTX1, YALIVUCU_ETC2_RGBA8, 1, 5, 3, 2, 0, YALIVUCU_UNTOLD, 0};
+    memcpy(file, head, sizeof head);
+    put4(file + 16, 0x1401), put4(file + 28, 0x9279), put4(file + 36, 5), put4(file + 40, 3), put4(file + 52, 1), put4(file + 56, 2);
+    put4(file + 64, 32), put4(file + 100, 16);
+    opened("KTX 1", file, sizeof file, YALIVUCU_DONE, due);
+    level_is("KTX 1, level 0", file, sizeof file, 0, (struct yalivucu_level_place){5, 3, 68, 32});
+    level_is("KTX 1, level 1", file, sizeof file, 1, (struct yalivucu_level_place){2, 1, 104, 16});
+    opened("KTX 1, bytes", file, sizeof file - 1, YALIVUCU_LEVELS_MISSING, NOTHING);
+    put4(file + 60, 0xFFFFFFFC);
+    opened("KTX 1, keys", file, sizeof file, YALIVUCU_LEVELS_MISSING, NOTHING);
+    put4(file + 60, 0), put4(file + 64, 31);
+    opened("KTX 1, length", file, sizeof file, YALIVUCU_SIZES_DISAGREE, NOTHING);
+    put4(file + 52, 6);
+    opened("KTX 1, cube", file, sizeof file, YALIVUCU_NOT_FLAT, NOTHING);
+    put4(file + 52, 1), put4(file + 28, 0x93B0);
+    opened("KTX 1, format", file, sizeof file, YALIVUCU_NO_FORMAT, NOTHING);
+}
+
+/* BC7 in one level, which begins in the middle of nowhere. */
+static void ktx2(void)
+{
+    static const uint8_t head[12] = {0xAB, 'K', 'T', 'X', ' ', '2', '0', 0xBB, 13, 10, 26, 10};
+    uint8_t file[104 + 16] = {0};
+    const struct yalivucu_file due = {YALIVUCU_KTX2, YALIVUCU_BC7, 0, 4, 4, 1, 0, YALIVUCU_UNTOLD, 0};
+    memcpy(file, head, sizeof head);
+    put4(file + 12, 145), put4(file + 20, 4), put4(file + 24, 4), put4(file + 36, 1), put4(file + 80, 104), put4(file + 88, 16);
+    opened("KTX 2", file, sizeof file, YALIVUCU_DONE, due);
+    level_is("KTX 2, level", file, sizeof file, 0, (struct yalivucu_level_place){4, 4, 104, 16});
+    memset(file + 80, 0xFF, 8);
+    opened("KTX 2, offset", file, sizeof file, YALIVUCU_LEVELS_MISSING, NOTHING);
+    put4(file + 44, 2);
+    opened("KTX 2, Zstandard", file, sizeof file, YALIVUCU_SUPERCOMPRESSED, NOTHING);
+}
+
+static void dds(void)
+{
+    uint8_t file[128 + 8] = {'D', 'D', 'S', ' ', 124};
+    const struct yalivucu_file due = {YALIVUCU_DDS, YALIVUCU_BC1A, 0, 4, 1, 1, 0, YALIVUCU_UNTOLD, 0};
+    put4(file + 12, 1), put4(file + 16, 4), put4(file + 76, 32), put4(file + 80, 4);
+    memcpy(file + 84, "DXT1", 4);
+    opened("DDS", file, sizeof file, YALIVUCU_DONE, due);
+    level_is("DDS, level", file, sizeof file, 0, (struct yalivucu_level_place){4, 1, 128, 8});
+    opened("DDS, header", file, 127, YALIVUCU_CUT_HEADER, NOTHING);
+    opened("DDS, bytes", file, 135, YALIVUCU_LEVELS_MISSING, NOTHING);
+    put4(file + 16, 65537);
+    opened("DDS, too large", file, sizeof file, YALIVUCU_TOO_LARGE, NOTHING);
+    put4(file + 112, 0x200);
+    opened("DDS, cube", file, sizeof file, YALIVUCU_NOT_FLAT, NOTHING);
+}
+
+static void sheet_file(void)
+{
+    uint8_t room[40] = {0};
+    size_t written = 0;
+    const struct yalivucu_file due = {YALIVUCU_SHEET, YALIVUCU_EAC_RG, 0, 4, 3, 1, 0, YALIVUCU_UNTOLD, 0};
+    same("sheet", yalivucu_write_sheet(6, 4, 3, ZERO, 16, room, sizeof room, &written), YALIVUCU_DONE);
+    opened("sheet", room, written, YALIVUCU_DONE, due);
+    level_is("sheet, level", room, written, 0, (struct yalivucu_level_place){4, 3, 21, 16});
+    opened("sheet, cut", room, written - 1, YALIVUCU_CUT_SHORT, NOTHING);
 }
 
 static uint32_t bits_of(float value)
@@ -536,14 +723,21 @@ int main(void)
     strict();
     strict_pitched();
     opaque();
+    checks();
     blocks();
     channels();
     desktop();
+    rest_of_the_desktop();
     bptc();
     censuses();
     baking();
     sheets();
     pieces();
+    pkm();
+    ktx1();
+    ktx2();
+    dds();
+    sheet_file();
     degrees();
     puts(failures ? "C: FAILED" : "C: passed");
     return failures != 0;

@@ -41,10 +41,10 @@ pub struct Rgba1Counts {
 }
 
 /// A census of the library: bytes, width and height, and a room for its counts.
-type Census = unsafe extern "C" fn(*const u8, usize, usize, usize, *mut usize, usize) -> u32;
+pub(crate) type Census = unsafe extern "C" fn(*const u8, usize, usize, usize, *mut usize, usize) -> u32;
 
 /// The counts of a census that has `N` of them.
-fn counted<const N: usize>(census: Census, data: &[u8], picture: Picture) -> Result<[usize; N], Refusal> {
+pub(crate) fn counted<const N: usize>(census: Census, data: &[u8], picture: Picture) -> Result<[usize; N], Refusal> {
     let mut counts = [0; N];
     // SAFETY: the pointers and lengths are those of a slice and an array that live through the call.
     let number = unsafe {

@@ -1,4 +1,4 @@
-//! ETC1, ETC2, EAC, BC1, BC3 and BC7 textures, read by code that is proved to follow the public rules: a
+//! ETC1, ETC2, EAC, BC1 to BC5 and BC7 textures, read by code that is proved to follow the public rules: a
 //! drop-in for those parts of `texture2ddecoder`, with its function names and their exact types.
 //!
 //! A viewer moves over by one line of `Cargo.toml`, and its source does not change:
@@ -37,6 +37,8 @@ mod baking;
 mod bands;
 mod census;
 mod degrees;
+mod file;
+mod older;
 mod pieces;
 mod refusal;
 mod sheet;
@@ -180,6 +182,16 @@ pictures! {
     decode_bc3, decode_bc3_pitched = Bc3;
     /// Reads a BC7 picture, in blocks of 16 bytes.
     decode_bc7, decode_bc7_pitched = Bc7;
+    /// Reads a BC2 picture, in blocks of 16 bytes.
+    decode_bc2, decode_bc2_pitched = Bc2;
+    /// Reads a BC4 picture, in blocks of 8 bytes.
+    decode_bc4, decode_bc4_pitched = Bc4;
+    /// Reads a signed BC4 picture, in blocks of 8 bytes.
+    decode_bc4_signed, decode_bc4_signed_pitched = Bc4Signed;
+    /// Reads a BC5 picture, in blocks of 16 bytes.
+    decode_bc5, decode_bc5_pitched = Bc5;
+    /// Reads a signed BC5 picture, in blocks of 16 bytes.
+    decode_bc5_signed, decode_bc5_signed_pitched = Bc5Signed;
 }
 
 blocks! {
@@ -207,6 +219,16 @@ blocks! {
     decode_bc3_block = of(Format::Bc3);
     /// Reads a BC7 block of 16 bytes into the elements 0 to 15, row by row.
     decode_bc7_block = of(Format::Bc7);
+    /// Reads a BC2 block of 16 bytes into the elements 0 to 15, row by row.
+    decode_bc2_block = of(Format::Bc2);
+    /// Reads a BC4 block of 8 bytes into the elements 0 to 15, row by row.
+    decode_bc4_block = of(Format::Bc4);
+    /// Reads a signed BC4 block of 8 bytes into the elements 0 to 15, row by row.
+    decode_bc4_signed_block = of(Format::Bc4Signed);
+    /// Reads a BC5 block of 16 bytes into the elements 0 to 15, row by row.
+    decode_bc5_block = of(Format::Bc5);
+    /// Reads a signed BC5 block of 16 bytes into the elements 0 to 15, row by row.
+    decode_bc5_signed_block = of(Format::Bc5Signed);
     /// Reads an alpha half of 8 bytes into the top bytes of the elements 0 to 15, and keeps
     /// the rest of them.
     decode_etc2_a8_block = typed::read_alpha;

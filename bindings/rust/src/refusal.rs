@@ -13,14 +13,14 @@ pub enum Refusal {
     /// Refusal 3: there are fewer elements than the picture or the block has pixels; of the
     /// writer of sheets: less room than the sheet needs.
     ShortImage,
-    /// Refusal 4, of the strict reader alone: a base plus its step lies outside 0 to 31.
+    /// Refusal 4, of the strict reader and its check alone: a base plus its step lies outside 0 to 31.
     OutOfRange {
         /// The first such block, counted from 0.
         block: usize,
     },
     /// Refusal 5: the channel is above 3.
     NoChannel,
-    /// Refusal 6, of the strict reader alone: there are more bytes than the blocks need.
+    /// Refusal 6, of the strict reader and its check alone: there are more bytes than the blocks need.
     LongData,
     /// Refusal 7, of a sheet: a record is cut short, or there are no bytes at all.
     CutShort,
@@ -30,7 +30,7 @@ pub enum Refusal {
     OtherKind,
     /// Refusal 10, of a sheet: no block record, a second one, or blocks of a wrong length.
     WrongBlocks,
-    /// Refusal 11, of the opaque-only reader alone: a block's opaque bit is clear.
+    /// Refusal 11, of the opaque-only reader and its check alone: a block's opaque bit is clear.
     NotOpaque {
         /// The first such block, counted from 0.
         block: usize,
@@ -46,6 +46,26 @@ pub enum Refusal {
     BadMeasurement,
     /// Refusal 16, of the baker alone: a channel of a base is above 15.
     NoBase,
+    /// Refusal 20, of a file: it ends before its header does.
+    CutHeader,
+    /// Refusal 21, of a file: its first bytes are those of no container that is known.
+    NoTexture,
+    /// Refusal 22, of a file: a version or a byte order that nobody defined.
+    NoVersion,
+    /// Refusal 23, of a file: a format that is not read here.
+    NoFormat,
+    /// Refusal 24, of a file: its sizes contradict each other.
+    SizesDisagree,
+    /// Refusal 25, of a file: a volume, an array or a cube.
+    NotFlat,
+    /// Refusal 26, of a file: its picture has no pixel.
+    NoPixels,
+    /// Refusal 37, of a file: there are fewer levels, or bytes of them, than the file tells.
+    LevelsMissing,
+    /// Refusal 38, of a file: there is no level of that number.
+    NoLevel,
+    /// Refusal 41, of a KTX 2 file: its levels are compressed once more.
+    Supercompressed,
     /// A number that this package does not know: another archive than its own was linked.
     Unknown {
         /// What the archive answered.
@@ -73,6 +93,16 @@ impl Refusal {
             Refusal::BadDigit => 14,
             Refusal::BadMeasurement => 15,
             Refusal::NoBase => 16,
+            Refusal::CutHeader => 20,
+            Refusal::NoTexture => 21,
+            Refusal::NoVersion => 22,
+            Refusal::NoFormat => 23,
+            Refusal::SizesDisagree => 24,
+            Refusal::NotFlat => 25,
+            Refusal::NoPixels => 26,
+            Refusal::LevelsMissing => 37,
+            Refusal::NoLevel => 38,
+            Refusal::Supercompressed => 41,
             Refusal::Unknown { number } => number,
         }
     }
@@ -96,6 +126,16 @@ impl Refusal {
             Refusal::BadDigit => "Legend and picture do not name one digit!",
             Refusal::BadMeasurement => "The measurement is out of range!",
             Refusal::NoBase => "A channel of a base is above 15!",
+            Refusal::CutHeader => "The file ends before its header does!",
+            Refusal::NoTexture => "The file is no texture file of a known kind!",
+            Refusal::NoVersion => "The file has a version or a byte order that nobody defined!",
+            Refusal::NoFormat => "The file has a format that is not read here!",
+            Refusal::SizesDisagree => "The sizes in the file contradict each other!",
+            Refusal::NotFlat => "The file holds a volume, an array or a cube!",
+            Refusal::NoPixels => "The picture in the file has no pixel!",
+            Refusal::LevelsMissing => "The file has fewer levels than it tells!",
+            Refusal::NoLevel => "The file has no such level!",
+            Refusal::Supercompressed => "The file is supercompressed!",
             Refusal::Unknown { .. } => "The linked library gave an answer that this package does not know!",
         }
     }
@@ -130,6 +170,16 @@ impl Refusal {
             14 => Err(Refusal::BadDigit),
             15 => Err(Refusal::BadMeasurement),
             16 => Err(Refusal::NoBase),
+            20 => Err(Refusal::CutHeader),
+            21 => Err(Refusal::NoTexture),
+            22 => Err(Refusal::NoVersion),
+            23 => Err(Refusal::NoFormat),
+            24 => Err(Refusal::SizesDisagree),
+            25 => Err(Refusal::NotFlat),
+            26 => Err(Refusal::NoPixels),
+            37 => Err(Refusal::LevelsMissing),
+            38 => Err(Refusal::NoLevel),
+            41 => Err(Refusal::Supercompressed),
             number => Err(Refusal::Unknown { number }),
         }
     }
@@ -170,6 +220,22 @@ impl fmt::Display for Refusal {
             Refusal::BadDigit => write!(f, "Refusal {number}: legend and picture do not name one digit."),
             Refusal::BadMeasurement => write!(f, "Refusal {number}: the measurement is out of range, or no number."),
             Refusal::NoBase => write!(f, "Refusal {number}: a channel of a base is above 15."),
+            Refusal::CutHeader => write!(f, "Refusal {number}: the file ends before its header does."),
+            Refusal::NoTexture => write!(f, "Refusal {number}: the file is neither PKM, KTX, DDS nor a sheet."),
+            Refusal::NoVersion => write!(
+                f,
+                "Refusal {number}: the file has a version or a byte order that nobody defined."
+            ),
+            Refusal::NoFormat => write!(f, "Refusal {number}: the file has a format that is not read here."),
+            Refusal::SizesDisagree => write!(f, "Refusal {number}: the sizes in the file contradict each other."),
+            Refusal::NotFlat => write!(f, "Refusal {number}: the file holds a volume, an array or a cube."),
+            Refusal::NoPixels => write!(f, "Refusal {number}: the picture in the file has no pixel."),
+            Refusal::LevelsMissing => write!(
+                f,
+                "Refusal {number}: the file has fewer levels, or bytes of them, than it tells."
+            ),
+            Refusal::NoLevel => write!(f, "Refusal {number}: the file has no level of that number."),
+            Refusal::Supercompressed => write!(f, "Refusal {number}: the file's levels are compressed once more."),
             Refusal::Unknown { .. } => write!(f, "Refusal {number}: the linked library is not this package's own."),
         }
     }

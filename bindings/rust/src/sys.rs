@@ -4,9 +4,35 @@
 pub type Picture = unsafe extern "C" fn(*const u8, usize, usize, usize, usize, *mut u32, usize) -> u32;
 pub type Whole<T> = unsafe extern "C" fn(*const u8, usize, usize, usize, usize, *mut T, usize) -> u32;
 pub type Guarded = unsafe extern "C" fn(*const u8, usize, usize, usize, usize, *mut u32, usize, *mut usize) -> u32;
+pub type Check = unsafe extern "C" fn(*const u8, usize, usize, usize, *mut usize) -> u32;
 pub type Start = unsafe extern "C" fn(usize, usize, usize, *const u32, usize, *mut [usize; 5], *mut [u8; 15]) -> u32;
 pub type Block = unsafe extern "C" fn(*const u8, usize, *mut u32, usize) -> u32;
 pub type Channel = unsafe extern "C" fn(*const u8, usize, usize, *mut u32, usize) -> u32;
+
+/// `struct yalivucu_file`.
+#[repr(C)]
+#[derive(Default)]
+pub struct File {
+    pub container: u64,
+    pub format: u64,
+    pub srgb: u64,
+    pub width: u64,
+    pub height: u64,
+    pub levels: u64,
+    pub big_endian: u64,
+    pub orientation: u64,
+    pub left_over: u64,
+}
+
+/// `struct yalivucu_level_place`.
+#[repr(C)]
+#[derive(Default)]
+pub struct Level {
+    pub width: u64,
+    pub height: u64,
+    pub start: u64,
+    pub length: u64,
+}
 
 macro_rules! declared {
     ($($name:ident)*) => {$(
@@ -16,6 +42,11 @@ macro_rules! declared {
 macro_rules! declared_whole {
     ($($name:ident: $number:ty,)*) => {$(
         pub fn $name(data: *const u8, data_len: usize, width: usize, height: usize, pitch: usize, image: *mut $number, image_len: usize) -> u32;
+    )*};
+}
+macro_rules! declared_check {
+    ($($name:ident)*) => {$(
+        pub fn $name(data: *const u8, data_len: usize, width: usize, height: usize, block: *mut usize) -> u32;
     )*};
 }
 macro_rules! declared_block {
@@ -53,12 +84,21 @@ extern "C" {
         yalivucu_decode_bc1a_pitched
         yalivucu_decode_bc3_pitched
         yalivucu_decode_bc7_pitched
+        yalivucu_decode_bc2_pitched
+        yalivucu_decode_bc4_pitched
+        yalivucu_decode_bc4_signed_pitched
+        yalivucu_decode_bc5_pitched
+        yalivucu_decode_bc5_signed_pitched
     }
     declared_whole! {
         yalivucu_decode_eacr11_pitched: u16,
         yalivucu_decode_eacr11_signed_pitched: i16,
         yalivucu_decode_eacrg11_pitched: u16,
         yalivucu_decode_eacrg11_signed_pitched: i16,
+    }
+    declared_check! {
+        yalivucu_check_strict
+        yalivucu_check_opaque
     }
     declared_block! {
         yalivucu_decode_etc1_block
@@ -73,6 +113,11 @@ extern "C" {
         yalivucu_decode_bc1a_block
         yalivucu_decode_bc3_block
         yalivucu_decode_bc7_block
+        yalivucu_decode_bc2_block
+        yalivucu_decode_bc4_block
+        yalivucu_decode_bc4_signed_block
+        yalivucu_decode_bc5_block
+        yalivucu_decode_bc5_signed_block
         yalivucu_decode_etc2_a8_block
     }
     declared_channel! {
@@ -93,10 +138,17 @@ extern "C" {
         yalivucu_start_bc1a
         yalivucu_start_bc3
         yalivucu_start_bc7
+        yalivucu_start_bc2
+        yalivucu_start_bc4
+        yalivucu_start_bc4_signed
+        yalivucu_start_bc5
+        yalivucu_start_bc5_signed
     }
     declared_census! {
         yalivucu_census_etc2_rgb
         yalivucu_census_etc2_rgba1
+        yalivucu_older_etc1
+        yalivucu_older_rgb
     }
     pub fn yalivucu_decode_etc1_strict_pitched(
         data: *const u8,
@@ -118,6 +170,8 @@ extern "C" {
         image_len: usize,
         block: *mut usize,
     ) -> u32;
+    pub fn yalivucu_open_file(data: *const u8, data_len: usize, file: *mut File) -> u32;
+    pub fn yalivucu_file_level(data: *const u8, data_len: usize, level: usize, out: *mut Level) -> u32;
     pub fn yalivucu_sheet_head(
         sheet: *const u8,
         sheet_len: usize,

@@ -15,11 +15,13 @@ pub use crate::baking::{bake_etc1_block, check_etc1_block};
 pub use crate::bands::{read_in_bands, read_opaque_in_bands, read_strict_in_bands};
 pub use crate::census::{census_etc2_rgb, census_etc2_rgba1, KindCounts, RgbCounts, Rgba1Counts};
 pub use crate::degrees::{degrees, Legend, Reading};
+pub use crate::file::{Container, File, Level, Orientation};
+pub use crate::older::{older_etc1, older_rgb, OlderCounts, OlderPixel};
 pub use crate::pieces::{Pieces, Taken};
 pub use crate::refusal::Refusal;
 pub use crate::sheet::{read_sheet, sheet_head, write_sheet, Head};
-pub use crate::whole::{decode_eacr11, decode_eacr11_signed, decode_eacrg11, decode_eacrg11_signed};
 use crate::sys;
+pub use crate::whole::{decode_eacr11, decode_eacr11_signed, decode_eacrg11, decode_eacrg11_signed};
 
 /// The formats that can be read.
 #[derive(Clone, Copy, Debug, PartialEq, Eq, Hash)]
@@ -49,11 +51,21 @@ pub enum Format {
     Bc3,
     /// BC7, in blocks of 16 bytes; a block without a mode is 0.
     Bc7,
+    /// BC2, in blocks of 16 bytes; always four colours, and four bits of alpha.
+    Bc2,
+    /// BC4 into red, in blocks of 8 bytes.
+    Bc4,
+    /// Signed BC4 into red, in blocks of 8 bytes; a value's byte is 127 more, as in signed EAC.
+    Bc4Signed,
+    /// BC5 into red and green, in blocks of 16 bytes.
+    Bc5,
+    /// Signed BC5 into red and green, in blocks of 16 bytes; a value's byte is 127 more, as in signed EAC.
+    Bc5Signed,
 }
 
 impl Format {
     /// Every format.
-    pub const ALL: [Format; 12] = [
+    pub const ALL: [Format; 17] = [
         Format::Etc1,
         Format::Etc2Rgb,
         Format::Etc2Rgba1,
@@ -66,6 +78,11 @@ impl Format {
         Format::Bc1Alpha,
         Format::Bc3,
         Format::Bc7,
+        Format::Bc2,
+        Format::Bc4,
+        Format::Bc4Signed,
+        Format::Bc5,
+        Format::Bc5Signed,
     ];
 
     /// The bytes of a block.
@@ -75,7 +92,8 @@ impl Format {
     /// ```
     pub const fn block_size(self) -> usize {
         match self {
-            Format::Etc2Rgba8 | Format::EacRg | Format::EacRgSigned | Format::Bc3 | Format::Bc7 => 16,
+            Format::Etc2Rgba8 | Format::EacRg | Format::EacRgSigned => 16,
+            Format::Bc2 | Format::Bc3 | Format::Bc5 | Format::Bc5Signed | Format::Bc7 => 16,
             _ => 8,
         }
     }
@@ -94,6 +112,11 @@ impl Format {
             Format::Bc1Alpha => sys::yalivucu_decode_bc1a_pitched,
             Format::Bc3 => sys::yalivucu_decode_bc3_pitched,
             Format::Bc7 => sys::yalivucu_decode_bc7_pitched,
+            Format::Bc2 => sys::yalivucu_decode_bc2_pitched,
+            Format::Bc4 => sys::yalivucu_decode_bc4_pitched,
+            Format::Bc4Signed => sys::yalivucu_decode_bc4_signed_pitched,
+            Format::Bc5 => sys::yalivucu_decode_bc5_pitched,
+            Format::Bc5Signed => sys::yalivucu_decode_bc5_signed_pitched,
         }
     }
 
@@ -111,6 +134,11 @@ impl Format {
             Format::Bc1Alpha => sys::yalivucu_start_bc1a,
             Format::Bc3 => sys::yalivucu_start_bc3,
             Format::Bc7 => sys::yalivucu_start_bc7,
+            Format::Bc2 => sys::yalivucu_start_bc2,
+            Format::Bc4 => sys::yalivucu_start_bc4,
+            Format::Bc4Signed => sys::yalivucu_start_bc4_signed,
+            Format::Bc5 => sys::yalivucu_start_bc5,
+            Format::Bc5Signed => sys::yalivucu_start_bc5_signed,
         }
     }
 
@@ -128,6 +156,11 @@ impl Format {
             Format::Bc1Alpha => sys::yalivucu_decode_bc1a_block,
             Format::Bc3 => sys::yalivucu_decode_bc3_block,
             Format::Bc7 => sys::yalivucu_decode_bc7_block,
+            Format::Bc2 => sys::yalivucu_decode_bc2_block,
+            Format::Bc4 => sys::yalivucu_decode_bc4_block,
+            Format::Bc4Signed => sys::yalivucu_decode_bc4_signed_block,
+            Format::Bc5 => sys::yalivucu_decode_bc5_block,
+            Format::Bc5Signed => sys::yalivucu_decode_bc5_signed_block,
         }
     }
 }
@@ -284,6 +317,48 @@ fn guarded(reader: sys::Guarded, data: &[u8], picture: Picture, image: &mut [u32
             &mut block,
         )
     };
+    Refusal::answered(number, block)
+}
+
+/// Checks an ETC1 picture as [`read_strict`] does, without an image: where one is long enough, the two answer
+/// the same.
+///
+/// Refuses with [`Refusal::TooLarge`], [`Refusal::ShortData`], [`Refusal::LongData`] or
+/// [`Refusal::OutOfRange`], tested in that order.
+///
+/// ```
+/// use yalivucu::typed::{check_strict, Refusal};
+///
+/// let red = [0xf8, 0, 0, 0x02, 0, 0, 0, 0];
+/// assert_eq!(check_strict(&red, 4, 4), Ok(()));
+/// let t = [0x04, 0, 0, 0x02, 0, 0, 0, 0];
+/// assert_eq!(check_strict(&[red, t].concat(), 8, 4), Err(Refusal::OutOfRange { block: 1 }));
+/// ```
+pub fn check_strict(data: &[u8], width: usize, height: usize) -> Result<(), Refusal> {
+    checked(sys::yalivucu_check_strict, data, width, height)
+}
+
+/// Checks an ETC2 RGBA1 picture as [`read_opaque`] does, without an image: where one is long enough, the two
+/// answer the same.
+///
+/// Refuses with [`Refusal::TooLarge`], [`Refusal::ShortData`] or [`Refusal::NotOpaque`], tested in that order.
+///
+/// ```
+/// use yalivucu::typed::{check_opaque, Refusal};
+///
+/// let red = [0xf8, 0, 0, 0x02, 0, 0, 0, 0];
+/// assert_eq!(check_opaque(&red, 4, 4), Ok(()));
+/// assert_eq!(check_opaque(&[red, [0; 8]].concat(), 8, 4), Err(Refusal::NotOpaque { block: 1 }));
+/// ```
+pub fn check_opaque(data: &[u8], width: usize, height: usize) -> Result<(), Refusal> {
+    checked(sys::yalivucu_check_opaque, data, width, height)
+}
+
+fn checked(check: sys::Check, data: &[u8], width: usize, height: usize) -> Result<(), Refusal> {
+    let mut block = 0;
+    // SAFETY: the pointer and the length are those of a slice that lives through the call, and `block` is a
+    // local of its own.
+    let number = unsafe { check(data.as_ptr(), data.len(), width, height, &mut block) };
     Refusal::answered(number, block)
 }
 

@@ -8,7 +8,7 @@ type Channel = fn(&[u8], usize, &mut [u32]);
 
 const STOOD: u32 = 0x1111_1111;
 
-const PICTURES: [(Picture, usize); 12] = [
+const PICTURES: [(Picture, usize); 17] = [
     (decode_etc1, 8),
     (decode_etc2_rgb, 8),
     (decode_etc2_rgba1, 8),
@@ -21,12 +21,17 @@ const PICTURES: [(Picture, usize); 12] = [
     (decode_bc1a, 8),
     (decode_bc3, 16),
     (decode_bc7, 16),
+    (decode_bc2, 16),
+    (decode_bc4, 8),
+    (decode_bc4_signed, 8),
+    (decode_bc5, 16),
+    (decode_bc5_signed, 16),
 ];
 
 type Pitched = fn(&[u8], usize, usize, usize, &mut [u32]) -> Result<(), &'static str>;
 
 /// The twins that take a pitch, in the same order.
-const PITCHED: [Pitched; 12] = [
+const PITCHED: [Pitched; 17] = [
     decode_etc1_pitched,
     decode_etc2_rgb_pitched,
     decode_etc2_rgba1_pitched,
@@ -39,9 +44,14 @@ const PITCHED: [Pitched; 12] = [
     decode_bc1a_pitched,
     decode_bc3_pitched,
     decode_bc7_pitched,
+    decode_bc2_pitched,
+    decode_bc4_pitched,
+    decode_bc4_signed_pitched,
+    decode_bc5_pitched,
+    decode_bc5_signed_pitched,
 ];
 
-const BLOCKS: [(Block, usize); 13] = [
+const BLOCKS: [(Block, usize); 18] = [
     (decode_etc1_block, 8),
     (decode_etc2_rgb_block, 8),
     (decode_etc2_rgba1_block, 8),
@@ -55,6 +65,11 @@ const BLOCKS: [(Block, usize); 13] = [
     (decode_bc1a_block, 8),
     (decode_bc3_block, 16),
     (decode_bc7_block, 16),
+    (decode_bc2_block, 16),
+    (decode_bc4_block, 8),
+    (decode_bc4_signed_block, 8),
+    (decode_bc5_block, 16),
+    (decode_bc5_signed_block, 16),
 ];
 
 const CHANNELS: [Channel; 3] = [decode_eac_block, decode_eac_signed_block, |data, channel, out| {

@@ -9,7 +9,7 @@ type Reader = fn(&[u8], usize, usize, &mut [u32]) -> Result<(), &'static str>;
 type BlockReader = fn(&[u8], &mut [u32]);
 
 /// A table of function pointers, with the bytes of a block.
-const READERS: [(&str, Reader, usize); 12] = [
+const READERS: [(&str, Reader, usize); 15] = [
     ("etc1", decode_etc1, 8),
     ("etc2_rgb", decode_etc2_rgb, 8),
     ("etc2_rgba1", decode_etc2_rgba1, 8),
@@ -22,6 +22,9 @@ const READERS: [(&str, Reader, usize); 12] = [
     ("bc1a", decode_bc1a, 8),
     ("bc3", decode_bc3, 16),
     ("bc7", decode_bc7, 16),
+    ("bc2", decode_bc2, 16),
+    ("bc4", decode_bc4, 8),
+    ("bc5", decode_bc5, 16),
 ];
 
 static BLOCK_READERS: &[(&str, BlockReader, usize)] = &[
@@ -38,6 +41,9 @@ static BLOCK_READERS: &[(&str, BlockReader, usize)] = &[
     ("bc1a_block", decode_bc1a_block, 8),
     ("bc3_block", decode_bc3_block, 16),
     ("bc7_block", decode_bc7_block, 16),
+    ("bc2_block", decode_bc2_block, 16),
+    ("bc4_block", decode_bc4_block, 8),
+    ("bc5_block", decode_bc5_block, 16),
 ];
 
 const CHANNEL_READERS: [(&str, fn(&[u8], usize, &mut [u32])); 2] = [
@@ -93,12 +99,12 @@ impl Random {
 }
 
 /// Blocks of 8 bytes on which the listed differences do not show: an EAC block that reads the
-/// same in both orders of its index bytes, and no signed base of 80 hex; of BC3 the first colour is above
-/// the second. Any other block is free.
+/// same in both orders of its index bytes, and no signed base of 80 hex; of BC2 and BC3 the first colour is
+/// above the second. Any other block is free.
 fn blocks(random: &mut Random, bytes: usize, name: &str) -> Vec<u8> {
     let is_eac = name.starts_with("eac");
     let mut data: Vec<u8> = (0..bytes).map(|_| random.byte()).collect();
-    for block in data.chunks_exact_mut(16).filter(|_| name.starts_with("bc3")) {
+    for block in data.chunks_exact_mut(16).filter(|_| name.starts_with("bc2") || name.starts_with("bc3")) {
         block[9] |= 0x80;
         block[11] &= 0x7f;
     }

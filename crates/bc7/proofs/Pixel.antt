@@ -17,12 +17,12 @@ use Rattle.rules.specs.Bc7.{selected, subsetOf, colourEnd, alphaEnd, blend, rot
 use Rattle.rules.specs.declared.Mode.{Mode}
 use Rattle.laws.proofs.Filled.{getD-build, build-same}
 use Rattle.laws.proofs.Tables.{subset-exists}
-use Rattle.rest.specs.Whole.{passedBy, widthBy}
-use Rattle.bptc.specs.Layout.{layoutOf}
-use Rattle.bptc.proofs.Layouts.{subset-said}
-use Rattle.endpoints.specs.declared.Front.{Front}
-use Rattle.endpoints.specs.declared.Ends.{Ends}
-use Rattle.endpoints.specs.Stages.{Sane, Fronted, Ended}
+use Rattle.bc7.specs.rest.Whole.{passedBy, widthBy}
+use Rattle.bc7.specs.bptc.Layout.{layoutOf}
+use Rattle.bc7.proofs.bptc.Layouts.{subset-said}
+use Rattle.bc7.specs.declared.endpoints.Front.{Front}
+use Rattle.bc7.specs.declared.endpoints.Ends.{Ends}
+use Rattle.bc7.specs.endpoints.Stages.{Sane, Fronted, Ended}
 use Rattle.bc7.specs.Shaded.{between, shaded}
 use Rattle.bc7.proofs.Steps.{same-rotated, each}
 use Rattle.laws.proofs.Shades.{weight-most}

@@ -10,9 +10,9 @@ use lib.Pow.{shr-shr, split, pow-pos}
 use Rattle.rules.specs.Bits.{field}
 use Rattle.rules.specs.Bc7.{indexBits, bitsBefore}
 use Rattle.laws.proofs.Order.{low-field}
-use Rattle.rest.specs.Whole.{widthBy, passedBy}
-use Rattle.bptc.specs.Layout.{layoutOf}
-use Rattle.bptc.proofs.Layouts.{anchor-said}
+use Rattle.bc7.specs.rest.Whole.{widthBy, passedBy}
+use Rattle.bc7.specs.bptc.Layout.{layoutOf}
+use Rattle.bc7.proofs.bptc.Layouts.{anchor-said}
 
 -- the 64 bits next hold a field that ends within them
 pub in-word : (x q w : ℕ) → q + w ≤ 64 → x % 2 ^ 64 / 2 ^ q % 2 ^ w ≡ x / 2 ^ q % 2 ^ w

@@ -4,7 +4,7 @@ use mathlib.Core.List.{List}
 use Prim.Native.Nat.{ℕ, _+_, _*_}
 use lib.ListN.{getD}
 use Rattle.rules.specs.Bc7.{blend, rotated}
-use Rattle.endpoints.specs.declared.Ends.{Ends}
+use Rattle.bc7.specs.declared.endpoints.Ends.{Ends}
 
 -- a pixel out of the endpoints of four channels, by the subset s, a weight of colour and one of alpha
 abbrev pub between : List ℕ → ℕ → ℕ → ℕ

@@ -1,5 +1,10 @@
 // A BC7 block: all eight modes are one reading, by the record of the mode.
+mod bptc;
+mod endpoints;
+pub mod rest;
+
 use endpoints::Ends;
+use pixel::color;
 use rest::Rest;
 use rules::Mode;
 ghost use mathlib.Core.Path.{_≡_};
@@ -11,8 +16,8 @@ ghost use Rattle.rules.specs.Notation.{build};
 ghost use Rattle.rules.specs.Places.{tile};
 ghost use Rattle.rules.specs.Bptc.{weightsOf};
 ghost use Rattle.rules.specs.Bc7.{rotated, pixelIn, modeAt, pixelOf, bc7Pixel};
-ghost use Rattle.rest.specs.Whole.{whole, widthBy, passedBy};
-ghost use Rattle.endpoints.specs.Stages.{Sane};
+ghost use Rattle.bc7.specs.rest.Whole.{whole, widthBy, passedBy};
+ghost use Rattle.bc7.specs.endpoints.Stages.{Sane};
 ghost use Rattle.bc7.specs.Shaded.{shaded};
 
 // The weights of sixteen indices of b bits, the first of which stands lowest.

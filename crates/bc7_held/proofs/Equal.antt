@@ -13,7 +13,7 @@ use Rattle.rules.specs.Bc7.{pixelOf, blockWord, bc7Pixel}
 use Rattle.rules.specs.declared.Answer.the-variants.{Done}
 use Rattle.laws.proofs.Filled.{build-same}
 use Rattle.laws.proofs.Number.{Bytes, first-bytes}
-use Rattle.bc1.proofs.Shown.{by-row}
+use Rattle.bc.proofs.bc1.Shown.{by-row}
 use Rattle.bc7_held.specs.Sixteen.{sixteenOf, blockFrom}
 
 pub present : (d : List ℕ) (p : ℕ) → p + 128 ≤ length d * 8 → p + 128 ≤ 18446744073709551615 → lacks d p 128 ≡ false

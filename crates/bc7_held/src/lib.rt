@@ -1,6 +1,8 @@
 // A whole BC7 block through the bit reader: sixteen reads of eight bits. It shows what the fast reader shows, and takes longer.
+pub mod bits;
+
+use bc7::rest::Rest;
 use bits::BitReader;
-use rest::Rest;
 use rules::Answer;
 use rules::Bits;
 ghost use mathlib.Core.Path.{_≡_};
@@ -27,7 +29,8 @@ fn byte_at(s: &[u8], place: usize) -> u64
     requires { ⌜ refuses (now s) place 8 ≡ false ⌝ }
     ensures { λ r. ⌜ (r ≡ fieldAt (now (s .entry)) place 8) × (r < 256) ⌝ }
 {
-    let got = bits::bits_at(s, place, 8);
+    let found = bits::read_at(s, place, 8);
+    let got = found.bits;
     match got {
         Bits::Value(b) => wide(b),
         Bits::Refused => 0,
@@ -89,4 +92,11 @@ pub fn block_of<'a>(r: BitReader<'a>) -> Sixteen
     ensures { λ t. ⌜ t ≡ blockFrom (now (r .entry .src)) (r .entry .place) ⌝ }
 {
     block_from(r.src, r.place)
+}
+
+// The block at the first bit, through a reader that is made for it.
+pub fn first_block(s: &[u8]) -> Sixteen
+    ensures { λ t. ⌜ t ≡ blockFrom (now (s .entry)) 0 ⌝ }
+{
+    block_of(bits::new(s))
 }

@@ -15,8 +15,8 @@ use Rattle.rules.specs.Pixel.{Shows}
 use Rattle.rules.specs.Places.{sized, bytesOf, tile, pixelBy, painted}
 use Rattle.laws.proofs.Filled.{build-same}
 use Rattle.laws.proofs.Parts.{part}
-use Rattle.place.proofs.Grid.{roomy}
-use Rattle.place.proofs.Plain.{needed-plain, painted-plain}
+use Rattle.pixel.proofs.place.Grid.{roomy}
+use Rattle.pixel.proofs.place.Plain.{needed-plain, painted-plain}
 use Rattle.blocks.specs.Run.{Whole, PaintsRow}
 use Rattle.blocks.proofs.Blocks.{whole}
 

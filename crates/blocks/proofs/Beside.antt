@@ -13,7 +13,7 @@ use Rattle.rules.specs.declared.Picture.{Picture}
 use Rattle.laws.specs.Painted.{Painted}
 use Rattle.laws.proofs.Paint.{none}
 use Rattle.laws.proofs.Parts.{part}
-use Rattle.place.specs.Tile.{InTile, numberIn}
+use Rattle.pixel.specs.place.Tile.{InTile, numberIn}
 use Rattle.blocks.specs.Run.{InRun, Stands, numbered, PaintsRow}
 use Rattle.blocks.proofs.Blocks.{next, start as first}
 use Rattle.blocks.proofs.Runs.{two-runs, other-bytes}

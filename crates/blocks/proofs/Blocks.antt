@@ -15,8 +15,8 @@ use Rattle.rules.specs.declared.Picture.{Picture}
 use Rattle.laws.specs.Painted.{Painted}
 use Rattle.laws.proofs.Paint.{none, said, also, is-painted}
 use Rattle.laws.proofs.Filled.{getD-build}
-use Rattle.place.specs.Tile.{InTile, numberIn}
-use Rattle.place.proofs.Grid.{rem-at, div-at, before, covered, column-in, row-in}
+use Rattle.pixel.specs.place.Tile.{InTile, numberIn}
+use Rattle.pixel.proofs.place.Grid.{rem-at, div-at, before, covered, column-in, row-in}
 use Rattle.blocks.specs.Run.{InRun, Stands}
 
 -- the place that a number in a tile stands for

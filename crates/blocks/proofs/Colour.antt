@@ -12,8 +12,8 @@ use Rattle.rules.specs.Channels.{withAlpha, alphaByte}
 use Rattle.rules.specs.declared.Picture.{Picture}
 use Rattle.laws.specs.Painted.{Painted}
 use Rattle.laws.proofs.Parts.{rest}
-use Rattle.place.specs.Tile.{InTile, numberIn}
-use Rattle.etc2.specs.Colours.{colourPixel}
+use Rattle.pixel.specs.place.Tile.{InTile, numberIn}
+use Rattle.etc_colour.specs.etc2.Colours.{colourPixel}
 use Rattle.blocks.specs.Colour.{coloursFrom, colourShows}
 
 module _ (plain punch : Bool) (d px : List ℕ) (at : ℕ) (p : px ≡ tile (colourPixel plain punch) (take (length d - at) (drop at d))) where

@@ -16,7 +16,7 @@ use Rattle.rules.specs.Pieces.{inRun}
 use Rattle.rules.specs.declared.Picture.{Picture}
 use Rattle.laws.specs.Painted.{Painted}
 use Rattle.laws.proofs.Paint.{said, also, is-painted, length-painted, getD-painted}
-use Rattle.place.specs.Tile.{Room}
+use Rattle.pixel.specs.place.Tile.{Room}
 use Rattle.blocks.specs.Run.{InRun}
 
 -- both of two tests

@@ -5,7 +5,7 @@ use Prim.Native.Nat.{ℕ}
 use lib.ListN.{drop}
 use Rattle.rules.specs.Pixel.{Shows}
 use Rattle.rules.specs.Channels.{withAlpha, alphaByte}
-use Rattle.etc2.specs.Colours.{colourPixel}
+use Rattle.etc_colour.specs.etc2.Colours.{colourPixel}
 
 -- how many bytes it has, and where its colours begin
 abbrev pub colourSize : Bool → ℕ

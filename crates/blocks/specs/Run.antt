@@ -10,7 +10,7 @@ use Rattle.rules.specs.Formats.{sizeOf, showsOf}
 use Rattle.rules.specs.declared.Format.{Format}
 use Rattle.rules.specs.declared.Picture.{Picture}
 use Rattle.laws.specs.Painted.{Painted}
-use Rattle.place.specs.Tile.{Room}
+use Rattle.pixel.specs.place.Tile.{Room}
 
 -- element k is a pixel of one of the blocks from number first to last - 1
 pub record InRun (pic : Picture) (first last k : ℕ) : Type 0 where

@@ -1,8 +1,17 @@
 // The formats: blocks that stand beside each other in a picture, painted one after another, and the sixteen pixels of one block. Each
 // kind of block has one caller, its own loop, so that its pixels go from the registers into the image (docs/PERFORMANCE.md); one block
 // alone is a picture of 4 by 4.
+use bc::bc1;
+use bc::bc2;
+use bc::bc3;
+use bc::rgtc;
+use eac::values;
+use etc_alpha::channel;
+use etc_colour::etc2;
+use pixel::place;
 use rules::Format;
 use rules::Picture;
+use tables::consts;
 ghost use mathlib.Core.Path.{_≡_};
 ghost use mathlib.Core.Bool.{true, false};
 ghost use Prim.Native.Nat.{ℕ, _+_, _*_, _≤_};
@@ -10,13 +19,14 @@ ghost use lib.ListN.{length, getD};
 ghost use Rattle.rules.specs.Notation.{byte};
 ghost use Rattle.rules.specs.Places.{tile, bytesOf};
 ghost use Rattle.rules.specs.Channels.{redPixel, redGreenPixel};
-ghost use Rattle.rules.specs.Desktop.{bc1Pixel, bc3Pixel};
+ghost use Rattle.rules.specs.Desktop.{bc1Pixel, bc3Pixel, bc2Pixel};
+ghost use Rattle.rules.specs.Rgtc.{bc4Pixel, bc5Pixel};
 ghost use Rattle.rules.specs.Bc7.{bc7Pixel};
 ghost use Rattle.rules.specs.Formats.{sizeOf, showsOf};
 ghost use Rattle.laws.specs.Painted.{Painted};
-ghost use Rattle.consts.specs.Tables.{signedSteps};
-ghost use Rattle.channel.specs.Alphas.{eightAlphas};
-ghost use Rattle.place.specs.Tile.{InTile, Room, numberIn};
+ghost use Rattle.tables.specs.consts.Tables.{signedSteps};
+ghost use Rattle.etc_alpha.specs.channel.Alphas.{eightAlphas};
+ghost use Rattle.pixel.specs.place.Tile.{InTile, Room, numberIn};
 ghost use Rattle.blocks.specs.Run.{Whole, PaintsRow};
 ghost use Rattle.blocks.specs.Colour.{colourSize, coloursFrom, colourShows};
 
@@ -228,6 +238,76 @@ fn run_bc7(data: &[u8], n: usize, bx: usize, by: usize, pic: Picture, image: &mu
     }
 }
 
+// Paints n blocks of BC2 beside each other, from column bx on in row by.
+fn run_bc2(data: &[u8], n: usize, bx: usize, by: usize, pic: Picture, image: &mut [u32])
+    requires { ⌜ (n * 16 ≤ length (now «data»)) × Whole pic bx by n (length (now image)) ⌝ }
+    ensures { λ _. ⌜ PaintsRow bc2Pixel 16 (now («data» .entry)) pic bx by n (now (image .entry)) (now (image .exit)) ⌝ }
+{
+    let mut i: usize = 0;
+    while i < n {
+        let from = i * 16;
+        let end = from + 16;
+        place::place_whole(bc2::bc2_block(&data[from..end]), bx + i, by, pic, image);
+        i += 1;
+    }
+}
+
+// Paints n blocks of BC4 beside each other, from column bx on in row by.
+fn run_bc4(
+    signed: bool,
+    data: &[u8],
+    n: usize,
+    bx: usize,
+    by: usize,
+    pic: Picture,
+    image: &mut [u32],
+)
+    requires { ⌜ (n * 8 ≤ length (now «data»)) × Whole pic bx by n (length (now image)) ⌝ }
+    ensures { λ _. ⌜ PaintsRow (bc4Pixel signed) 8 (now («data» .entry)) pic bx by n (now (image .entry)) (now (image .exit)) ⌝ }
+{
+    let mut i: usize = 0;
+    while i < n {
+        let from = i * 8;
+        let end = from + 8;
+        place::place_whole(
+            rgtc::bc4_block(signed, &data[from..end]),
+            bx + i,
+            by,
+            pic,
+            image,
+        );
+        i += 1;
+    }
+}
+
+// Paints n blocks of BC5 beside each other, from column bx on in row by.
+fn run_bc5(
+    signed: bool,
+    data: &[u8],
+    n: usize,
+    bx: usize,
+    by: usize,
+    pic: Picture,
+    image: &mut [u32],
+)
+    requires { ⌜ (n * 16 ≤ length (now «data»)) × Whole pic bx by n (length (now image)) ⌝ }
+    ensures { λ _. ⌜ PaintsRow (bc5Pixel signed) 16 (now («data» .entry)) pic bx by n (now (image .entry)) (now (image .exit)) ⌝ }
+{
+    let mut i: usize = 0;
+    while i < n {
+        let from = i * 16;
+        let end = from + 16;
+        place::place_whole(
+            rgtc::bc5_block(signed, &data[from..end]),
+            bx + i,
+            by,
+            pic,
+            image,
+        );
+        i += 1;
+    }
+}
+
 // Paints n blocks of any format beside each other, from column bx on in row by.
 pub fn run(f: Format, data: &[u8], n: usize, bx: usize, by: usize, pic: Picture, image: &mut [u32])
     requires { ⌜ (n * sizeOf f ≤ length (now «data»)) × Whole pic bx by n (length (now image)) ⌝ }
@@ -246,6 +326,11 @@ pub fn run(f: Format, data: &[u8], n: usize, bx: usize, by: usize, pic: Picture,
         Format::Bc1Alpha => run_bc1(true, data, n, bx, by, pic, image),
         Format::Bc3 => run_bc3(data, n, bx, by, pic, image),
         Format::Bc7 => run_bc7(data, n, bx, by, pic, image),
+        Format::Bc2 => run_bc2(data, n, bx, by, pic, image),
+        Format::Bc4 => run_bc4(false, data, n, bx, by, pic, image),
+        Format::Bc4Signed => run_bc4(true, data, n, bx, by, pic, image),
+        Format::Bc5 => run_bc5(false, data, n, bx, by, pic, image),
+        Format::Bc5Signed => run_bc5(true, data, n, bx, by, pic, image),
     }
 }
 

@@ -1,6 +1,6 @@
 -- No second outcome satisfies what a caller from C is told: the number, the image and the strict reader's block are all fixed.
--- Each exported promise of a reader is `Told` of an `Outcome`, whatever the verdict and the picture, so two lemmas serve them all; a
--- sheet's head and writer have one each, and so have the checker and the baker of blocks.
+-- Each exported promise of a reader is `Told` of an `Outcome`, whatever the verdict and the picture, so two lemmas serve them all; both
+-- checks without an image have one, a sheet's head and writer one each, and so have the checker and the baker of blocks.
 -- Assumes nothing.
 use mathlib.Core.Path.{_≡_, _∙_, sym, ap}
 use mathlib.Core.Bool.{cond}
@@ -17,7 +17,7 @@ use Rattle.rules.specs.declared.Sheet.{Sheet}
 use Rattle.rules.specs.declared.Written.{Written}
 use Rattle.laws.proofs.Unique.{no-second-outcome}
 use Rattle.sheet.proofs.Unique.{one-head, one-written}
-use Rattle.told.specs.Told.{Told, answerNumber, blockOr}
+use Rattle.capi.specs.pictures.Told.{Told, answerNumber, blockOr}
 use Rattle.capi.specs.Told.{headOr, HeadTold, WriterTold, BakingTold}
 
 module _ (verdict after old : List ℕ) where
@@ -43,6 +43,15 @@ module _ (verdict after old : List ℕ) where
       let same = both (p .answer) (q .answer) new new' (o .0) (u .0) r r' (p .says) (q .says) in
       let e = one (p .answer) (q .answer) new new' (o .0) (u .0) in
       (same .0, same .1, o .1 ∙ ap (λ (a : Answer). blockOr a stood) e ∙ sym (u .1))
+
+-- a check without an image
+pub check : (verdict : List ℕ) (stood r r' block block' : ℕ)
+    → Told (λ a. (said a ≡ verdict) × (block ≡ blockOr a stood)) r
+    → Told (λ a. (said a ≡ verdict) × (block' ≡ blockOr a stood)) r'
+    → (r ≡ r') × (block ≡ block')
+check verdict stood r r' block block' p q =
+    let e : said (p .answer) ≡ said (q .answer) = p .reads .0 ∙ sym (q .reads .0) in
+    (p .says ∙ ap (λ (l : List ℕ). getD l 0 0) e ∙ sym (q .says), p .reads .1 ∙ ap (λ (l : List ℕ). getD l 1 stood) e ∙ sym (q .reads .1))
 
 -- the head of a sheet, and the writer
 pub sheet-head : (d : List ℕ) (f w h n f₁ w₁ h₁ m f₂ w₂ h₂ : ℕ) → HeadTold d f w h n f₁ w₁ h₁ → HeadTold d f w h m f₂ w₂ h₂ → (n ≡ m) × (f₁ ≡ f₂) × (w₁ ≡ w₂) × (h₁ ≡ h₂)

@@ -1,4 +1,4 @@
--- What a caller from C is told of sheets, and of blocks that are checked or baked; of readers crates/told/specs says it.
+-- What a caller from C is told of sheets, and of blocks that are checked or baked; of readers crates/capi/specs says it.
 -- Assumes nothing.
 use mathlib.Core.Path.{_≡_}
 use mathlib.Core.Bool.{cond}
@@ -14,7 +14,7 @@ use Rattle.rules.specs.declared.Picture.{Picture}
 use Rattle.rules.specs.declared.Sheet.{Sheet}
 use Rattle.rules.specs.declared.Sheet.the-variants.{Holds, Refused}
 use Rattle.rules.specs.declared.Written.{Written}
-use Rattle.told.specs.Told.{answerNumber}
+use Rattle.capi.specs.pictures.Told.{answerNumber}
 
 -- a field of the head that a sheet holds, or what stood there where it is refused
 abbrev pub headOr : (Head → ℕ) → Sheet → ℕ → ℕ

@@ -1,4 +1,6 @@
 // How many blocks of a picture are of each kind. Nothing is painted.
+mod tally;
+
 use rules::KindCounts;
 use rules::Picture;
 use rules::RgbCensus;

@@ -28,6 +28,11 @@ pub fn size(f: Format) -> usize
         Format::Bc1Alpha => 8,
         Format::Bc3 => 16,
         Format::Bc7 => 16,
+        Format::Bc2 => 16,
+        Format::Bc4 => 8,
+        Format::Bc4Signed => 8,
+        Format::Bc5 => 16,
+        Format::Bc5Signed => 16,
     }
 }
 

@@ -16,8 +16,8 @@ use Rattle.rules.specs.Places.{bytesOf}
 use Rattle.laws.proofs.Filled.{getD-build, build-same}
 use Rattle.blocks.proofs.Blocks.{room}
 use Rattle.rules.specs.Pieces.{padded}
-use Rattle.kept.proofs.Joined.{low, high, same-bytes}
-use Rattle.kept.proofs.Numbers.{sub-times}
+use Rattle.pieces.proofs.kept.Joined.{low, high, same-bytes}
+use Rattle.pieces.proofs.kept.Numbers.{sub-times}
 
 -- kept bytes that are equal byte by byte
 pub padded-same : (l m : List ℕ) (a b n : ℕ) → ((i : ℕ) → i < n → byte l (a + i) ≡ byte m (b + i)) → padded l a n ≡ padded m b n

@@ -22,7 +22,7 @@ use Rattle.laws.proofs.Unique.{answer}
 use Rattle.numbers.specs.Numbers.{little, inBytes}
 use Rattle.rules.specs.Records.{Record, encoded, Records, more, ended, recordsOf, first, later, kept}
 use Rattle.numbers.proofs.Little.{past, back}
-use Rattle.records.proofs.Walk.{at-the-end}
+use Rattle.sheet.proofs.records.Walk.{at-the-end}
 use Rattle.rules.specs.Sheets.{sheetLimit, formatOf, blockBytes, formatIn, sizeIn, isHead, afterHead, fromHead, walkVerdict}
 use Rattle.rules.specs.Sheets.{headVerdict, headRecord, blockRecord, sheetOf, sheetOver, TellsHead, ReadsSheet, WritesSheet}
 use Rattle.sheet.specs.Shown.{Passes, walk, Shown}

@@ -15,9 +15,9 @@ use Rattle.rules.specs.Checking.{cost, largest, checkVerdict, bakingSaid, Check
 use Rattle.rules.specs.Baking.{seventeen, halfOf, blockWith, bakedBlock, above, noBase, eightOver, Bakes}
 use Rattle.rules.specs.declared.Baking.{Baking}
 use Rattle.rules.specs.declared.Baking.the-variants.{Done, ShortBlock, ShortTile, NoBase, NotAccepted}
-use Rattle.baking.specs.Four.{Four}
-use Rattle.baking.proofs.Bases.{none, four}
-use Rattle.baking.proofs.Block.{Legal, Reads, reads-back, small-half}
+use Rattle.bake.specs.baking.Four.{Four}
+use Rattle.bake.proofs.baking.Bases.{none, four}
+use Rattle.bake.proofs.baking.Block.{Legal, Reads, reads-back, small-half}
 use Rattle.claims.proofs.Least.{codesOf, indicesOf, baked-reads, baked-in-range, least-of-all, lower-code, lower-index}
 use Rattle.claims.proofs.Checker.{nonzero, from-the-largest-on}
 

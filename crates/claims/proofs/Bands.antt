@@ -25,12 +25,12 @@ use Rattle.rules.specs.declared.Picture.{Picture}
 use Rattle.laws.proofs.Guards.{Sound, finds-none, strict-sound, opaque-sound}
 use Rattle.laws.proofs.Judged.{numbered, all-pass, goes-on}
 use Rattle.laws.proofs.Unique.{answer}
-use Rattle.place.proofs.Grid.{some-needed, none-needed}
+use Rattle.pixel.proofs.place.Grid.{some-needed, none-needed}
 use Rattle.checks.specs.Passed.{Passed}
 use Rattle.checks.proofs.Checks.{passed, passed-by, passed-exactly}
 use Rattle.picture.proofs.Guard.{agree}
-use Rattle.strips.specs.Bands.{bytesIn, elementsIn, top, below, InBands, uncut, cut, firstInBands}
-use Rattle.strips.proofs.Bands.{cut-is-whole, blocks-cut, few, all-before, first-in-bands}
+use Rattle.bands.specs.Bands.{bytesIn, elementsIn, top, below, InBands, uncut, cut, firstInBands}
+use Rattle.bands.proofs.Bands.{cut-is-whole, blocks-cut, few, all-before, first-in-bands}
 use Rattle.claims.proofs.Outcomes.{an-acceptance-paints}
 
 -- ---- a band of a picture that passes the checks passes them

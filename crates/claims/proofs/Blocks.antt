@@ -21,7 +21,7 @@ use Rattle.rules.specs.declared.Answer.{Answer}
 use Rattle.rules.specs.declared.Format.{Format}
 use Rattle.blocks.proofs.Alone.{small}
 use Rattle.laws.proofs.Paint.{painted-same}
-use Rattle.place.proofs.Plain.{painted-plain}
+use Rattle.pixel.proofs.place.Plain.{painted-plain}
 use Rattle.laws.proofs.Reach.{reads-its-block, alpha-reads-eight, channel-reads-eight, bc3-alpha-reads-eight, some-bytes}
 use Rattle.claims.proofs.Outcomes.{Same, same-outcome, the-length-stays, the-rest-stays}
 use Rattle.claims.proofs.Alike.{ends-alike}

@@ -13,8 +13,8 @@ use Rattle.rules.specs.Colour.{outOfRange}
 use Rattle.rules.specs.Pixel.{redOf, greenOf, blueOf}
 use Rattle.rules.specs.Checking.{apart, near, farthest, pixel, like, largest, checkVerdict, Checks}
 use Rattle.rules.specs.declared.Baking.the-variants.{Done}
-use Rattle.baking.proofs.Each.{each-at, each-all}
-use Rattle.baking.proofs.Near.{near-farthest, like-largest}
+use Rattle.bake.proofs.baking.Each.{each-at, each-all}
+use Rattle.bake.proofs.baking.Near.{near-farthest, like-largest}
 
 pub nonzero : (n : ℕ) → 0 ∷ [] ≡ suc n ∷ [] → ⊥
 nonzero n p = omega (arith, ap (λ (l : List ℕ). getD l 0 0) p)

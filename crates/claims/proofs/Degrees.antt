@@ -9,20 +9,20 @@ use native.Mathlib.Omega.{arith}
 use borrow.Author.Tests.{not-true, le-leb, lt-leb, leb-true, eq-eqb, eqb-true}
 use lib.Dec.{T, leb, eqb, lit≤}
 use lib.ListN.{getD, drop}
-use lib.Ieee.{Float, binary32, ofBits}
-use lib.Ieee.Fits.{and-l}
+use lib.Ieee.{Float, binary32, ofBits, fits}
+use lib.Ieee.Fits.{and-l, and-r, cond-fits, add-fits, sub-fits}
 use Rattle.rules.specs.Pixel.{alphaOf, redOf}
 use Rattle.rules.specs.Answers.{refusal, judged}
-use Rattle.rules.specs.Floats.{less, floatBits, isNumber, within}
-use Rattle.rules.specs.Degrees.{predictedAt, inDegrees, sound, oneDigit, readingOf, degreesSaid, inNumbers, ReadsDegrees}
+use Rattle.rules.specs.Floats.{plus, less, times, whole, floatBits, isNumber, within}
+use Rattle.rules.specs.Degrees.{lineAt, predictedAt, inDegrees, sound, oneDigit, readingOf, degreesSaid, inNumbers, ReadsDegrees}
 use Rattle.rules.specs.declared.Legend.{Legend}
 use Rattle.rules.specs.declared.Legend.the-variants.{Level, Line, Bend}
 use Rattle.rules.specs.declared.Reading.{Reading}
 use Rattle.rules.specs.declared.Reply.{Reply}
 use Rattle.rules.specs.declared.Reply.the-variants.{Read, NotMeasured, BadLegend, BadDigit, BadMeasurement}
-use Rattle.floats.proofs.Predicted.{predicted-within}
-use Rattle.floats.proofs.Within.{less-within}
-use Rattle.floats.proofs.Unique.{same-float, one-reply}
+use Rattle.degrees.proofs.floats.Predicted.{predicted-within}
+use Rattle.degrees.proofs.floats.Within.{less-within, is-number}
+use Rattle.degrees.proofs.floats.Unique.{same-float, one-reply}
 
 -- no second answer satisfies the promise
 pub degrees-determined :
@@ -195,7 +195,9 @@ beyond-128-a-bend-goes-on-from-there low step second over h = rw (lt-leb (128 + 
     rest : 128 + over - 128 ≡ over
     rest = omega arith
 
--- no reading is infinite or no number: what is predicted lies in -2760 to 2760, the difference in -3480 to 3480
+-- ---- no value of a reading is infinite or a NaN
+
+-- by the rule: what is predicted lies in -2760 to 2760, the difference in -3480 to 3480
 pub what-is-predicted-has-a-range : (legend : Legend) (red : ℕ) → red ≤ 255 → sound legend ≡ true → T (within 2760 (predictedAt legend red))
 what-is-predicted-has-a-range legend red h l = predicted-within legend red h (subst T (sym l) tt)
 
@@ -207,3 +209,73 @@ pub the-difference-has-a-range :
     → T (within 3480 (readingOf (predictedAt legend red) measured .difference))
 the-difference-has-a-range legend red measured h l m =
     less-within 2760 720 (predictedAt legend red) measured (lit≤ tt) (what-is-predicted-has-a-range legend red h l) (subst T (sym m) tt)
+
+-- every value of a legend is a 32-bit float, as every value of the type f32 is (`Float` serves 64 bits too)
+abbrev pub areSingle : Legend → Bool
+areSingle (Level v) = fits binary32 v
+areSingle (Line low step) = fits binary32 low && fits binary32 step
+areSingle (Bend low step second) = fits binary32 low && (fits binary32 step && fits binary32 second)
+
+-- then so is what it predicts: a level is one of them, and every sum is rounded to one
+predicted-fits : (legend : Legend) (red : ℕ) → T (areSingle legend) → T (fits binary32 (predictedAt legend red))
+predicted-fits (Level v) red h = h
+predicted-fits (Line low step) red h = add-fits binary32 low (times step (whole red))
+predicted-fits (Bend low step second) red h =
+    cond-fits binary32 (leb red 128) (lineAt low step red) (plus (lineAt low step 128) (times second (whole (red - 128))))
+    (add-fits binary32 low (times step (whole red)))
+    (add-fits binary32 (lineAt low step 128) (times second (whole (red - 128))))
+
+-- two numbers of 32 bits with the same bits are one
+same-bits : (n : ℕ) (x y : Float) → T (isNumber x) → floatBits x ≡ floatBits y → T (fits binary32 y) → T (within n y) → x ≡ y
+same-bits n x y h e f w = sym (same-float x h) ∙ ap (ofBits binary32) e ∙ same-float y (is-number n y f w)
+
+below-256 : (p : ℕ) → redOf p ≤ 255
+below-256 p = omega arith
+
+-- and so in the promise: any reading that it allows holds these values, and none of them is infinite or a NaN
+module _ (legend : Legend) (named shown pixel : ℕ) (measured : Float) (r : Reading)
+    (p : ReadsDegrees legend named shown pixel measured (Read r)) (f : T (areSingle legend)) (g : T (fits binary32 measured)) where
+  abbrev predicted : Float
+  predicted = predictedAt legend (redOf pixel)
+
+  numbers : T (isNumber (r .measured) && isNumber (r .difference))
+  numbers = and-r (isNumber (r .predicted)) (isNumber (r .measured) && isNumber (r .difference)) (p .holds)
+
+  predicted-range : T (within 2760 predicted)
+  predicted-range = what-is-predicted-has-a-range legend (redOf pixel) (below-256 pixel) (passes legend named shown pixel measured r p .0)
+
+  measured-range : T (within 720 measured)
+  measured-range = subst T (sym (passes legend named shown pixel measured r p .2)) tt
+
+  difference-range : T (within 3480 (less predicted measured))
+  difference-range = less-within 2760 720 predicted measured (lit≤ tt) predicted-range measured-range
+
+  pub a-reading-predicts-what-is-due : r .predicted ≡ predictedAt legend (redOf pixel)
+  a-reading-predicts-what-is-due =
+      same-bits 2760 (r .predicted) predicted (and-l (isNumber (r .predicted)) (isNumber (r .measured) && isNumber (r .difference)) (p .holds))
+      (predicted-by-bits legend named shown pixel measured r p)
+      (predicted-fits legend (redOf pixel) f)
+      predicted-range
+
+  pub a-reading-holds-the-measurement : r .measured ≡ measured
+  a-reading-holds-the-measurement =
+      same-bits 720 (r .measured) measured (and-l (isNumber (r .measured)) (isNumber (r .difference)) numbers)
+      (measured-by-bits legend named shown pixel measured r p)
+      g
+      measured-range
+
+  pub a-reading-holds-the-difference : r .difference ≡ less (predictedAt legend (redOf pixel)) measured
+  a-reading-holds-the-difference =
+      same-bits 3480 (r .difference) (less predicted measured) (and-r (isNumber (r .measured)) (isNumber (r .difference)) numbers)
+      (difference-by-bits legend named shown pixel measured r p)
+      (sub-fits binary32 predicted measured)
+      difference-range
+
+  pub the-predicted-value-is-finite : T (within 2760 (r .predicted))
+  the-predicted-value-is-finite = subst (λ (x : Float). T (within 2760 x)) (sym a-reading-predicts-what-is-due) predicted-range
+
+  pub the-measured-value-is-finite : T (within 720 (r .measured))
+  the-measured-value-is-finite = subst (λ (x : Float). T (within 720 x)) (sym a-reading-holds-the-measurement) measured-range
+
+  pub the-difference-is-finite : T (within 3480 (r .difference))
+  the-difference-is-finite = subst (λ (x : Float). T (within 3480 x)) (sym a-reading-holds-the-difference) difference-range

@@ -97,10 +97,25 @@ a-channel-above-3-is-refused-with-5 d image channel a new h p =
     let e : channelVerdict channel d image ≡ 5 ∷ [] = rw (lt-ltb 3 channel h) in
     (p .says ∙ e, p .leaves ∙ ap (λ (v : List ℕ). left v (replacedPainted d channel image) image) e)
 
--- and in place of a channel's byte it puts its own, and keeps the others
+-- and in place of a channel's byte it puts its own
 pub the-byte-is-replaced : (channel p b : ℕ) → channel < 4 → b < 256 → replaced channel p b / 256 ^ channel % 256 ≡ b
 the-byte-is-replaced zero p b h k = omega arith
 the-byte-is-replaced (suc zero) p b h k = omega arith
 the-byte-is-replaced (suc (suc zero)) p b h k = omega arith
 the-byte-is-replaced (suc (suc (suc zero))) p b h k = omega arith
 the-byte-is-replaced (suc (suc (suc (suc n)))) p b h k = absurd (omega arith)
+
+-- and keeps the others: those below the channel, and those above it
+pub the-bytes-below-are-kept : (channel p b : ℕ) → channel < 4 → b < 256 → replaced channel p b % 256 ^ channel ≡ p % 256 ^ channel
+the-bytes-below-are-kept zero p b h k = omega arith
+the-bytes-below-are-kept (suc zero) p b h k = omega arith
+the-bytes-below-are-kept (suc (suc zero)) p b h k = omega arith
+the-bytes-below-are-kept (suc (suc (suc zero))) p b h k = omega arith
+the-bytes-below-are-kept (suc (suc (suc (suc n)))) p b h k = absurd (omega arith)
+
+pub the-bytes-above-are-kept : (channel p b : ℕ) → channel < 4 → b < 256 → replaced channel p b / 256 ^ suc channel ≡ p / 256 ^ suc channel
+the-bytes-above-are-kept zero p b h k = omega arith
+the-bytes-above-are-kept (suc zero) p b h k = omega arith
+the-bytes-above-are-kept (suc (suc zero)) p b h k = omega arith
+the-bytes-above-are-kept (suc (suc (suc zero))) p b h k = omega arith
+the-bytes-above-are-kept (suc (suc (suc (suc n)))) p b h k = absurd (omega arith)

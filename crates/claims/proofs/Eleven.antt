@@ -24,11 +24,11 @@ use Rattle.rules.specs.declared.Picture.{Picture}
 use Rattle.laws.proofs.Paint.{getD-painted}
 use Rattle.laws.proofs.Signed.{neg}
 use Rattle.laws.proofs.Unique.{no-second-outcome}
-use Rattle.place.proofs.Grid.{rem-at, div-at, inside-at, within, beyond, in-gap}
+use Rattle.pixel.proofs.place.Grid.{rem-at, div-at, inside-at, within, beyond, in-gap}
 use Rattle.checks.proofs.Checks.{passed-by}
-use Rattle.values.proofs.Whole.{bytes-stay}
-use Rattle.eleven.specs.Lanes.{lanes}
-use Rattle.eleven.proofs.Checked.{same-verdict, ready}
+use Rattle.eac.proofs.values.Whole.{bytes-stay}
+use Rattle.whole.specs.Lanes.{lanes}
+use Rattle.whole.proofs.Checked.{same-verdict, ready}
 use Rattle.claims.proofs.Outcomes.{Same, an-acceptance-paints, the-rest-stays}
 use Rattle.claims.proofs.Alike.{OnlyInTileBy, beside-by}
 use Rattle.claims.proofs.Pictures.{holds, pixel-of}

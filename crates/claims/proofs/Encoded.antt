@@ -9,7 +9,7 @@ use lib.Seq.{take-at, drop-at, drop-drop}
 use Rattle.numbers.specs.Numbers.{little, inBytes}
 use Rattle.rules.specs.Records.{Record, encoded, Records, more, lengthIn, behind, recordsOf}
 use Rattle.numbers.proofs.Little.{past, back}
-use Rattle.records.proofs.Walk.{whole}
+use Rattle.sheet.proofs.records.Walk.{whole}
 
 -- a record that its fields can say
 pub record Fits (r : Record) : Type 0 where

@@ -10,8 +10,8 @@ use lib.ListN.{getD}
 use Rattle.rules.specs.Counting.{sumOf}
 use Rattle.rules.specs.Checking.{differ, pixel, cost}
 use Rattle.rules.specs.Baking.{basesOf, halfOf, own, shown}
-use Rattle.baking.proofs.Sums.{sum-same}
-use Rattle.baking.proofs.Block.{Reads, shows}
+use Rattle.bake.proofs.baking.Sums.{sum-same}
+use Rattle.bake.proofs.baking.Block.{Reads, shows}
 
 -- the places of the two halves, one after the other, are the sixteen
 split : (flip : Bool) (f : ℕ → ℕ) → sumOf f 16 ≡ sumOf (λ h. sumOf (λ j. f (cond flip (8 * h + j) (4 * (j / 2) + 2 * h + j % 2))) 8) 2

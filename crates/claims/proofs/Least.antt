@@ -11,10 +11,10 @@ use Rattle.rules.specs.Colour.{outOfRange}
 use Rattle.rules.specs.Counting.{leastOf, sumOf}
 use Rattle.rules.specs.Checking.{cost}
 use Rattle.rules.specs.Baking.{ofHalf, seventeen, basesOf, halfOf, own, indexFor, costFor, codeFor, indexWith, bakedBlock}
-use Rattle.baking.specs.Four.{Four}
-use Rattle.baking.proofs.Least.{least}
-use Rattle.baking.proofs.Sums.{sum-same, sum-le, sum-tie, least-sum, least-first}
-use Rattle.baking.proofs.Block.{Legal, Reads, reads-back, in-range, small-half}
+use Rattle.bake.specs.baking.Four.{Four}
+use Rattle.bake.proofs.baking.Least.{least}
+use Rattle.bake.proofs.baking.Sums.{sum-same, sum-le, sum-tie, least-sum, least-first}
+use Rattle.bake.proofs.baking.Block.{Legal, Reads, reads-back, in-range, small-half}
 use Rattle.claims.proofs.Halves.{turn, own-below, own-half, own-turn, adds, halfSum, by-halves}
 
 -- the chosen code of each half, and the chosen index of each pixel

@@ -7,7 +7,10 @@ pub mod Guarded
 pub mod Strict
 pub mod Leftovers
 pub mod Opaque
+pub mod Unpainted
 pub mod Older
+pub mod Shown
+pub mod ShownRows
 pub mod Blocks
 pub mod Census
 pub mod Sheets
@@ -17,6 +20,7 @@ pub mod Skipped
 pub mod Lowest
 pub mod Eleven
 pub mod Desktop
+pub mod Rgtc
 pub mod Bptc
 pub mod Arrived
 pub mod Step

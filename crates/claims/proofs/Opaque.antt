@@ -19,7 +19,7 @@ use Rattle.rules.specs.declared.Format.the-variants.{Etc2Rgb, Etc2Rgba1}
 use Rattle.rules.specs.declared.Picture.{Picture}
 use Rattle.laws.proofs.Guards.{opaque-sound, finds-none, none-bad}
 use Rattle.laws.proofs.Judged.{Clear, all-pass, passed as all-passed}
-use Rattle.place.proofs.Grid.{beyond, in-gap, roomy}
+use Rattle.pixel.proofs.place.Grid.{beyond, in-gap, roomy}
 use Rattle.checks.proofs.Checks.{passed-by}
 use Rattle.claims.proofs.Outcomes.{Same}
 use Rattle.claims.proofs.Alike.{OnlyInTile, verdict-alike, behind}

@@ -1,5 +1,5 @@
 -- What demands 1 and 2 and document 01 claim of a picture, over the promise that all picture readers share: `Outcome`, whatever is
--- checked, and a picture painted by any rule for pixels and any size of block. For a user, each is then said of the eight formats at
+-- checked, and a picture painted by any rule for pixels and any size of block. For a user, each is then said of every format at
 -- once; of strict ETC1 it is said in Strict.antt.
 -- Assumes nothing.
 use mathlib.Core.Path.{_≡_, _∙_, refl, sym, ap, subst}
@@ -25,8 +25,8 @@ use Rattle.rules.specs.declared.Picture.{Picture}
 use Rattle.laws.proofs.Paint.{getD-painted}
 use Rattle.laws.proofs.Judged.{all-pass}
 use Rattle.laws.proofs.Unique.{answer}
-use Rattle.place.specs.Tile.{Room}
-use Rattle.place.proofs.Grid.{column-at, row-at, inside-at, none-needed, beyond, in-gap, roomy}
+use Rattle.pixel.specs.place.Tile.{Room}
+use Rattle.pixel.proofs.place.Grid.{column-at, row-at, inside-at, none-needed, beyond, in-gap, roomy}
 use Rattle.checks.proofs.Checks.{passed-by}
 use Rattle.laws.proofs.Reach.{some-bytes}
 use Rattle.claims.proofs.Outcomes.{Same, same-outcome, an-acceptance-paints, the-length-stays, the-rest-stays}

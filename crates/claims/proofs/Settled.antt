@@ -19,7 +19,7 @@ use Rattle.rules.specs.Readers.{pictureOf, ReadsPicture, ReadsStrict}
 use Rattle.rules.specs.declared.Answer.{Answer}
 use Rattle.rules.specs.declared.Format.{Format}
 use Rattle.rules.specs.declared.Format.the-variants.{Etc2Rgb}
-use Rattle.place.proofs.Plain.{needed-plain, painted-plain}
+use Rattle.pixel.proofs.place.Plain.{needed-plain, painted-plain}
 use Rattle.claims.proofs.Alike.{none-left}
 
 -- ---- document 01, by width and height

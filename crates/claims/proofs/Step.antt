@@ -16,15 +16,15 @@ use Rattle.laws.specs.Painted.{Painted}
 use Rattle.laws.proofs.Paint.{length-painted}
 use Rattle.laws.proofs.Judged.{passed}
 use Rattle.laws.proofs.Reach.{some-bytes, few-bytes}
-use Rattle.place.specs.Tile.{Room}
-use Rattle.place.proofs.Grid.{roomy, kept}
+use Rattle.pixel.specs.place.Tile.{Room}
+use Rattle.pixel.proofs.place.Grid.{roomy, kept}
 use Rattle.blocks.specs.Run.{InRun}
 use Rattle.rules.specs.declared.Progress.{Progress}
 use Rattle.rules.specs.declared.Taken.{Taken}
 use Rattle.rules.specs.Pieces.{got, held, later, completed, behindLast, after, padded, inRun, imageAfter, startChecks, pieceVerdict, Takes}
 use Rattle.rules.specs.Pieces.{used, wholes, stateOf, soFar}
 use Rattle.claims.proofs.Arrived.{old-block, new-block, new-kept}
-use Rattle.kept.proofs.Numbers.{blocks-up}
+use Rattle.pieces.proofs.kept.Numbers.{blocks-up}
 use Rattle.blocks.proofs.Runs.{run-painted, two-runs, other-bytes, was-painted}
 
 -- What a piece e that is taken makes of what was read.

@@ -18,7 +18,7 @@ use Rattle.rules.specs.declared.Answer.the-variants.{Done, OutOfRange}
 use Rattle.rules.specs.declared.Format.the-variants.{Etc1, Etc2Rgb}
 use Rattle.rules.specs.declared.Picture.{Picture}
 use Rattle.laws.proofs.Guards.{strict-sound, finds-none}
-use Rattle.place.proofs.Grid.{beyond, in-gap, roomy}
+use Rattle.pixel.proofs.place.Grid.{beyond, in-gap, roomy}
 use Rattle.checks.proofs.Checks.{passed-exactly-by}
 use Rattle.claims.proofs.Outcomes.{Same}
 use Rattle.claims.proofs.Alike.{OnlyInTile, none-left}

@@ -12,8 +12,8 @@ use Rattle.rules.specs.Floats.{isNumber, within}
 use Rattle.rules.specs.Degrees.{predictedAt, inDegrees, sound, oneDigit, readingOf, ReadsDegrees}
 use Rattle.rules.specs.declared.Legend.{Legend}
 use Rattle.rules.specs.declared.Reply.the-variants.{Read, NotMeasured, BadLegend, BadDigit, BadMeasurement}
-use Rattle.floats.proofs.Within.{less-within, is-number}
-use Rattle.floats.proofs.Predicted.{predicted-within}
+use Rattle.degrees.proofs.floats.Within.{less-within, is-number}
+use Rattle.degrees.proofs.floats.Predicted.{predicted-within}
 
 module _ (legend : Legend) (named shown pixel : ℕ) (measured : Float) where
   pub bad-legend : sound legend ≡ false → ReadsDegrees legend named shown pixel measured BadLegend

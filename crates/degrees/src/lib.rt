@@ -1,4 +1,8 @@
 // From colour to degrees: what a legend predicts at a pixel, beside what was measured.
+pub mod floats;
+mod legend;
+mod ranges;
+
 use rules::Legend;
 use rules::Reading;
 use rules::Reply;
@@ -22,7 +26,7 @@ fn unseen(pixel: u32) -> bool
 }
 
 // The reading at a pixel by a legend that names a digit, of a picture that shows one, beside a measurement.
-pub fn read(legend: Legend, named: usize, shown: usize, pixel: u32, measured: f32) -> Reply
+pub fn read_degrees(legend: Legend, named: usize, shown: usize, pixel: u32, measured: f32) -> Reply
     ensures { λ r. ⌜ ReadsDegrees legend named shown pixel measured r ⌝ }
 {
     let good_legend = legend::sound(legend);

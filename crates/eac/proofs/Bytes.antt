@@ -16,10 +16,10 @@ use Rattle.rules.specs.Channels.{alphaSteps, alphaStep, centre, multiplier, eac
 use Rattle.rules.specs.Whole.{least, most, between, middle, added, eacWhole}
 use Rattle.laws.proofs.Filled.{getD-build, build-same}
 use Rattle.laws.proofs.Signed.{held, held-is, held-small, clamp-le}
-use Rattle.picks.specs.Picks.{pickAt}
+use Rattle.etc_alpha.specs.picks.Picks.{pickAt}
 use Rattle.eac.specs.Eights.{stepsIn, wholeOf, eighthOf, numberAt}
-use Rattle.channel.proofs.Steps.{small-row}
-use Rattle.values.proofs.Whole.{Raised, raised, not-negative, bytes-stay}
+use Rattle.etc_alpha.proofs.channel.Steps.{small-row}
+use Rattle.eac.proofs.values.Whole.{Raised, raised, not-negative, bytes-stay}
 
 -- a base moved by a multiple of a step, and clamped, is the same where its parts are
 moved-same : {a b s t l k h g : ℤ} {m n : ℕ} → l ≡ k → h ≡ g → a ≡ b → m ≡ n → s ≡ t → between l h (a +ℤ pos m *ℤ s) ≡ between k g (b +ℤ pos n *ℤ t)

@@ -1,6 +1,12 @@
-// The EAC channels of src/etc/eac.rs. The unsigned and the signed reader differ only in the numbers that crates/values gives, so one
+// The EAC channels of src/etc/eac.rs. The unsigned and the signed reader differ only in the numbers that crates/eac gives, so one
 // function serves both. A block has eight whole values of eleven bits, of which each pixel picks one. The byte is a last step of its
 // own, taken of the eight, and so are the sixteen bits, taken of the picked (docs/DECISIONS.md).
+pub mod values;
+
+use etc_alpha::channel;
+use etc_alpha::picks;
+use pixel::color;
+use tables::consts;
 use values::Span;
 ghost use mathlib.Core.Path.{_≡_};
 ghost use Prim.Native.Nat.{ℕ, _+_, _*_, _/_, _%_, _^_, _≤_, _<_};
@@ -13,7 +19,7 @@ ghost use Rattle.rules.specs.Pixel.{word};
 ghost use Rattle.rules.specs.Places.{tile};
 ghost use Rattle.rules.specs.Channels.{alphaSteps, eacByte, redPixel, redGreenPixel, orChannel};
 ghost use Rattle.rules.specs.Whole.{middle, eacWhole, sixteen};
-ghost use Rattle.values.specs.Spans.{Spans};
+ghost use Rattle.eac.specs.values.Spans.{Spans};
 ghost use Rattle.eac.specs.Eights.{wholeOf, eighthOf, numberAt};
 
 // Sixteen bytes in the type that pixels are made in.

@@ -28,6 +28,16 @@ pub fn own(viewer: Viewer) -> Format
     }
 }
 
+// The newer rule, by which the block is shown right.
+pub fn shown(viewer: Viewer) -> Format
+    ensures { λ r. ⌜ r ≡ guardOf viewer .shown ⌝ }
+{
+    match viewer {
+        Viewer::Etc1 => Format::Etc2Rgb,
+        Viewer::Opaque => Format::Etc2Rgba1,
+    }
+}
+
 // In range goes on; otherwise the refusal of ETC1 with the block's number.
 fn in_range(kind: Kind, block: usize) -> Answer
     ensures { λ r. ⌜ said r ≡ cond (strange kind) (4 ∷ block ∷ []) (0 ∷ []) ⌝ }
@@ -50,7 +60,7 @@ fn opaque(d: &[u8], block: usize) -> Answer
 }
 
 // What a viewer says of a block that has these bytes and this number.
-fn judged(viewer: Viewer, d: &[u8], block: usize) -> Answer
+pub fn judged(viewer: Viewer, d: &[u8], block: usize) -> Answer
     requires { ⌜ 8 ≤ length (now d) ⌝ }
     ensures { λ r. ⌜ said r ≡ cond (guardOf viewer .bad (now (d .entry))) (guardOf viewer .number ∷ block ∷ []) (0 ∷ []) ⌝ }
 {

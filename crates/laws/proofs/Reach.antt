@@ -3,7 +3,7 @@
 use mathlib.Core.Path.{_≡_, _∙_, refl, sym, ap}
 use mathlib.Core.Bool.{Bool, true, false, cond}
 use mathlib.Core.List.{List, []}
-use Prim.Native.Nat.{ℕ, zero, suc, _+_, _*_, _<_, _≤_}
+use Prim.Native.Nat.{ℕ, zero, suc, _+_, _*_, _/_, _%_, _^_, _<_, _≤_}
 use native.Mathlib.Omega.{arith}
 use lib.Dec.{eqb}
 use lib.ListN.{getD, take, drop}
@@ -15,13 +15,14 @@ use Rattle.rules.specs.Modes.{tBases, tDistance, tColours, hBases, hDistance, h
 use Rattle.rules.specs.Channels.{withAlpha, alphaStep, alphaByte, rgba8Pixel, eacValue, eacByte, redPixel, redGreenPixel}
 use Rattle.numbers.specs.Numbers.{little}
 use Rattle.numbers.proofs.Little.{inside}
-use Rattle.rules.specs.Desktop.{halfWord, paletteIn, colourIndex, alphasIn, alphaIndexIn, bc1Pixel, bc3Alpha, bc3Pixel, replaced}
+use Rattle.rules.specs.Desktop.{halfWord, paletteIn, colourIndex, alphasIn, alphaIndexIn, bc1Pixel, bc3Alpha, bc3Pixel, bc2Alpha, bc2Pixel, replaced}
+use Rattle.rules.specs.Rgtc.{valuesIn, halfByte, bc4Pixel, bc5Pixel}
 use Rattle.rules.specs.Bc7.{pixelOf, bc7Pixel}
 use Rattle.rules.specs.Formats.{sizeOf, showsOf}
 use Rattle.rules.specs.declared.Kind.{Kind}
 use Rattle.rules.specs.declared.Kind.the-variants.{Individual, Differential, T, H, Planar}
 use Rattle.rules.specs.declared.Format.{Format}
-use Rattle.rules.specs.declared.Format.the-variants.{Etc1, Etc2Rgb, Etc2Rgba1, Etc2Rgba8, EacR, EacRSigned, EacRg, EacRgSigned, Bc1, Bc1Alpha, Bc3, Bc7}
+use Rattle.rules.specs.declared.Format.the-variants.{Etc1, Etc2Rgb, Etc2Rgba1, Etc2Rgba8, EacR, EacRSigned, EacRg, EacRgSigned, Bc1, Bc1Alpha, Bc3, Bc7, Bc2, Bc4, Bc4Signed, Bc5, Bc5Signed}
 use Rattle.laws.proofs.Filled.{build-same}
 
 -- the first eight bytes of a list
@@ -160,7 +161,7 @@ rgba8 d x y =
     ap (λ (p : ℕ). withAlpha p (alphaByte d x y)) (second rgbPixel rgb d x y)
     ∙ ap (λ (a : ℕ). withAlpha (rgbPixel (drop 8 (take 16 d)) x y) a) (first alphaByte alpha 16 (omega arith) d x y)
 
--- the halves of BC1 and BC3, by the number that their eight bytes make
+-- the halves of BC1 to BC5, by the number that their eight bytes make
 half-word : (d : List ℕ) → halfWord d ≡ halfWord (eight d)
 unfolding little
 half-word d = refl
@@ -183,6 +184,30 @@ bc3 d x y =
     ap (λ (p : ℕ). replaced 3 p (bc3Alpha d x y)) (second (bc1Pixel true false) (bc1 true false) d x y)
     ∙ ap (λ (a : ℕ). replaced 3 (bc1Pixel true false (drop 8 (take 16 d)) x y) a) (first bc3Alpha bc3-alpha 16 (omega arith) d x y)
 
+bc2-alpha : Narrow bc2Alpha
+unfolding Narrow bc2Alpha
+bc2-alpha d x y = ap (λ (w : ℕ). w / 2 ^ (4 * (4 * y + x)) % 16 * 17) (half-word d)
+
+bc2 : (d : List ℕ) (x y : ℕ) → bc2Pixel d x y ≡ bc2Pixel (take 16 d) x y
+unfolding bc2Pixel
+bc2 d x y =
+    ap (λ (p : ℕ). replaced 3 p (bc2Alpha d x y)) (second (bc1Pixel true false) (bc1 true false) d x y)
+    ∙ ap (λ (a : ℕ). replaced 3 (bc1Pixel true false (drop 8 (take 16 d)) x y) a) (first bc2Alpha bc2-alpha 16 (omega arith) d x y)
+
+half-byte : (signed : Bool) → Narrow (halfByte signed)
+unfolding Narrow halfByte
+half-byte signed d x y = ap (λ (w : ℕ). getD (valuesIn signed w) (alphaIndexIn w (4 * y + x)) 0) (half-word d)
+
+bc4 : (signed : Bool) (d : List ℕ) (x y : ℕ) → bc4Pixel signed d x y ≡ bc4Pixel signed (take 8 d) x y
+unfolding bc4Pixel
+bc4 signed d x y = ap (λ (r : ℕ). word 255 r 0 0) (first (halfByte signed) (half-byte signed) 8 (omega arith) d x y)
+
+bc5 : (signed : Bool) (d : List ℕ) (x y : ℕ) → bc5Pixel signed d x y ≡ bc5Pixel signed (take 16 d) x y
+unfolding bc5Pixel
+bc5 signed d x y =
+    ap (λ (r : ℕ). word 255 r (halfByte signed (drop 8 d) x y) 0) (first (halfByte signed) (half-byte signed) 16 (omega arith) d x y)
+    ∙ ap (λ (g : ℕ). word 255 (halfByte signed (take 16 d) x y) g 0) (second (halfByte signed) (half-byte signed) d x y)
+
 -- BC7 goes by the number that its sixteen bytes make
 bc7 : (d : List ℕ) (x y : ℕ) → bc7Pixel d x y ≡ bc7Pixel (take 16 d) x y
 unfolding bc7Pixel
@@ -203,6 +228,11 @@ reads-its-block Bc1 d x y = first (bc1Pixel false false) (bc1 false false) 8 (om
 reads-its-block Bc1Alpha d x y = first (bc1Pixel false true) (bc1 false true) 8 (omega arith) d x y
 reads-its-block Bc3 d x y = bc3 d x y
 reads-its-block Bc7 d x y = bc7 d x y
+reads-its-block Bc2 d x y = bc2 d x y
+reads-its-block Bc4 d x y = bc4 false d x y
+reads-its-block Bc4Signed d x y = bc4 true d x y
+reads-its-block Bc5 d x y = bc5 false d x y
+reads-its-block Bc5Signed d x y = bc5 true d x y
 
 -- and has at least one
 pub some-bytes : (f : Format) → 0 < sizeOf f
@@ -219,6 +249,11 @@ some-bytes Bc1 = omega arith
 some-bytes Bc1Alpha = omega arith
 some-bytes Bc3 = omega arith
 some-bytes Bc7 = omega arith
+some-bytes Bc2 = omega arith
+some-bytes Bc4 = omega arith
+some-bytes Bc4Signed = omega arith
+some-bytes Bc5 = omega arith
+some-bytes Bc5Signed = omega arith
 
 -- and at most 16
 pub few-bytes : (f : Format) → sizeOf f ≤ 16
@@ -235,3 +270,8 @@ few-bytes Bc1 = omega arith
 few-bytes Bc1Alpha = omega arith
 few-bytes Bc3 = omega arith
 few-bytes Bc7 = omega arith
+few-bytes Bc2 = omega arith
+few-bytes Bc4 = omega arith
+few-bytes Bc4Signed = omega arith
+few-bytes Bc5 = omega arith
+few-bytes Bc5Signed = omega arith

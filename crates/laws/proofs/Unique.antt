@@ -11,38 +11,14 @@ use borrow.Author.Tests.{eqb-true}
 use types.Run.{OneOf, miss}
 use denote.Enum.Declared
 use Rattle.rules.specs.Notation.{build}
-use Rattle.rules.specs.Answers.{said, accepts, Outcome}
+use Rattle.rules.specs.Answers.{said, answers, findAnswer, answerOf, accepts, Outcome}
 use Rattle.rules.specs.declared.Answer.{Answer}
 use Rattle.rules.specs.declared.Answer.the-variants.{Done, TooLarge, ShortData, ShortImage, OutOfRange, NoChannel, LongData, CutShort, NoHead, OtherKind, WrongBlocks, NotOpaque, ShortPitch}
+use Rattle.rules.specs.declared.Answer.the-variants.{HeaderCut, UnknownContainer, UnknownVersion, UnknownFormat, SizesDisagree, NotFlat, NoPixel, LevelsMissing, NoLevel, Supercompressed}
 use Rattle.rules.proofs.Answer.{the-type}
 
--- every answer, with the value that some of them return
-abbrev answers : List (ℕ → Answer)
-answers =
-    (λ n. Done)
-    ∷ (λ n. TooLarge)
-    ∷ (λ n. ShortData)
-    ∷ (λ n. ShortImage)
-    ∷ (λ n. OutOfRange n)
-    ∷ (λ n. NoChannel)
-    ∷ (λ n. LongData)
-    ∷ (λ n. CutShort)
-    ∷ (λ n. NoHead)
-    ∷ (λ n. OtherKind)
-    ∷ (λ n. WrongBlocks)
-    ∷ (λ n. NotOpaque n)
-    ∷ (λ n. ShortPitch)
-    ∷ []
-
--- the answer that says a number and a value: the first of them with that number
-abbrev find : List (ℕ → Answer) → ℕ → ℕ → Answer
-find [] n v = Done
-find (a ∷ rest) n v = cond (eqb (getD (said (a 0)) 0 0) n) (a v) (find rest n v)
-
-abbrev answerOf : List ℕ → Answer
-answerOf l = find answers (getD l 0 0) (getD l 1 0)
-
-answered : (a : Answer) → answerOf (said a) ≡ a
+-- every answer is the one that says what it says
+pub answered : (a : Answer) → answerOf (said a) ≡ a
 answered Done = refl
 answered TooLarge = refl
 answered ShortData = refl
@@ -56,6 +32,16 @@ answered OtherKind = refl
 answered WrongBlocks = refl
 answered (NotOpaque n) = refl
 answered ShortPitch = refl
+answered HeaderCut = refl
+answered UnknownContainer = refl
+answered UnknownVersion = refl
+answered UnknownFormat = refl
+answered SizesDisagree = refl
+answered NotFlat = refl
+answered NoPixel = refl
+answered LevelsMissing = refl
+answered NoLevel = refl
+answered Supercompressed = refl
 
 -- the answer is fixed by what it says on paper
 pub answer : (a b : Answer) → said a ≡ said b → a ≡ b
@@ -63,7 +49,7 @@ answer a b e = sym (answered a) ∙ ap answerOf e ∙ answered b
 
 -- the only answer with number 0 is Done
 pub only-done : (a : Answer) → accepts (said a) ≡ true → a ≡ Done
-only-done a e = sym (answered a) ∙ ap (λ (n : ℕ). find answers n (getD (said a) 1 0)) (eqb-true (getD (said a) 0 0) 0 e)
+only-done a e = sym (answered a) ∙ ap (λ (n : ℕ). findAnswer answers n (getD (said a) 1 0)) (eqb-true (getD (said a) 0 0) 0 e)
 
 -- the tags of all answers but one
 abbrev without : ℕ → List ℕ → List ℕ

@@ -3,7 +3,7 @@
 use mathlib.Core.Path.{_≡_, refl}
 use mathlib.Core.Bool.{Bool, true, false, cond}
 use mathlib.Core.List.{List, [], _∷_}
-use Prim.Native.Nat.{ℕ, zero, suc, _+_, _*_, _^_, _≤_, _<_}
+use Prim.Native.Nat.{ℕ, zero, suc, _+_, _*_, _/_, _%_, _^_, _≤_, _<_}
 use native.Mathlib.Omega.{arith}
 use lib.Dec.{lit<, eqb, ltb}
 use borrow.Author.Tests.{ltb-false}
@@ -15,15 +15,16 @@ use Rattle.rules.specs.Colour.{individual, differential, shaded, halfColours, d
 use Rattle.rules.specs.Modes.{tBases, tDistance, tColours, hBases, hDistance, hColours, planarChannel, planarPixel, planarBases, planarOf}
 use Rattle.rules.specs.Modes.{isPlanar, indexed, clearSteps, etc1Bases, etc1Pixel, rgbPixel, rgba1Pixel}
 use Rattle.rules.specs.Channels.{alphaByte, alphaStep, rgba8Pixel, centre, multiplier, eacValue, eacByte, redPixel, redGreenPixel}
-use Rattle.rules.specs.Desktop.{halfWord, rgb565, mix, mixture, palette, paletteIn, hasFour, colourIndex, alphaIndexIn, bc1Pixel, bc3Alpha, bc3Pixel, replaced}
+use Rattle.rules.specs.Desktop.{halfWord, rgb565, mix, mixture, palette, paletteIn, hasFour, colourIndex, alphaIndexIn, bc1Pixel, bc3Alpha, bc3Pixel, bc2Alpha, bc2Pixel, replaced}
+use Rattle.rules.specs.Rgtc.{halfByte, bc4Pixel, bc5Pixel}
 use Rattle.rules.specs.Bc7.{modeOf, modeAt, blockWord, pixelIn, bc7Pixel}
 use Rattle.rules.specs.Formats.{showsOf}
 use Rattle.rules.specs.declared.Kind.{Kind}
 use Rattle.rules.specs.declared.Kind.the-variants.{Individual, Differential, T, H, Planar}
 use Rattle.rules.specs.declared.Format.{Format}
-use Rattle.rules.specs.declared.Format.the-variants.{Etc1, Etc2Rgb, Etc2Rgba1, Etc2Rgba8, EacR, EacRSigned, EacRg, EacRgSigned, Bc1, Bc1Alpha, Bc3, Bc7}
+use Rattle.rules.specs.declared.Format.the-variants.{Etc1, Etc2Rgb, Etc2Rgba1, Etc2Rgba8, EacR, EacRSigned, EacRg, EacRgSigned, Bc1, Bc1Alpha, Bc3, Bc7, Bc2, Bc4, Bc4Signed, Bc5, Bc5Signed}
 use Rattle.laws.proofs.Signed.{clamp-le}
-use Rattle.laws.proofs.Between.{alphas-small}
+use Rattle.laws.proofs.Between.{alphas-small, values-small}
 use Rattle.laws.proofs.Shades.{pixel-word}
 
 abbrev pub Word : ℕ → Type 0
@@ -161,6 +162,28 @@ unfolding bc3Pixel bc3Alpha
 bc3 d x y =
     replaced-word (bc1Pixel true false (drop 8 d) x y) _ (bc1 true false (drop 8 d) x y) (alphas-small (halfWord d) (alphaIndexIn (halfWord d) (4 * y + x)))
 
+-- four bits, widened
+pub widened : (n : ℕ) → n % 16 * 17 < 256
+widened n = omega arith
+
+bc2 : (d : List ℕ) (x y : ℕ) → Word (bc2Pixel d x y)
+unfolding bc2Pixel bc2Alpha
+bc2 d x y =
+    replaced-word (bc1Pixel true false (drop 8 d) x y) _ (bc1 true false (drop 8 d) x y) (widened (halfWord d / 2 ^ (4 * (4 * y + x))))
+
+half-byte : (s : Bool) (d : List ℕ) (x y : ℕ) → halfByte s d x y ≤ 255
+unfolding halfByte
+half-byte s d x y = omega (arith, values-small s (halfWord d) (alphaIndexIn (halfWord d) (4 * y + x)))
+
+bc4 : (s : Bool) (d : List ℕ) (x y : ℕ) → Word (bc4Pixel s d x y)
+unfolding bc4Pixel
+bc4 s d x y = of-bytes 255 (halfByte s d x y) 0 0 (omega arith) (half-byte s d x y) (omega arith) (omega arith)
+
+bc5 : (s : Bool) (d : List ℕ) (x y : ℕ) → Word (bc5Pixel s d x y)
+unfolding bc5Pixel
+bc5 s d x y =
+    of-bytes 255 (halfByte s d x y) (halfByte s (drop 8 d) x y) 0 (omega arith) (half-byte s d x y) (half-byte s (drop 8 d) x y) (omega arith)
+
 -- nothing where there is no mode, else a pixel of the mode
 of-mode : (t : Bool) (d m i : ℕ) → ltb 7 m ≡ t → Word (cond t 0 (pixelIn d m (modeAt m) i))
 of-mode true d m i e = lit< tt
@@ -185,3 +208,8 @@ word-below Bc1 d x y = bc1 false false d x y
 word-below Bc1Alpha d x y = bc1 false true d x y
 word-below Bc3 d x y = bc3 d x y
 word-below Bc7 d x y = bc7 d x y
+word-below Bc2 d x y = bc2 d x y
+word-below Bc4 d x y = bc4 false d x y
+word-below Bc4Signed d x y = bc4 true d x y
+word-below Bc5 d x y = bc5 false d x y
+word-below Bc5Signed d x y = bc5 true d x y

@@ -1,2 +1,3 @@
 pub mod Guard
 pub mod Viewed
+pub mod Room

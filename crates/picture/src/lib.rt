@@ -1,5 +1,7 @@
 // Whole pictures: the checks, then every block in its place, said once for all formats; and the readers of older viewers, which look
-// at every block before they paint one, said once for both.
+// at every block before they paint one, said once for both, with a check of each that paints nothing.
+pub mod paint;
+
 use guard::Viewer;
 use rules::Answer;
 use rules::Format;
@@ -7,13 +9,14 @@ use rules::Picture;
 ghost use mathlib.Core.Path.{_≡_};
 ghost use mathlib.Core.Bool.{true};
 ghost use lib.ListN.{length};
+ghost use Rattle.rules.specs.Places.{sized};
 ghost use Rattle.rules.specs.Answers.{said, accepts, verdict};
 ghost use Rattle.rules.specs.Formats.{sizeOf};
 ghost use Rattle.rules.specs.Guards.{guardVerdict};
-ghost use Rattle.rules.specs.Readers.{pictureOf, ReadsPicture, ReadsGuarded, ReadsStrict, ReadsOpaque};
+ghost use Rattle.rules.specs.Readers.{pictureOf, ReadsPicture, ReadsGuarded, ReadsStrict, ReadsOpaque, ChecksStrict, ChecksOpaque};
 ghost use Rattle.checks.specs.Passed.{Passed};
 ghost use Rattle.guard.specs.Viewers.{guardOf};
-ghost use Rattle.picture.specs.Checked.{checksFor};
+ghost use Rattle.picture.specs.Checked.{checksFor, dataChecksFor};
 ghost use Rattle.picture.specs.Obeys.{Obeys};
 
 // Paints the whole of a picture that has passed the checks.
@@ -37,7 +40,7 @@ fn paint_if_done(answer: Answer, f: Format, data: &[u8], pic: Picture, image: &m
 }
 
 // Reads a picture of any format: the answer and every element of the image, for all inputs.
-pub fn read(f: Format, data: &[u8], pic: Picture, image: &mut [u32]) -> Answer
+pub fn read_picture(f: Format, data: &[u8], pic: Picture, image: &mut [u32]) -> Answer
     ensures { λ r. ⌜ ReadsPicture f (now («data» .entry)) pic (now (image .entry)) r (now (image .exit)) ⌝ }
 {
     let answer = checks::verify(checks::size(f), pic, data.len(), image.len());
@@ -89,4 +92,31 @@ pub fn read_opaque(data: &[u8], pic: Picture, image: &mut [u32]) -> Answer
     ensures { λ r. ⌜ ReadsOpaque (now («data» .entry)) pic (now (image .entry)) r (now (image .exit)) ⌝ }
 {
     read_guarded(Viewer::Opaque, data, pic, image)
+}
+
+// What a viewer's reader answers where the image is long enough: the largest picture needs 65,536 times 65,536 elements.
+fn check(viewer: Viewer, data: &[u8], width: usize, height: usize) -> Answer
+    ensures { λ r. ⌜ said r ≡ guardVerdict (guardOf viewer)
+        (dataChecksFor viewer (sized width height) (length (now («data» .entry)))) (sized width height) (now («data» .entry)) ⌝ }
+{
+    let pic = Picture {
+        width: width,
+        height: height,
+        pitch: width,
+    };
+    guarded_answer(viewer, data, pic, 0x100000000)
+}
+
+// Checks an ETC1 picture as its strict reader does, with the first block out of range, and paints nothing.
+pub fn check_strict(data: &[u8], width: usize, height: usize) -> Answer
+    ensures { λ r. ⌜ ChecksStrict (now («data» .entry)) (sized width height) r ⌝ }
+{
+    check(Viewer::Etc1, data, width, height)
+}
+
+// Checks an RGBA1 picture as the reader of an opaque-only viewer does, with the first block whose opaque bit is clear: likewise.
+pub fn check_opaque(data: &[u8], width: usize, height: usize) -> Answer
+    ensures { λ r. ⌜ ChecksOpaque (now («data» .entry)) (sized width height) r ⌝ }
+{
+    check(Viewer::Opaque, data, width, height)
 }

@@ -1,6 +1,9 @@
 // A picture whose bytes arrive in pieces of any length: each block is painted as soon as it is whole, and between two pieces at most
 // 15 bytes are kept. The state goes in by value and comes back. Every value of it is a state, so a forged one is answered like any
 // other, and nothing is asked of the caller.
+mod joined;
+pub mod kept;
+
 use rules::Answer;
 use rules::Format;
 use rules::Picture;
@@ -12,26 +15,14 @@ ghost use Prim.Native.Nat.{_≤_, min};
 ghost use lib.ListN.{length};
 ghost use Rattle.rules.specs.Answers.{said, limit, verdict};
 ghost use Rattle.rules.specs.Pieces.{startChecks, Starts, Takes, Ends};
-ghost use Rattle.place.specs.Tile.{Room};
+ghost use Rattle.pixel.specs.place.Tile.{Room};
 ghost use Rattle.pieces.specs.Took.{Took};
 
-// The checks of starting and of each piece: 1, 12, 3.
+// The checks of starting and of each piece: 1, 12, 3. Blocks of no bytes need no data.
 fn check(pic: Picture, elements: usize) -> Answer
     ensures { λ r. ⌜ said r ≡ verdict (startChecks pic elements) ⌝ }
 {
-    let large = checks::over_limit(pic);
-    let narrow = checks::short_pitch(pic);
-    if large {
-        return Answer::TooLarge;
-    }
-    let lacks_room = checks::short_image(pic, elements);
-    if narrow {
-        return Answer::ShortPitch;
-    }
-    if lacks_room {
-        return Answer::ShortImage;
-    }
-    Answer::Done
+    checks::verify(0, pic, 0, elements)
 }
 
 // Starts to read a picture: no byte is taken.
@@ -110,23 +101,11 @@ pub fn piece(p: Progress, bytes: &[u8], image: &mut [u32]) -> Taken
     take_piece(p, bytes, image)
 }
 
-// Ends: done where every block is painted, and short of data where not.
+// Ends: done where every block is painted, and short of data where not. No picture needs more elements than 65,536 times 65,536.
 pub fn end(p: Progress) -> Answer
     ensures { λ r. ⌜ Ends p r ⌝ }
 {
     let f = p.format;
     let pic = p.picture;
-    let large = checks::over_limit(pic);
-    let narrow = checks::short_pitch(pic);
-    if large {
-        return Answer::TooLarge;
-    }
-    let lacks_data = checks::short_data(checks::size(f), pic, p.taken);
-    if narrow {
-        return Answer::ShortPitch;
-    }
-    if lacks_data {
-        return Answer::ShortData;
-    }
-    Answer::Done
+    checks::verify(checks::size(f), pic, p.taken, 0x100000000)
 }

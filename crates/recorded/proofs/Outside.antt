@@ -11,7 +11,8 @@ use Rattle.rules.specs.Colour.{differential, wrapped, kindBySums, outOfRange}
 use Rattle.rules.specs.Modes.{tBases, tDistance, hBases, hDistance, planarBases, planarChannel, indexed}
 use Rattle.rules.specs.Modes.{rgbPixel, rgba1Pixel, etc1Pixel}
 use Rattle.rules.specs.Channels.{alphaStep, alphaByte, rgba8Pixel, eacValue, eacByte, redPixel, redGreenPixel}
-use Rattle.rules.specs.Desktop.{bc1Pixel, bc3Alpha, bc3Pixel}
+use Rattle.rules.specs.Desktop.{bc1Pixel, bc3Alpha, bc3Pixel, bc2Alpha, bc2Pixel}
+use Rattle.rules.specs.Rgtc.{halfByte, bc4Pixel, bc5Pixel}
 use Rattle.rules.specs.Bptc.{two, three, anchorOfTwo, anchorOfThree1, anchorOfThree2, subset, anchor}
 use Rattle.rules.specs.Bc7.{modeTable, lowest, bitsBefore, pixelIn, bc7Pixel}
 use Rattle.rules.specs.Formats.{sizeOf, showsOf}
@@ -26,7 +27,7 @@ hold : T (every recorded && baked specimens)
 unfolding every recorded verdictOf paints leaves holds needed painted firstOf differential wrapped kindBySums outOfRange
     tBases tDistance hBases hDistance planarBases planarChannel indexed
     rgbPixel rgba1Pixel etc1Pixel alphaStep alphaByte rgba8Pixel eacValue eacByte redPixel redGreenPixel sizeOf showsOf
-    little bc1Pixel bc3Alpha bc3Pixel
+    little bc1Pixel bc3Alpha bc3Pixel bc2Alpha bc2Pixel halfByte bc4Pixel bc5Pixel
     two three anchorOfTwo anchorOfThree1 anchorOfThree2 subset anchor modeTable lowest bitsBefore pixelIn bc7Pixel
     base eight sixteen bakes leastSum baked specimens leastOf sumOf mostOf each fromBits near differ farthest checkVerdict shown indexFor costFor codeFor blockWith
 hold = tt

@@ -9,7 +9,7 @@ use mathlib.Core.Path.{_≡_}
 use Prim.Native.Nat.{ℕ}
 use lib.Dec.{T}
 use lib.ListN.{drop}
-use Rattle.rules.specs.Places.{sized}
+use Rattle.rules.specs.Places.{pitched, sized}
 use Rattle.rules.specs.Census.{Test, countOf, rgbTests, rgba1Tests, census, rgbSaid, rgba1Said, CountsRgb, CountsRgba1}
 use Rattle.rules.specs.declared.Picture.{Picture}
 use Rattle.rules.specs.declared.RgbCensus.{RgbCensus}
@@ -106,6 +106,12 @@ specimens =
     ∷ counted rgba1Tests [] 65537 1 (1 ∷ [])
     ∷ [])))))))))))))))))))
 
-hold : T (answers && every specimens)
-unfolding answers every counted alone mixed specimens countOf
+-- "the census takes no pitch" (M-104): one above the limit, or below the width, is not looked at
+unpitched : Bool
+unpitched =
+    same (census rgbTests mixed (pitched 16 12 65537)) (0 ∷ 6 ∷ 1 ∷ 3 ∷ 1 ∷ 1 ∷ [])
+    && same (census rgba1Tests mixed (pitched 16 12 0)) (0 ∷ 1 ∷ 3 ∷ 1 ∷ 1 ∷ 3 ∷ 1 ∷ 1 ∷ 1 ∷ [])
+
+hold : T (answers && every specimens && unpitched)
+unfolding answers every counted alone mixed specimens unpitched countOf
 hold = tt

@@ -19,7 +19,8 @@ use Rattle.rules.specs.Modes.{tBases, tDistance, hBases, notLess, hDista
 use Rattle.rules.specs.Modes.{rgbPixel, rgba1Pixel, etc1Pixel}
 use Rattle.rules.specs.Channels.{alphaStep, alphaByte, rgba8Pixel, eacValue, eacByte, redPixel, redGreenPixel}
 use Rattle.numbers.specs.Numbers.{little}
-use Rattle.rules.specs.Desktop.{bc1Pixel, bc3Alpha, bc3Pixel}
+use Rattle.rules.specs.Desktop.{bc1Pixel, bc3Alpha, bc3Pixel, bc2Alpha, bc2Pixel}
+use Rattle.rules.specs.Rgtc.{halfByte, bc4Pixel, bc5Pixel}
 use Rattle.rules.specs.Bptc.{two, three, anchorOfTwo, anchorOfThree1, anchorOfThree2, subset, anchor}
 use Rattle.rules.specs.Bc7.{modeTable, lowest, bitsBefore, pixelIn, bc7Pixel}
 use Rattle.rules.specs.Formats.{sizeOf, showsOf}
@@ -28,6 +29,8 @@ use Rattle.rules.specs.Readers.{blockVerdict, blockPainted, ReadsBlock, 
 use Rattle.rules.specs.Readers.{replacedPainted, ReplacesChannel}
 use Rattle.rules.specs.declared.Answer.{Answer}
 use Rattle.rules.specs.declared.Answer.the-variants.{Done, TooLarge, ShortData, ShortImage, OutOfRange, NoChannel, LongData, NotOpaque, ShortPitch}
+use Rattle.rules.specs.declared.Answer.the-variants.{HeaderCut, UnknownContainer, UnknownVersion, UnknownFormat, SizesDisagree}
+use Rattle.rules.specs.declared.Answer.the-variants.{NotFlat, NoPixel, LevelsMissing, NoLevel, Supercompressed}
 use Rattle.rules.specs.declared.Format.the-variants.{Etc2Rgb, Etc2Rgba1}
 use Rattle.rules.proofs.Rows.{Reader, picture, strict, opaque, padded, paddedStrict, paddedOpaque, block, alphaHalf, channel, alphaInto, Row}
 use Rattle.rules.proofs.Rows.{shows, packed, joins, refuses, answers}
@@ -146,6 +149,16 @@ numbers =
     && same (said LongData) (6 ∷ [])
     && same (said (NotOpaque 7)) (11 ∷ 7 ∷ [])
     && same (said ShortPitch) (12 ∷ [])
+    && same (said HeaderCut) (20 ∷ [])
+    && same (said UnknownContainer) (21 ∷ [])
+    && same (said UnknownVersion) (22 ∷ [])
+    && same (said UnknownFormat) (23 ∷ [])
+    && same (said SizesDisagree) (24 ∷ [])
+    && same (said NotFlat) (25 ∷ [])
+    && same (said NoPixel) (26 ∷ [])
+    && same (said LevelsMissing) (37 ∷ [])
+    && same (said NoLevel) (38 ∷ [])
+    && same (said Supercompressed) (41 ∷ [])
 
 -- the order in which strict ETC1 tests: no row can tell 2 and 6 apart, which are never both due; and that of the opaque-only viewer
 numbersOf : List Check → List ℕ
@@ -216,6 +229,6 @@ hold : T (kinds && numbers && tested && words && orders && places && every (benc
 unfolding kinds short isShort numbers numbersOf tested words orders places every bench table pitches leftovers opaques recorded verdictOf paints leaves holds marked needed
     painted firstOf differential wrapped kindBySums outOfRange tBases tDistance hBases hDistance planarBases planarChannel indexed
     rgbPixel rgba1Pixel etc1Pixel alphaStep alphaByte rgba8Pixel eacValue eacByte redPixel redGreenPixel sizeOf showsOf
-    little bc1Pixel bc3Alpha bc3Pixel
+    little bc1Pixel bc3Alpha bc3Pixel bc2Alpha bc2Pixel halfByte bc4Pixel bc5Pixel
     two three anchorOfTwo anchorOfThree1 anchorOfThree2 subset anchor modeTable lowest bitsBefore pixelIn bc7Pixel
 hold = tt

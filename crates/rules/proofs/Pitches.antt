@@ -4,7 +4,7 @@
 use mathlib.Core.List.{List, [], _∷_, _++_}
 use Prim.Native.Nat.{ℕ}
 use lib.ListN.{replicate}
-use Rattle.rules.specs.declared.Format.the-variants.{Etc1, Etc2Rgb, Etc2Rgba1, Etc2Rgba8, EacR, EacRSigned, EacRg, EacRgSigned, Bc1, Bc1Alpha, Bc3, Bc7}
+use Rattle.rules.specs.declared.Format.the-variants.{Etc1, Etc2Rgb, Etc2Rgba1, Etc2Rgba8, EacR, EacRSigned, EacRg, EacRgSigned, Bc1, Bc1Alpha, Bc3, Bc7, Bc2, Bc4, Bc4Signed, Bc5, Bc5Signed}
 use Rattle.rules.proofs.Rows.{Reader, padded, paddedStrict, Row, shows, refuses, answers}
 
 -- five pixels of S2 and S1 side by side, and a gap of two elements
@@ -71,4 +71,9 @@ pitches =
     ++ pitchRefusals (padded Bc1Alpha) 47 48
     ++ pitchRefusals (padded Bc3) 95 96
     ++ pitchRefusals (padded Bc7) 95 96
+    ++ pitchRefusals (padded Bc2) 95 96
+    ++ pitchRefusals (padded Bc4) 47 48
+    ++ pitchRefusals (padded Bc4Signed) 47 48
+    ++ pitchRefusals (padded Bc5) 95 96
+    ++ pitchRefusals (padded Bc5Signed) 95 96
     ++ pitchRefusals paddedStrict 47 48

@@ -129,6 +129,8 @@ rows =
     -- skipped records before and after the blocks
     ∷ row (head-of (head 3 ++ note ++ some 16 ++ note ++ note)) (good 3)
     ∷ row (image-of (head 0 ++ note ++ rec 8 2 (128 ∷ 0 ∷ 0 ∷ 2 ∷ replicate 4 0)) 12) (replicate 12 0xFF860202)
+    -- and an empty one: what stands behind it is read
+    ∷ row (head-of (head 0 ++ rec 0 0x8000 [] ++ some 8)) (good 0)
     -- no bytes at all; five bytes; a head that lacks one byte; a length of FFFFFFFF, and of 1000000 (hex)
     ∷ row (head-of []) (7 ∷ [])
     ∷ row (head-of (9 ∷ 0 ∷ 0 ∷ 0 ∷ 1 ∷ [])) (7 ∷ [])
@@ -142,6 +144,9 @@ rows =
     -- not kind 1, not 9 long, format above 7; and 8 before 1
     ∷ row (head-of (rec 9 2 (replicate 9 0) ++ some 0)) (8 ∷ [])
     ∷ row (head-of note) (8 ∷ [])
+    -- "anywhere after the first": before the head a record of kind 8000 is not skipped
+    ∷ row (head-of (note ++ head 0 ++ some 8)) (8 ∷ [])
+    ∷ row (read (note ++ head 0 ++ some 8) 12) (8 ∷ [])
     ∷ row (head-of (rec 8 1 (replicate 8 0) ++ some 0)) (8 ∷ [])
     ∷ row (head-of (rec 10 1 (replicate 10 0) ++ some 0)) (8 ∷ [])
     ∷ row (head-of (head 8 ++ some 8)) (8 ∷ [])

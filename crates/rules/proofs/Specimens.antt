@@ -5,7 +5,7 @@ use mathlib.Core.Bool.{true, false}
 use mathlib.Core.List.{List, [], _∷_, _++_}
 use Prim.Native.Nat.{ℕ}
 use lib.ListN.{replicate}
-use Rattle.rules.specs.declared.Format.the-variants.{Etc1, Etc2Rgb, Etc2Rgba1, Etc2Rgba8, EacR, EacRSigned, EacRg, EacRgSigned, Bc1, Bc1Alpha, Bc3, Bc7}
+use Rattle.rules.specs.declared.Format.the-variants.{Etc1, Etc2Rgb, Etc2Rgba1, Etc2Rgba8, EacR, EacRSigned, EacRg, EacRgSigned, Bc1, Bc1Alpha, Bc3, Bc7, Bc2, Bc4, Bc4Signed, Bc5, Bc5Signed}
 use Rattle.rules.proofs.Rows.{Reader, picture, strict, block, alphaHalf, channel, alphaInto, Row, shows, refuses, answers}
 
 -- one colour everywhere; rows of the tile; two columns and two columns
@@ -60,6 +60,9 @@ bench =
     ∷ one (picture EacRSigned) 0x8010DB6DB6DB6DB6 (all 0xFF080000)
     ∷ one (picture EacRSigned) 0x8110DB6DB6DB6DB6 (all 0xFF080000)
     ∷ one (picture EacR) 0x8010DB6DB6DB6DB6 (all 0xFF880000)
+    -- signed BC4: the greatest value, 127, is 254, and -128 is read as -127, which is 0
+    ∷ one (picture Bc4Signed) 0x7F80000000000000 (all 0xFFFE0000)
+    ∷ one (picture Bc4Signed) 0x807F000000000000 (all 0xFF000000)
     -- S16
     ∷ shows (picture Etc1) 5 1 (0x0400000200000000 ∷ 0x0000000000000000 ∷ [])
     (0xFF020202 ∷ 0xFF020202 ∷ 0xFFE90202 ∷ 0xFFE90202 ∷ 0xFF020202 ∷ [])
@@ -113,6 +116,11 @@ table =
     ++ refusals (picture Bc1Alpha) 47 48
     ++ refusals (picture Bc3) 95 96
     ++ refusals (picture Bc7) 95 96
+    ++ refusals (picture Bc2) 95 96
+    ++ refusals (picture Bc4) 47 48
+    ++ refusals (picture Bc4Signed) 47 48
+    ++ refusals (picture Bc5) 95 96
+    ++ refusals (picture Bc5Signed) 95 96
     ++ refusals strict 47 48
     ++ (refuses strict 4 4 (0x0400000200000000 ∷ []) 15 (3 ∷ []) ∷ [])
     ++ blockRefusals (block Etc1) 7 8
@@ -127,6 +135,11 @@ table =
     ++ blockRefusals (block Bc1Alpha) 7 8
     ++ blockRefusals (block Bc3) 15 16
     ++ blockRefusals (block Bc7) 15 16
+    ++ blockRefusals (block Bc2) 15 16
+    ++ blockRefusals (block Bc4) 7 8
+    ++ blockRefusals (block Bc4Signed) 7 8
+    ++ blockRefusals (block Bc5) 15 16
+    ++ blockRefusals (block Bc5Signed) 15 16
     ++ blockRefusals alphaHalf 7 8
     ++ channelRefusals (channel false)
     ++ channelRefusals (channel true)

@@ -11,6 +11,8 @@ use Rattle.rules.specs.declared.Picture.{Picture}
 use Rattle.rules.specs.declared.Answer.{Answer}
 use Rattle.rules.specs.declared.Answer.the-variants.{Done, TooLarge, ShortData, ShortImage, OutOfRange, NoChannel, LongData}
 use Rattle.rules.specs.declared.Answer.the-variants.{CutShort, NoHead, OtherKind, WrongBlocks, NotOpaque, ShortPitch}
+use Rattle.rules.specs.declared.Answer.the-variants.{HeaderCut, UnknownContainer, UnknownVersion, UnknownFormat, SizesDisagree}
+use Rattle.rules.specs.declared.Answer.the-variants.{NotFlat, NoPixel, LevelsMissing, NoLevel, Supercompressed}
 
 -- the table of refusals: the number of each, and what it "also returns"
 abbrev pub said : Answer → List ℕ
@@ -27,6 +29,52 @@ said OtherKind = 9 ∷ []
 said WrongBlocks = 10 ∷ []
 said (NotOpaque n) = 11 ∷ n ∷ []
 said ShortPitch = 12 ∷ []
+said HeaderCut = 20 ∷ []
+said UnknownContainer = 21 ∷ []
+said UnknownVersion = 22 ∷ []
+said UnknownFormat = 23 ∷ []
+said SizesDisagree = 24 ∷ []
+said NotFlat = 25 ∷ []
+said NoPixel = 26 ∷ []
+said LevelsMissing = 37 ∷ []
+said NoLevel = 38 ∷ []
+said Supercompressed = 41 ∷ []
+
+-- every answer, with the value that some of them return
+abbrev pub answers : List (ℕ → Answer)
+answers =
+    (λ n. Done)
+    ∷ (λ n. TooLarge)
+    ∷ (λ n. ShortData)
+    ∷ (λ n. ShortImage)
+    ∷ (λ n. OutOfRange n)
+    ∷ (λ n. NoChannel)
+    ∷ (λ n. LongData)
+    ∷ (λ n. CutShort)
+    ∷ (λ n. NoHead)
+    ∷ (λ n. OtherKind)
+    ∷ (λ n. WrongBlocks)
+    ∷ (λ n. NotOpaque n)
+    ∷ (λ n. ShortPitch)
+    ∷ (λ n. HeaderCut)
+    ∷ (λ n. UnknownContainer)
+    ∷ (λ n. UnknownVersion)
+    ∷ (λ n. UnknownFormat)
+    ∷ (λ n. SizesDisagree)
+    ∷ (λ n. NotFlat)
+    ∷ (λ n. NoPixel)
+    ∷ (λ n. LevelsMissing)
+    ∷ (λ n. NoLevel)
+    ∷ (λ n. Supercompressed)
+    ∷ []
+
+-- and the answer that says a number and a value: the first of them with that number
+abbrev pub findAnswer : List (ℕ → Answer) → ℕ → ℕ → Answer
+findAnswer [] n v = Done
+findAnswer (a ∷ rest) n v = cond (eqb (getD (said (a 0)) 0 0) n) (a v) (findAnswer rest n v)
+
+abbrev pub answerOf : List ℕ → Answer
+answerOf l = findAnswer answers (getD l 0 0) (getD l 1 0)
 
 -- number 0 is "done", and every other is a refusal
 abbrev pub accepts : List ℕ → Bool
@@ -97,6 +145,14 @@ exactChecks s p bytes elements =
     ∷ leftoverCheck (blocks p * s) bytes
     ∷ imageCheck (needed p) elements
     ∷ []
+
+-- the checks of what is lent no image: 1 and 2, "in that order", and where the length must be exact, 6 after them
+abbrev pub dataChecks : ℕ → Picture → ℕ → List Check
+dataChecks s p bytes = sidesCheck limit p ∷ dataCheck (blocks p * s) bytes ∷ []
+
+abbrev pub exactDataChecks : ℕ → Picture → ℕ → List Check
+exactDataChecks s p bytes =
+    sidesCheck limit p ∷ dataCheck (blocks p * s) bytes ∷ leftoverCheck (blocks p * s) bytes ∷ []
 
 -- the verdict of a reader that has nothing more to check
 abbrev pub verdict : List Check → List ℕ

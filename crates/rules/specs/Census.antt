@@ -3,11 +3,11 @@
 use mathlib.Core.Bool.{Bool, cond, not, _&&_}
 use mathlib.Core.List.{List, [], _∷_, _++_}
 use mathlib.Core.Path.{_≡_}
-use Prim.Native.Nat.{ℕ, zero, suc, _+_, _*_}
+use Prim.Native.Nat.{ℕ, zero, suc, _+_}
 use lib.ListN.{length}
 use Rattle.rules.specs.Notation.{byte}
 use Rattle.rules.specs.Places.{blocks, bytesOf}
-use Rattle.rules.specs.Answers.{limit, Check, judged, sidesCheck, dataCheck}
+use Rattle.rules.specs.Answers.{Check, judged, dataChecks}
 use Rattle.rules.specs.Colour.{differs, sum, beyond}
 use Rattle.rules.specs.declared.Picture.{Picture}
 use Rattle.rules.specs.declared.RgbCounts.{RgbCounts}
@@ -116,7 +116,7 @@ counts block n (test ∷ tests) = counted block n test ∷ counts block n tests
 
 -- "Refusals 1 and 2 as in 01, in that order"; refusal 1 with M-104's limit, and "the census takes no pitch": it is not looked at
 abbrev pub censusChecks : Picture → ℕ → List Check
-censusChecks p bytes = sidesCheck limit p ∷ dataCheck (blocks p * 8) bytes ∷ []
+censusChecks p bytes = dataChecks 8 p bytes
 
 -- what a census says on paper: 0 with its counts; "a refusal returns no counts"
 abbrev pub census : List Test → List ℕ → Picture → List ℕ

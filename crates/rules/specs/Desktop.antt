@@ -1,5 +1,6 @@
--- BC1 and BC3 (M-106 of document 02): two colours and what lies between them, two alphas and what lies between them. 02's own sentences
--- stand in quotes above the definitions that they become; the bits are those of the files that it names, src/bcn and `rgb565_le`.
+-- BC1 and BC3 (M-106 of document 02): two colours and what lies between them, two alphas and what lies between them; and BC2, whose
+-- alphas stand there as they are. 02's own sentences stand in quotes above the definitions that they become; the bits are those of the
+-- files that it names, src/bcn and `rgb565_le`.
 -- Assumes nothing.
 use mathlib.Core.Bool.{Bool, true, false, cond, _||_}
 use mathlib.Core.List.{List, [], _∷_}
@@ -54,10 +55,14 @@ colourIndex w i = w / 2 ^ (32 + 2 * i) % 4
 unfoldable pub bc1Pixel : Bool → Bool → List ℕ → ℕ → ℕ → ℕ
 bc1Pixel always alpha d x y = getD (paletteIn always alpha (halfWord d)) (colourIndex (halfWord d) (4 * y + x)) 0
 
--- eight alphas: the two and the sevenths between them, where the first is above the second; or the fifths, and then 0 and 255
+-- eight values: the two and the sevenths between them, where the first is above the second; or the fifths, and then 0 and the greatest
+abbrev pub eightUpTo : ℕ → Bool → ℕ → ℕ → List ℕ
+eightUpTo top true a b = a ∷ b ∷ mix 6 1 a b ∷ mix 5 2 a b ∷ mix 4 3 a b ∷ mix 3 4 a b ∷ mix 2 5 a b ∷ mix 1 6 a b ∷ []
+eightUpTo top false a b = a ∷ b ∷ mix 4 1 a b ∷ mix 3 2 a b ∷ mix 2 3 a b ∷ mix 1 4 a b ∷ 0 ∷ top ∷ []
+
+-- eight alphas are such values up to 255
 abbrev pub alphas : Bool → ℕ → ℕ → List ℕ
-alphas true a b = a ∷ b ∷ mix 6 1 a b ∷ mix 5 2 a b ∷ mix 4 3 a b ∷ mix 3 4 a b ∷ mix 2 5 a b ∷ mix 1 6 a b ∷ []
-alphas false a b = a ∷ b ∷ mix 4 1 a b ∷ mix 3 2 a b ∷ mix 2 3 a b ∷ mix 1 4 a b ∷ 0 ∷ 255 ∷ []
+alphas f a b = eightUpTo 255 f a b
 
 abbrev pub alphasIn : ℕ → List ℕ
 alphasIn w = alphas (ltb (bits 15 8 w) (bits 7 0 w)) (bits 7 0 w) (bits 15 8 w)
@@ -76,3 +81,11 @@ replaced channel p b = p / 256 ^ suc channel * 256 ^ suc channel + b * 256 ^ cha
 -- "In BC3 .. always four colours": the alpha half is bytes 0 to 7, and the colour half begins at byte 8
 unfoldable pub bc3Pixel : List ℕ → ℕ → ℕ → ℕ
 bc3Pixel d x y = replaced 3 (bc1Pixel true false (drop 8 d) x y) (bc3Alpha d x y)
+
+-- `decode_bc2_alpha` reads four bits for pixel i, row by row from bit 0 on, and widens them: "(av << 4) | av" is 17 times the four bits
+unfoldable pub bc2Alpha : List ℕ → ℕ → ℕ → ℕ
+bc2Alpha d x y = halfWord d / 2 ^ (4 * (4 * y + x)) % 16 * 17
+
+-- BC2 is BC3 with these alphas: the alpha half is bytes 0 to 7, and the colours, "always four", begin at byte 8
+unfoldable pub bc2Pixel : List ℕ → ℕ → ℕ → ℕ
+bc2Pixel d x y = replaced 3 (bc1Pixel true false (drop 8 d) x y) (bc2Alpha d x y)

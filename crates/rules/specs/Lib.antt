@@ -11,8 +11,9 @@ pub mod Colour
 pub mod Modes
 -- alpha and single channels
 pub mod Channels
--- BC1 and BC3, of document 02
+-- BC1 and BC3, of document 02, and BC2; BC4 and BC5
 pub mod Desktop
+pub mod Rgtc
 -- bits, and BC7, of document 02
 pub mod Bits
 pub mod Bptc
@@ -37,3 +38,15 @@ pub mod Checking
 pub mod Baking
 -- all eleven bits of EAC, of document 02
 pub mod Whole
+-- what an older viewer shows wrong
+pub mod Older
+-- files: PKM, KTX 1, KTX 2, DDS and sheets
+pub mod FileFormats
+pub mod FileLevels
+pub mod Keys
+pub mod Pkm
+pub mod Ktx1
+pub mod Ktx2
+pub mod Dds
+pub mod SheetFile
+pub mod Files

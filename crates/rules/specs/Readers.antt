@@ -2,12 +2,14 @@
 -- Assumes nothing.
 use mathlib.Core.Bool.{Bool}
 use mathlib.Core.List.{List}
+use mathlib.Core.Path.{_≡_}
 use Prim.Native.Nat.{ℕ, _/_, _%_}
 use lib.Dec.{ltb}
 use lib.ListN.{length, getD}
 use Rattle.rules.specs.Pixel.{Shows}
 use Rattle.rules.specs.Places.{bytesOf, painted, pictureBy}
-use Rattle.rules.specs.Answers.{Check, verdict, pictureChecks, exactChecks, blockChecks, channelChecks, Outcome}
+use Rattle.rules.specs.Answers.{said, Check, verdict, pictureChecks, exactChecks, dataChecks, exactDataChecks}
+use Rattle.rules.specs.Answers.{blockChecks, channelChecks, Outcome}
 use Rattle.rules.specs.Channels.{withAlpha, alphaByte, eacByte, orChannel}
 use Rattle.rules.specs.Desktop.{bc3Alpha, replaced}
 use Rattle.rules.specs.Formats.{sizeOf, showsOf}
@@ -53,6 +55,19 @@ opaqueVerdict p d image = guardVerdict opaqueOnly (opaqueChecks p d image) p d
 
 abbrev pub ReadsOpaque : List ℕ → Picture → List ℕ → Answer → List ℕ → Type 0
 ReadsOpaque d p image answer new = ReadsGuarded opaqueOnly (opaqueChecks p d image) d p image answer new
+
+-- "Check without painting": "answer as the strict and opaque-only readers would, with the first bad block, and need no image"
+abbrev pub strictCheck : Picture → List ℕ → List ℕ
+strictCheck p d = guardVerdict inRange (exactDataChecks 8 p (length d)) p d
+
+abbrev pub ChecksStrict : List ℕ → Picture → Answer → Type 0
+ChecksStrict d p answer = said answer ≡ strictCheck p d
+
+abbrev pub opaqueCheck : Picture → List ℕ → List ℕ
+opaqueCheck p d = guardVerdict opaqueOnly (dataChecks 8 p (length d)) p d
+
+abbrev pub ChecksOpaque : List ℕ → Picture → Answer → Type 0
+ChecksOpaque d p answer = said answer ≡ opaqueCheck p d
 
 -- "A block reader writes elements 0 to 15 only, row by row."
 abbrev pub blockPainted : (ℕ → ℕ) → List ℕ → List ℕ

@@ -42,7 +42,8 @@ walked (suc turns) [] = ended
 walked (suc turns) (b ∷ l) =
     cond (isCut (b ∷ l)) short (more (recordIn (b ∷ l)) (walked turns (behind (b ∷ l))))
 
--- each record has six bytes or more, so that as many turns as there are bytes reach the end (crates/records/proofs/Walk.antt shows it)
+-- each record has six bytes or more, so that as many turns as there are bytes reach the end, as crates/sheet/proofs/records/Walk.antt
+-- shows
 abbrev pub recordsOf : List ℕ → Records
 recordsOf d = walked (length d) d
 
@@ -65,3 +66,10 @@ unfoldable pub kept : Records → Records
 kept (more r rs) = cond (isSkipped r) (kept rs) (more r (kept rs))
 kept ended = ended
 kept short = short
+
+-- where the payload of the first record begins that is not skipped, of records that begin at a byte: behind the six bytes of its own,
+-- and behind the records before it
+unfoldable pub payloadAt : ℕ → Records → ℕ
+payloadAt at (more r rs) = cond (isSkipped r) (payloadAt (at + 6 + length (r .payload)) rs) (at + 6)
+payloadAt at ended = at
+payloadAt at short = at

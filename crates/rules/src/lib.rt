@@ -1,6 +1,7 @@
 // The vocabulary: the words that the rules, the readers and their callers share. It has no functions.
 
-// The formats: the eight of document 01, in its order of readers, and those of M-106 and M-108.
+// The formats: the eight of document 01, in its order of readers, those of M-106 and M-108, and the rest of the desktop's eight-bit ones.
+// BC6H, whose pixels are half floats, is not among them.
 pub enum Format {
     Etc1,
     Etc2Rgb,
@@ -14,6 +15,11 @@ pub enum Format {
     Bc1Alpha,
     Bc3,
     Bc7,
+    Bc2,
+    Bc4,
+    Bc4Signed,
+    Bc5,
+    Bc5Signed,
 }
 
 // The five kinds of colour block.
@@ -48,6 +54,26 @@ pub enum Answer {
     NotOpaque(usize),
     // of a picture: a pitch below the width
     ShortPitch,
+    // of a file: it ends before its header does
+    HeaderCut,
+    // none of the containers that are known
+    UnknownContainer,
+    // a version or a byte order that nobody defined
+    UnknownVersion,
+    // a format that no reader reads
+    UnknownFormat,
+    // sizes that contradict each other
+    SizesDisagree,
+    // a volume, an array or a cube
+    NotFlat,
+    // a side of 0
+    NoPixel,
+    // the file ends before one of its levels does
+    LevelsMissing,
+    // no level of the number that is asked for
+    NoLevel,
+    // of KTX 2: the levels are compressed a second time
+    Supercompressed,
 }
 
 // A picture's description, shared by all picture readers. The pitch is how many elements of the image a row takes, its gap included.
@@ -89,6 +115,24 @@ pub enum RgbCensus {
 
 pub enum Rgba1Census {
     Counted(Rgba1Counts),
+    TooLarge,
+    ShortData,
+}
+
+// How many pixels of a picture two rules show differently, and how many blocks have one; the first such block and its first such place,
+// or the number of blocks and 16 where there is none; and the largest difference of a red, a green or a blue, and of an alpha.
+pub struct OlderCounts {
+    pub pixels: usize,
+    pub blocks: usize,
+    pub block: usize,
+    pub place: usize,
+    pub colour: u32,
+    pub alpha: u32,
+}
+
+// What is answered. The number and values of each case are `olderSaid`, in specs/Older.antt.
+pub enum Older {
+    Counted(OlderCounts),
     TooLarge,
     ShortData,
 }
@@ -195,4 +239,83 @@ pub enum Baking {
     NoBase,
     // of the checker, and no refusal: out of range, or not near enough
     NotAccepted,
+}
+
+// What a file tells: the numbers of its container and its format (specs/Files.antt), whether its colours are sRGB, the size of level 0,
+// the number of levels, whether its numbers have the greatest byte first, which row comes first, and how many bytes follow the levels.
+pub struct FileFacts {
+    pub container: usize,
+    pub format: usize,
+    pub srgb: usize,
+    pub width: usize,
+    pub height: usize,
+    pub levels: usize,
+    pub big_endian: usize,
+    pub orientation: usize,
+    pub left_over: usize,
+}
+
+// What opening a file answers.
+pub enum Opened {
+    File(FileFacts),
+    Refused(Answer),
+}
+
+// A level of a file: its size, and the bytes of its blocks.
+pub struct FileLevel {
+    pub width: usize,
+    pub height: usize,
+    pub start: usize,
+    pub length: usize,
+}
+
+// What asking for a level answers.
+pub enum FoundLevel {
+    Level(FileLevel),
+    Refused(Answer),
+}
+
+// What a row of a table of formats says of a number: the format's number, and whether it is sRGB.
+pub enum KnownFormat {
+    As(usize, usize),
+    Not,
+}
+
+// What a file's header tells. The levels start at byte `start`, or the header has an index of them; `agrees` is whether a size that
+// the header tells twice is the same both times.
+pub struct Layout {
+    pub container: usize,
+    pub format: usize,
+    pub srgb: usize,
+    pub width: usize,
+    pub height: usize,
+    pub levels: usize,
+    pub big_endian: usize,
+    pub orientation: usize,
+    pub start: usize,
+    pub agrees: bool,
+}
+
+pub enum FileHeader {
+    Holds(Layout),
+    Refused(Answer),
+}
+
+// A level on the way through the levels of a file: its size, and the byte at which it begins where levels follow one another.
+pub struct Spot {
+    pub width: usize,
+    pub height: usize,
+    pub at: usize,
+}
+
+// Whether the blocks of a level lie in the file as it tells: with the byte at which they start.
+pub enum Fit {
+    Fits(usize),
+    Refused(Answer),
+}
+
+// Whether all levels do: with how many bytes are left over behind them, and the level that was asked for.
+pub enum HeldLevels {
+    Levels(usize, FileLevel),
+    Refused(Answer),
 }

@@ -1,4 +1,10 @@
 // What the reader and the writer of sheets share: the formats by their numbers, and how many bytes a picture's blocks are.
+pub mod find;
+pub mod first;
+pub mod later;
+pub mod records;
+pub mod write;
+
 use rules::Format;
 use rules::Picture;
 ghost use mathlib.Core.Path.{_≡_};

@@ -2,33 +2,15 @@
 use rules::Answer;
 use rules::Picture;
 use rules::Sheet;
-use sheet_first::Found;
-use sheet_later::Blocks;
+use sheet::find;
+use sheet::first::Found;
 ghost use Rattle.rules.specs.Sheets.{TellsHead, ReadsSheet};
-ghost use Rattle.sheet_read.specs.Found.{Finds};
-
-// The whole walk: the head, and the start of the blocks.
-fn find(d: &[u8]) -> Found
-    ensures { λ r. ⌜ Finds (now (d .entry)) r ⌝ }
-{
-    let head = sheet_first::first_record(d);
-    match head {
-        Found::At(h, at, n) => {
-            let blocks = sheet_later::after_head(d, at, n);
-            match blocks {
-                Blocks::At(start) => Found::At(h, start, n),
-                Blocks::Refused(answer) => Found::Refused(answer),
-            }
-        }
-        Found::Refused(answer) => Found::Refused(answer),
-    }
-}
 
 // What a sheet's head says, for all bytes, or why the sheet is refused.
 pub fn sheet_head(bytes: &[u8]) -> Sheet
     ensures { λ r. ⌜ TellsHead (now (bytes .entry)) r ⌝ }
 {
-    let found = find(bytes);
+    let found = find::find(bytes);
     match found {
         Found::At(head, _, _) => Sheet::Holds(head),
         Found::Refused(answer) => Sheet::Refused(answer),
@@ -39,7 +21,7 @@ pub fn sheet_head(bytes: &[u8]) -> Sheet
 pub fn read_sheet(bytes: &[u8], image: &mut [u32]) -> Answer
     ensures { λ r. ⌜ ReadsSheet (now (bytes .entry)) (now (image .entry)) r (now (image .exit)) ⌝ }
 {
-    let found = find(bytes);
+    let found = find::find(bytes);
     match found {
         Found::At(head, start, n) => {
             let end = start + n;
@@ -48,7 +30,7 @@ pub fn read_sheet(bytes: &[u8], image: &mut [u32]) -> Answer
                 height: head.height,
                 pitch: head.width,
             };
-            picture::read(
+            picture::read_picture(
                 sheet::format_of(head.format),
                 &bytes[start..end],
                 pic,

@@ -97,8 +97,9 @@ fn of_kind(half: Half, number: usize, random: &mut Random) -> [u8; 8] {
         Half::Alpha | Half::Eac => channel(number % 8, random),
         Half::Desktop => desktop(number % 6, random),
         Half::DesktopAlpha => desktop_alpha(number % 6, random),
+        Half::Rgtc => rgtc(number % 8, random),
         Half::Bc7 => bc7(number, random),
-        Half::Bc7Rest => random.next().to_le_bytes(),
+        Half::Bc7Rest | Half::Nibbles => random.next().to_le_bytes(),
     }
 }
 
@@ -137,6 +138,15 @@ pub fn desktop_alpha(kind: usize, random: &mut Random) -> [u8; 8] {
     block
 }
 
+// The same, and the lowest signed values, -128 and -127, beside any other and beside each other.
+pub fn rgtc(kind: usize, random: &mut Random) -> [u8; 8] {
+    let mut block = desktop_alpha(kind % 6, random);
+    if kind >= 6 {
+        block[kind - 6] = 0x80 | random.below(2) as u8;
+    }
+    block
+}
+
 // The first half of a BC7 block: each mode in its turn, and with each the six bits behind it in theirs, which hold the
 // partition, or the rotation, the index selection and the first bits of an endpoint.
 pub fn bc7(number: usize, random: &mut Random) -> [u8; 8] {
@@ -148,7 +158,7 @@ pub fn bc7(number: usize, random: &mut Random) -> [u8; 8] {
 
 // A colour half's mode; RGBA1 has its opaque bit set in every second round. Other halves have none.
 fn of_mode(half: Half, number: usize, random: &mut Random) -> [u8; 8] {
-    if matches!(half, Half::Alpha | Half::Eac | Half::Desktop | Half::DesktopAlpha | Half::Bc7 | Half::Bc7Rest) {
+    if !matches!(half, Half::Etc1 | Half::Rgb | Half::Rgba1) {
         return of_kind(half, number, random);
     }
     let mut block = mode(number % MODES, random);

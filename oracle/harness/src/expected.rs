@@ -17,6 +17,7 @@ pub const EAC_INDEX_ORDER: &str = "eac-index-order";
 pub const EAC_LOWEST_BASE: &str = "eac-lowest-base";
 pub const BC3_FOUR_COLOURS: &str = "bc3-four-colours";
 pub const BC3_ALPHA_END: &str = "bc3-alpha-end";
+pub const BC2_FOUR_COLOURS: &str = "bc2-four-colours";
 
 pub fn is_listed(listed: &[String], name: &str) -> bool {
     listed.iter().any(|other| other == name)
@@ -54,6 +55,8 @@ fn by_equation(case: &Case, given: &[u32], listed: &[String]) -> Vec<u32> {
         Half::Rgba1 if is_listed(listed, RGBA1_TRANSPARENT) => transparent_is_zero(case, given),
         Half::Eac if is_listed(listed, EAC_LOWEST_BASE) => in_listed_order(&lowest_base_raised(case), listed),
         Half::Eac => in_listed_order(case, listed),
+        Half::Nibbles if is_listed(listed, BC2_FOUR_COLOURS) => by_crate(&colours_exchanged(case)),
+        Half::Rgtc if is_signed(case.reader) => signed_values(case),
         Half::DesktopAlpha if case.reader == BLOCK_BC3_ALPHA => first_sixteen(case, given, listed),
         Half::DesktopAlpha => {
             let four = is_listed(listed, BC3_FOUR_COLOURS).then(|| by_crate(&colours_exchanged(case)));
@@ -93,7 +96,7 @@ fn transparent_is_zero(case: &Case, given: &[u32]) -> Vec<u32> {
     given.iter().enumerate().map(zeroed).collect()
 }
 
-/// BC3: the blocks of which the crate's reading is the public one, four colours whatever their order. Where the first
+/// BC2 and BC3: the blocks of which the crate's reading is the public one, four colours whatever their order. Where the first
 /// is below the second they are exchanged, and with them the indices 0 and 1, and 2 and 3; two equal ones are one colour.
 fn colours_exchanged(case: &Case) -> Case {
     let mut exchanged = case.clone();
@@ -111,6 +114,20 @@ fn colours_exchanged(case: &Case) -> Case {
         half[4..].copy_from_slice(&indices.to_le_bytes());
     }
     exchanged
+}
+
+/// BC4 and BC5, signed: the unsigned rule of the bytes 127 above the values, of which -128 is -127. None of them is 255, so where that comes
+/// back it is the greatest value of the fifths, and 254.
+fn signed_values(case: &Case) -> Vec<u32> {
+    let mut moved = case.clone();
+    let as_byte = |b: u8| ((b as i8).max(-127) as i16 + 127) as u8;
+    moved.data.chunks_exact_mut(8).for_each(|half| (half[0], half[1]) = (as_byte(half[0]), as_byte(half[1])));
+    let mut image = by_crate(&moved);
+    for pixel in &mut image[..painted(case)] {
+        let [blue, green, red, alpha] = pixel.to_le_bytes();
+        *pixel = u32::from_le_bytes([blue, green.min(254), red.min(254), alpha]);
+    }
+    image
 }
 
 /// BC3's alpha half, alone or in a block: the crate's elements 0 to 15, and behind them what stood there.
@@ -226,6 +243,9 @@ fn crate_picture(case: &Case, image: &mut [u32]) -> Result<(), &'static str> {
         BC1 => given::decode_bc1,
         BC1A => given::decode_bc1a,
         BC3 => given::decode_bc3,
+        BC2 => given::decode_bc2,
+        BC4 | BC4_SIGNED => given::decode_bc4,
+        BC5 | BC5_SIGNED => given::decode_bc5,
         _ => given::decode_bc7,
     };
     decode(&case.data, case.width as usize, case.height as usize, image)
@@ -248,6 +268,9 @@ fn crate_block(case: &Case, image: &mut [u32]) {
         BLOCK_BC1 => given::decode_bc1_block(data, image),
         BLOCK_BC1A => given::decode_bc1a_block(data, image),
         BLOCK_BC3 => given::decode_bc3_block(data, image),
+        BLOCK_BC2 => given::decode_bc2_block(data, image),
+        BLOCK_BC4 | BLOCK_BC4_SIGNED => given::decode_bc4_block(data, image),
+        BLOCK_BC5 | BLOCK_BC5_SIGNED => given::decode_bc5_block(data, image),
         BLOCK_BC3_ALPHA => given::decode_bc3_alpha(data, image, case.channel as usize),
         _ => given::decode_bc7_block(data, image),
     }

@@ -2,6 +2,8 @@
 //! the differences; or writes down what the other decoders answer. Run by oracle/compare,
 //! oracle/second and oracle/record, which say how.
 
+mod bakings;
+mod bits;
 mod blocks;
 mod cases;
 mod census;
@@ -9,6 +11,7 @@ mod desktop;
 mod examples;
 mod expected;
 mod pictures;
+mod pieces;
 mod pitched;
 mod protocol;
 mod random;
@@ -19,6 +22,8 @@ mod rows;
 mod rules;
 mod second;
 mod specimens;
+mod stored;
+mod swept;
 
 use protocol::Peer;
 use report::Report;
@@ -43,6 +48,8 @@ pub struct Options {
     /// What the stored list says of itself, and the folder that it goes to.
     about: String,
     folder: String,
+    /// Rows of oracle/bake.
+    bakings: String,
 }
 
 fn options(words: &[String]) -> Options {
@@ -63,6 +70,7 @@ fn options(words: &[String]) -> Options {
         program: text("--program"),
         about: text("--about"),
         folder: text("--folder"),
+        bakings: text("--bakings"),
     }
 }
 
@@ -95,6 +103,8 @@ fn compare(options: &Options) -> Result<bool> {
     same &= compare_specimens(options)?;
     same &= examples::of_crate(&options.program)?;
     same &= examples::crate_has_no_such_refusal();
+    same &= examples::modeless_are_refused(&options.program)?;
+    same &= examples::lowest_base_counted();
     same &= census::by_hand(&options.program)?;
     let asked = |reader: &u32| options.only.is_empty() || options.only == readers::name(*reader);
     for reader in readers::PICTURES.into_iter().chain(readers::BLOCKS).chain(readers::CENSUSES).filter(asked) {

@@ -33,9 +33,8 @@ pub type Pair = (Case, Answer);
 
 impl Case {
     pub fn bytes(&self) -> Vec<u8> {
-        let (data, image) = (self.data.len() as u32, self.image.len() as u32);
-        let head = [self.reader, self.channel, self.width, self.height, data, image];
-        [bytes(&head), self.data.clone(), bytes(&self.image)].concat()
+        let numbers = [self.reader, self.channel, 0, 0, self.width, self.height].map(u64::from);
+        case_bytes(numbers, &self.data, &self.image)
     }
 }
 
@@ -45,7 +44,13 @@ impl Answer {
     }
 }
 
-fn bytes(words: &[u32]) -> Vec<u8> {
+/// A case by its number, a, b, c, width and height, which are of 64 bits there.
+pub fn case_bytes(numbers: [u64; 6], data: &[u8], image: &[u32]) -> Vec<u8> {
+    let head = numbers.into_iter().chain([data.len() as u64, image.len() as u64]);
+    [head.flat_map(u64::to_le_bytes).collect(), data.to_vec(), bytes(image)].concat()
+}
+
+pub fn bytes(words: &[u32]) -> Vec<u8> {
     words.iter().flat_map(|w| w.to_le_bytes()).collect()
 }
 

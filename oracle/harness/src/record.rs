@@ -1,52 +1,26 @@
-//! The stored list that crates/answers replays: a few hundred cases with the answers of
-//! decoders that nobody here wrote, and censuses counted from the bytes. The program under test
-//! is not asked.
+//! The stored list that crates/replay replays: cases with the answers of decoders that nobody here
+//! wrote, censuses counted from the bytes, and every size, gap and cut as rows. The program under
+//! test is not asked.
 
+use crate::bakings;
+use crate::bits;
 use crate::cases::{stored_accepted_plan, stored_pitched_plan, stored_plan};
 use crate::census;
 use crate::expected::expected;
 use crate::pictures;
-use crate::protocol::{ask, Case, Pair};
+use crate::pieces;
+use crate::protocol::{ask, Answer, Case, Pair};
 use crate::readers::*;
 use crate::rules::verdict;
-use crate::second::from_mesa;
-use crate::specimens::specimens;
+use crate::second::{for_ours, from_mesa, wide};
+use crate::specimens::{block_cases, picture_cases, specimens};
+use crate::stored::{List, Row, Whole, OLD};
+use crate::swept;
 use std::io::{Error, Result};
 
 const TEXT: usize = 1024;
-const NAME: usize = 44;
 /// The largest picture that is stored, in pixels: published ones are stored from their third level on.
 const MOST_PIXELS: usize = 16 * 8;
-
-/// The list as the program reads it, and what it has to write.
-struct List {
-    bytes: Vec<u8>,
-    lines: String,
-}
-
-impl List {
-    /// A group of cases none of which may differ.
-    fn group(&mut self, name: &str, pairs: &[Pair]) {
-        self.put(name, pairs);
-        self.lines += &format!("{name:<NAME$}{} cases, 0 differ\n", pairs.len());
-    }
-
-    /// A group of answers that are wrong on purpose: every case has to be named.
-    fn wrong(&mut self, name: &str, pairs: &[Pair]) {
-        self.put(name, pairs);
-        self.lines.extend((0..pairs.len()).map(|i| format!("  case {i} differs\n")));
-        self.lines += &format!("{name:<NAME$}{0} cases, {0} differ\n", pairs.len());
-    }
-
-    fn put(&mut self, name: &str, pairs: &[Pair]) {
-        self.bytes.extend(format!("{name:<NAME$}").into_bytes());
-        self.bytes.extend((pairs.len() as u32).to_le_bytes());
-        for (case, due) in pairs {
-            self.bytes.extend(case.bytes());
-            self.bytes.extend(due.bytes());
-        }
-    }
-}
 
 pub fn record(options: &crate::Options) -> Result<bool> {
     let mut list = List { bytes: text(&options.about)?, lines: String::new() };
@@ -74,11 +48,66 @@ pub fn record(options: &crate::Options) -> Result<bool> {
         list.group(&format!("with a pitch: {}", name(reader)), &pairs);
     }
     seconds(options, &mut list)?;
+    list.group("blocks of document 01, and of every mode", &by_crate(block_cases(), &options.listed));
+    list.wholes("blocks: the largest channel", &largest_channels());
+    list.group("pictures of document 01", &by_crate(picture_cases(), &options.listed));
+    swept::put(&mut list, &options.listed);
+    pieces::put(&mut list, &options.listed);
+    bits::put(&mut list, &options.listed);
+    bakings::put(&mut list, &options.bakings)?;
     list.wrong("wrong on purpose: a bit of an image", &wrong_images(&shown));
     list.wrong("wrong on purpose: a bit of an answer", &wrong_answers(&shown[0], &added)?);
+    list.wrong_rows("wrong on purpose: a bit behind a row", &wrong_rows(&options.listed));
     std::fs::write(format!("{}/stdin", options.folder), &list.bytes)?;
     std::fs::write(format!("{}/stdout", options.folder), &list.lines)?;
     Ok(true)
+}
+
+fn by_crate(cases: Vec<Case>, listed: &[String]) -> Vec<Pair> {
+    let due = |case: Case| (case.clone(), expected(&case, listed).answer);
+    cases.into_iter().map(due).collect()
+}
+
+fn largest_channels() -> Vec<Whole> {
+    let of = |reader: u32| {
+        let (data, image) = (vec![0x80; 8], vec![OLD; 17]);
+        let due = Answer { number: 5, block: 0, image: image.clone() };
+        Whole { numbers: [reader as u64, u64::MAX, 0, 0, 0, 0], data, image, due }
+    };
+    [BLOCK_EAC, BLOCK_EAC_SIGNED, BLOCK_BC3_ALPHA].map(of).into()
+}
+
+// Whole values of eleven bits as Mesa shows them, without a pitch and with the width as the pitch.
+fn stored_wide(reader: u32, options: &crate::Options) -> Result<Vec<Pair>> {
+    let cases = stored_accepted_plan(reader, options.seed, false).iter().map(|shape| shape.case()).collect();
+    let mut pairs = Vec::new();
+    for (case, seen) in ask(&options.mesa, cases)? {
+        let due = from_mesa(&case, seen, wide(reader));
+        let plain = for_ours(case, wide(reader));
+        let pitched = Case { reader: plain.reader + PITCHED, channel: plain.width, ..plain.clone() };
+        pairs.extend([(plain, due.clone()), (pitched, due)]);
+    }
+    Ok(pairs)
+}
+
+// Five by five in rows of five: a side, the pitch, the data, the image; each is found before the later ones.
+fn wide_refusals() -> Vec<Pair> {
+    let mut pairs = Vec::new();
+    for reader in WIDE_EACR..=WIDE_EACRG_SIGNED {
+        let (bytes, elements) = (4 * block_size(reader), 25 * elements(reader));
+        let shapes = [(65_537, 4, bytes - 1, 1), (5, 4, bytes - 1, 12), (5, 5, bytes - 1, 2), (5, 5, bytes, 3)];
+        for (width, pitch, bytes, number) in shapes {
+            let image = vec![OLD & 0xffff; elements - 1];
+            let data = vec![0x5a; bytes];
+            let due = Answer { number, block: 0, image: image.clone() };
+            let case = Case { reader: reader + PITCHED, channel: pitch, width, height: 5, data, image };
+            if number != 12 {
+                pairs.push((Case { reader, ..case.clone() }, due.clone()));
+            }
+            pairs.push((case, due));
+        }
+    }
+    pairs
 }
 
 // What the list says of itself, in its first bytes.
@@ -141,19 +170,42 @@ fn wrong_answers(accepted: &Pair, refusals: &[Pair]) -> Result<Vec<Pair>> {
     Ok(wrong)
 }
 
+// Rows with one bit wrong in the first and the last element, in the number, and in the block that a refusal names.
+fn wrong_rows(listed: &[String]) -> Vec<(Row, Answer)> {
+    let mut wrong = Vec::new();
+    for (reader, plain) in [(ETC1, false), (BC7, false), (STRICT, true), (STRICT, false)] {
+        let lengths = (4 * block_size(reader), 27);
+        let row = Row::of_reader(reader, 0, (5, 5), lengths, 5, plain);
+        let due = expected(&row.case(), listed).answer;
+        let (mut first, mut last, mut number, mut block) = (due.clone(), due.clone(), due.clone(), due);
+        first.image[0] ^= 1 << 31;
+        last.image[26] ^= 1;
+        number.number ^= 16;
+        block.block ^= 1;
+        wrong.extend([first, last, number, block].map(|due| (row.clone(), due)));
+    }
+    wrong
+}
+
 fn seconds(options: &crate::Options, list: &mut List) -> Result<()> {
     let mut cases: Vec<Case> =
         specimens().into_iter().filter(|s| s.shows() && s.case.reader == ETC1).map(|s| s.exact().0).collect();
     cases.extend(stored_accepted_plan(ETC1, options.seed, false).iter().map(|shape| shape.case()));
     list.group("Android: etc1", &ask(&options.android, cases)?);
-    for reader in FORMATS {
+    // Mesa rounds the signed values of BC4 and BC5 another way (docs/DIFFERENCES.md).
+    for reader in FORMATS.into_iter().filter(|&reader| reader != BC4_SIGNED && reader != BC5_SIGNED) {
         let shapes = stored_accepted_plan(reader, options.seed, reader == ETC1);
         let cases = shapes.iter().map(|shape| shape.case()).collect();
         let seen = ask(&options.mesa, cases)?;
         let pairs: Vec<Pair> =
             seen.into_iter().map(|(case, seen)| (case.clone(), from_mesa(&case, seen, reader))).collect();
         list.group(&format!("Mesa: {}", name(reader)), &pairs);
+        if is_eac(reader) {
+            let asked: Vec<Pair> = stored_wide(reader, options)?;
+            list.group(&format!("Mesa, eleven bits: {}", name(reader)), &asked);
+        }
     }
+    list.group("eleven bits: refusals", &wide_refusals());
     for path in pictures::list(&options.pictures)? {
         for (what, mut levels) in pictures::published_levels(&path)? {
             levels.retain(|(case, _)| case.image.len() <= MOST_PIXELS);

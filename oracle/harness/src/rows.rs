@@ -2,13 +2,13 @@
 //! and every field of every kind, with the answers of the crate, which Mesa and Android must share where they can be
 //! asked. The program under test is not asked.
 
-use crate::blocks::{bc7, channel, colour, desktop, desktop_alpha, h_orders};
+use crate::blocks::{bc7, channel, colour, desktop, desktop_alpha, h_orders, rgtc};
 use crate::expected::expected;
 use crate::protocol::{ask, Answer, Case, Pair};
 use crate::random::Random;
 use crate::readers::*;
 use crate::rules::verdict;
-use crate::second::{from_mesa, wrapped_halves};
+use crate::second::{from_mesa, rounded, wrapped_halves};
 use std::cmp::Ordering::{self, Equal, Greater, Less};
 use std::fmt::Write;
 use std::io::{Error, Result};
@@ -49,7 +49,7 @@ fn of_kinds(kinds: &[usize], random: &mut Random) -> Vec<Block> {
 // Each group has numbers of its own, so that a change in one leaves the others as they are. Two, made at the same time by two requests,
 // begin at the same.
 fn rows(seed: u64) -> Vec<Row> {
-    let groups: [(u64, fn(&mut Random) -> Vec<Row>); 12] = [
+    let groups: [(u64, fn(&mut Random) -> Vec<Row>); 13] = [
         (0, glance),
         (1, single),
         (2, etc1),
@@ -62,6 +62,7 @@ fn rows(seed: u64) -> Vec<Row> {
         (8, desktops),
         (9, bptc),
         (10, inside),
+        (11, rest_of_the_desktop),
     ];
     groups.into_iter().flat_map(|(number, group)| group(&mut Random::new(seed << 8 | number))).collect()
 }
@@ -341,6 +342,30 @@ fn inside(random: &mut Random) -> Vec<Row> {
     ]
 }
 
+// BC2, BC4 and BC5: every index, each order of two colours and of two values, equal ones too, and the lowest signed ones.
+fn rest_of_the_desktop(random: &mut Random) -> Vec<Row> {
+    let sixteen: Vec<Block> =
+        (0..4).flat_map(|kind| [random.next().to_le_bytes(), every_two_bits(desktop(kind, random), kind)]).collect();
+    let mut halves = |count: usize| -> Vec<Block> {
+        (0..count).map(|kind| every_three_bits(rgtc(kind % 8, random), kind / 2)).collect()
+    };
+    let (red, signed, both, both_signed) = (halves(8), halves(8), halves(8), halves(8));
+    let lowest = [[0x81, 0x80, 0x88, 0xc6, 0xfa, 0x88, 0xc6, 0xfa]];
+    vec![
+        picture("BC2: four colours in either order", BC2, (16, 2), &sixteen),
+        picture("BC4: sevenths, fifths, and equal ones", BC4, (32, 2), &red),
+        picture("BC4 signed", BC4_SIGNED, (32, 2), &signed),
+        picture("BC4 signed: -127 and -128 are equal", BC4_SIGNED, (4, 2), &lowest),
+        picture("BC5", BC5, (16, 2), &both),
+        picture("BC5 signed", BC5_SIGNED, (16, 2), &both_signed),
+        lone(BLOCK_BC2, &[random.next().to_le_bytes(), desktop(1, random)]),
+        lone(BLOCK_BC4, &[rgtc(1, random)]),
+        lone(BLOCK_BC4_SIGNED, &[rgtc(1, random)]),
+        lone(BLOCK_BC5, &[rgtc(0, random), rgtc(1, random)]),
+        lone(BLOCK_BC5_SIGNED, &[rgtc(0, random), rgtc(1, random)]),
+    ]
+}
+
 pub fn write(options: &crate::Options) -> Result<bool> {
     let rows = rows(options.seed);
     let pairs: Vec<Pair> =
@@ -369,7 +394,8 @@ fn shared(options: &crate::Options, pairs: &[Pair]) -> Result<()> {
         for (case, seen) in ask(program, cases)? {
             let due = expected(&case, &options.listed).answer;
             let left = if label == "Mesa" { wrapped_halves(&case) } else { Vec::new() };
-            let mut seen = if label == "Mesa" { from_mesa(&case, seen, case.reader) } else { seen };
+            let seen = if label == "Mesa" { from_mesa(&case, seen, case.reader) } else { seen };
+            let mut seen = rounded(&case, seen, &due.image);
             left.iter().for_each(|&k| seen.image[k] = due.image[k]);
             if seen != due {
                 return Err(Error::other(format!(
@@ -460,6 +486,11 @@ fn antt_format(reader: u32) -> &'static str {
         "Bc1Alpha",
         "Bc3",
         "Bc7",
+        "Bc2",
+        "Bc4",
+        "Bc4Signed",
+        "Bc5",
+        "Bc5Signed",
     ];
     names[FORMATS.iter().position(|&format| format == reader).unwrap_or(0)]
 }

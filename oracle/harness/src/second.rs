@@ -22,7 +22,7 @@ pub fn mesa(options: &crate::Options) -> Result<bool> {
     Ok(same)
 }
 
-/// One format alone, by Mesa, EAC also by the readers of whole values and at every base, and BC7 by Pillow too.
+/// One format alone, by Mesa, EAC also by the readers of whole values and at every base, and BC4, BC5 and BC7 by Pillow too.
 pub fn only(options: &crate::Options) -> Result<bool> {
     let mut same = true;
     for reader in FORMATS.into_iter().filter(|&reader| name(reader) == options.only) {
@@ -31,8 +31,12 @@ pub fn only(options: &crate::Options) -> Result<bool> {
             same &= against(reader, options, &options.mesa, "Mesa, eleven bits,", wide(reader))?;
             same &= at_every_base(reader, options)?;
         }
+        same &= pillow(options)?;
+        if reader == BC2 {
+            same &= against(reader, options, &options.squish, "squish", reader)?;
+        }
         if reader == BC7 {
-            same &= pillow(options)? & crate::desktop::compare(options)?;
+            same &= crate::desktop::compare(options)?;
         }
     }
     Ok(same)
@@ -43,18 +47,24 @@ pub fn android(options: &crate::Options) -> Result<bool> {
     against(ETC1, options, &options.android, "Android", ETC1)
 }
 
-/// libsquish, which has one rule for BC1, with alpha, and reads BC3.
+/// libsquish, which has one rule for BC1, with alpha, and reads BC2 and BC3.
 pub fn squish(options: &crate::Options) -> Result<bool> {
     let mut same = true;
-    for reader in [BC1A, BC3] {
+    for reader in [BC1A, BC2, BC3] {
         same &= against(reader, options, &options.squish, "squish", reader)?;
     }
     Ok(same)
 }
 
-/// Pillow, for BC7. Of a block without a mode it makes opaque black, so those are left to Mesa.
+/// Pillow, for BC4, BC5 and BC7. Of a BC7 block without a mode it makes opaque black, so those are left to Mesa; its signed BC5 has another
+/// range.
 pub fn pillow(options: &crate::Options) -> Result<bool> {
-    against(BC7, options, &options.pillow, "Pillow", BC7)
+    let mut same = true;
+    let asked = |reader: &u32| options.only.is_empty() || options.only == name(*reader);
+    for reader in [BC4, BC5, BC7].into_iter().filter(asked) {
+        same &= against(reader, options, &options.pillow, "Pillow", reader)?;
+    }
+    Ok(same)
 }
 
 /// Pictures with a pitch, in all formats by Mesa, and in ETC1 by Android too. The other decoder is given
@@ -75,8 +85,9 @@ fn gapped(reader: u32, options: &crate::Options, other: &str, label: &str) -> Re
     let seen = ask(other, cases.iter().map(gathered).collect())?;
     for ((dense, seen), (case, got)) in seen.into_iter().zip(ask(&options.program, cases)?) {
         let left = if label == "Android" { Vec::new() } else { wrapped_halves(&dense) };
-        let mut shown = if label == "Android" { seen } else { from_mesa(&dense, seen, reader) };
+        let shown = if label == "Android" { seen } else { from_mesa(&dense, seen, reader) };
         let painted = pixels(&case, &got.image);
+        let mut shown = rounded(&dense, shown, &painted);
         left.iter().for_each(|&k| shown.image[k] = painted[k]);
         let due = Answer { image: put_back(&case, &shown.image), ..shown };
         report.count(&case, &due, &got, left.len());
@@ -116,10 +127,11 @@ fn against(reader: u32, options: &crate::Options, other: &str, label: &str, aske
     while let (Some((case, seen)), Some((as_asked, got))) = (theirs.next()?, ours.next()?) {
         let left = match label {
             "Android" => Vec::new(),
-            "Pillow" => without_a_mode(&case),
+            "Pillow" if reader == BC7 => without_a_mode(&case),
             _ => wrapped_halves(&case),
         };
-        let mut due = if label == "Android" { seen } else { from_mesa(&case, seen, asked) };
+        let due = if label == "Android" { seen } else { from_mesa(&case, seen, asked) };
+        let mut due = rounded(&case, due, &got.image);
         left.iter().for_each(|&k| due.image[k] = got.image[k]);
         report.count(&as_asked, &due, &got, left.len());
     }
@@ -153,7 +165,7 @@ fn at_every_base(reader: u32, options: &crate::Options) -> Result<bool> {
 }
 
 // The reader of whole values of a format of EAC.
-fn wide(reader: u32) -> u32 {
+pub fn wide(reader: u32) -> u32 {
     reader + WIDE_EACR - EACR
 }
 
@@ -168,7 +180,7 @@ fn every_channel(reader: u32, base: u8) -> Case {
     Case { reader, channel: 0, width: 512, height: 8, data: blocks.collect(), image: vec![0; 512 * 8] }
 }
 
-fn for_ours(mut case: Case, asked: u32) -> Case {
+pub fn for_ours(mut case: Case, asked: u32) -> Case {
     if asked == WIDE_EACRG || asked == WIDE_EACRG_SIGNED {
         case.image.extend_from_within(..);
     }
@@ -179,11 +191,29 @@ fn for_ours(mut case: Case, asked: u32) -> Case {
 /// Mesa's answer in the form of the reader asked.
 pub fn from_mesa(case: &Case, seen: Answer, asked: u32) -> Answer {
     let image = match case.reader {
-        ETC1 | RGB | RGBA1 | RGBA8 | BC1 | BC1A | BC3 | BC7 => seen.image,
+        reader if !is_eac(reader) => seen.image,
         reader if asked == reader => seen.image.iter().map(|&both| pixel(reader, both)).collect(),
         reader => seen.image.iter().flat_map(|&both| values(reader, both)).collect(),
     };
     Answer { image, ..seen }
+}
+
+/// Mesa rounds the signed values of BC4 and BC5 towards zero and takes -128 as it is, so it may be one from ours; and it has -127 above -128,
+/// which the Khronos text leaves open. There ours are taken as answered.
+pub fn rounded(case: &Case, mut seen: Answer, ours: &[u32]) -> Answer {
+    if half(case.reader, false) != Half::Rgtc || !is_signed(case.reader) {
+        return seen;
+    }
+    let (width, size) = (case.width as usize, block_size(case.reader));
+    for (k, (theirs, &ours)) in seen.image.iter_mut().zip(ours).enumerate() {
+        let at = size * (k / width / 4 * blocks_across(case.width) + k % width / 4);
+        let open = case.data[at..at + size].chunks(8).any(|half| half[..2] == [0x81, 0x80]);
+        let near = theirs.to_le_bytes().into_iter().zip(ours.to_le_bytes()).all(|(a, b)| a.abs_diff(b) <= 1);
+        if open || near {
+            *theirs = ours;
+        }
+    }
+    seen
 }
 
 // Of ETC1 blocks with a sum out of range Mesa does not wrap the second base, so their

@@ -131,3 +131,77 @@ fn places() -> Vec<Specimen> {
         refused(ETC1, (65_537, 0), &[], 1, 0),
     ]
 }
+
+/// What the block readers are shown besides, over seventeen elements: 01's specimens as blocks, one byte into each channel, black and
+/// white with every index, and BC7 in every mode.
+pub fn block_cases() -> Vec<Case> {
+    let mut list = Vec::new();
+    let mut add = |reader, channel, data: &[u8]| {
+        list.push(Case { reader, channel, width: 0, height: 0, data: data.to_vec(), image: vec![OLD; 17] });
+    };
+    for (reader, blocks) in BLOCK_SPECIMENS {
+        for block in blocks {
+            add(reader, 0, &[*block, [0; 8]].concat());
+        }
+    }
+    for (reader, first, second) in PAIRS {
+        add(reader, 0, &[first.to_be_bytes(), second.to_be_bytes()].concat());
+    }
+    for reader in [BLOCK_EAC, BLOCK_EAC_SIGNED, BLOCK_BC3_ALPHA] {
+        for channel in 0..=4 {
+            add(reader, channel, &0x8010_0005_3977_0affu64.to_be_bytes());
+        }
+    }
+    bc7_blocks().iter().for_each(|block| add(BLOCK_BC7, 0, block));
+    list
+}
+
+const BLOCK_SPECIMENS: [(u32, &[[u8; 8]]); 8] = [
+    (BLOCK_ETC1, &[[0; 8], S2, S6, S7, S8, S9]),
+    (BLOCK_RGB, &[[0; 8], S2, [0, 4, 0, 2, 0, 0, 0, 0], [0, 0, 4, 2, 0, 0, 0, 0x3f]]),
+    (BLOCK_RGBA1, &[[0; 8], [0x80, 0, 0, 0, 0xff, 0xff, 0, 0]]),
+    (BLOCK_A8, &[[0x80, 0x10, 0, 0, 0, 0, 0, 0], [0x80, 0, 0, 0, 0, 0, 0, 0], [2, 0x10, 0, 0, 0, 0, 0, 0]]),
+    (BLOCK_EACR, &[[0x80, 0x10, 0, 0, 0, 0, 0, 0], [0x80, 0, 0, 0, 0, 0, 0, 0]]),
+    (BLOCK_EACR_SIGNED, &[[0, 0x10, 0, 0, 0, 0, 0, 0]]),
+    (BLOCK_BC1, &[[0, 0, 0xff, 0xff, 0xe4, 0xe4, 0xe4, 0xe4], [0xff, 0xff, 0, 0, 0xe4, 0xe4, 0xe4, 0xe4]]),
+    (BLOCK_BC1A, &[[0, 0, 0xff, 0xff, 0xe4, 0xe4, 0xe4, 0xe4], [0xff, 0xff, 0xff, 0xff, 0xe4, 0xe4, 0xe4, 0xe4]]),
+];
+
+const S6: [u8; 8] = [0xf8, 0, 0, 2, 0, 0, 0, 0];
+const S7: [u8; 8] = [0xf9, 0, 0, 2, 0, 0, 0, 0];
+const S8: [u8; 8] = [0x24, 0, 0, 2, 0, 0, 0, 0];
+const S9: [u8; 8] = [0x1c, 0, 0, 2, 0, 0, 0, 0];
+
+/// Blocks of sixteen bytes made of two specimens, and BC3 with fifths and with sevenths.
+const PAIRS: [(u32, u64, u64); 5] = [
+    (BLOCK_RGBA8, 0x8010_0000_0000_0000, 0x0400_0002_0000_0000),
+    (BLOCK_EACRG, 0x8010_0000_0000_0000, 0x8000_0000_0000_0000),
+    (BLOCK_EACRG_SIGNED, 0x0010_0000_0000_0000, 0x0010_0000_0000_0000),
+    (BLOCK_BC3, 0x10f3_88c6_fa53_8821, 0x0000_ffff_e4e4_e4e4),
+    (BLOCK_BC3, 0xf310_88c6_fa53_8821, 0xffff_0000_e4e4_e4e4),
+];
+
+/// A block of each mode of BC7, and one without.
+pub fn bc7_blocks() -> Vec<[u8; 16]> {
+    let rest = [0x3a, 0x9c, 0x71, 0xe4, 0x27, 0x0b, 0x86, 0x1f, 0x3d, 0x5b, 0x79, 0x97, 0xa6, 0xc4, 0xe2];
+    let with = |first: u8, rest: [u8; 15]| std::array::from_fn(|k| if k == 0 { first } else { rest[k - 1] });
+    let modes = [0x5d, 0x5e, 0x5c, 0x58, 0xb0, 0x60, 0x40, 0x80].map(|first| with(first, rest));
+    modes.into_iter().chain([with(0, [0xff; 15])]).collect()
+}
+
+/// S16 and S17 once more, S17 with an image that is longer than the picture.
+pub fn picture_cases() -> Vec<Case> {
+    let two = [S2, [0; 8]].concat();
+    let four = [[0; 8], [0; 8], [0; 8], [4, 0, 0, 2, 0xff, 0xff, 0, 0]].concat();
+    let case = |reader, (width, height), data: &[u8], elements| Case {
+        reader,
+        channel: 0,
+        width,
+        height,
+        data: data.to_vec(),
+        image: vec![OLD; elements],
+    };
+    let seventeen = [(32, 25), (32, 26), (31, 25), (32, 24), (31, 24)];
+    let shown = seventeen.into_iter().map(|(bytes, elements)| case(ETC1, (5, 5), &four[..bytes], elements));
+    [case(ETC1, (5, 1), &two, 6), case(STRICT, (5, 1), &two, 6)].into_iter().chain(shown).collect()
+}

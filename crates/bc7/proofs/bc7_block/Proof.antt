@@ -6,7 +6,7 @@ use denote.Ref.{now}
 use Rattle.rules.specs.Notation.{build}
 use Rattle.rules.specs.Bc7.{blockWord, pixelOf, bc7Pixel}
 use Rattle.laws.proofs.Filled.{build-same}
-use Rattle.bc1.proofs.Shown.{by-row}
+use Rattle.bc.proofs.bc1.Shown.{by-row}
 use borrow.Author.Needs.{needs}
 use Rattle.bc7.proofs.bc7_block.Statement.{statement}
 use Rattle.bc7.proofs.bc7_block.Tie as tie

@@ -8,10 +8,10 @@ use lib.ListN.{getD}
 use Rattle.rules.specs.Notation.{build}
 use Rattle.rules.specs.Bc7.{pixelIn}
 use Rattle.rules.specs.declared.Mode.{Mode}
-use Rattle.rest.specs.Whole.{whole}
-use Rattle.bptc.specs.Layout.{layoutOf}
-use Rattle.endpoints.specs.Stages.{Sane}
-use Rattle.endpoints.proofs.Fetch.{sane}
+use Rattle.bc7.specs.rest.Whole.{whole}
+use Rattle.bc7.specs.bptc.Layout.{layoutOf}
+use Rattle.bc7.specs.endpoints.Stages.{Sane}
+use Rattle.bc7.proofs.endpoints.Fetch.{sane}
 use Rattle.bc7.proofs.Pixel.{partition-below, weights-most, one-most, weightsBy, pixels-said}
 use borrow.Author.Needs.{needs}
 use Rattle.bc7.proofs.in_mode.Statement.{statement}

@@ -9,7 +9,7 @@ use lib.Dec.{ltb}
 use lib.ListN.{replicate, getD-replicate}
 use Rattle.rules.specs.Notation.{build}
 use Rattle.rules.specs.Bc7.{lowest, modeOf, modeAt, pixelIn, pixelOf}
-use Rattle.rest.specs.Whole.{whole}
+use Rattle.bc7.specs.rest.Whole.{whole}
 use Rattle.laws.proofs.Filled.{is-build}
 use borrow.Author.Needs.{needs}
 use Rattle.bc7.proofs.of_words.Statement.{statement}

@@ -7,7 +7,7 @@ use lib.ListN.{getD}
 use borrow.Author.Tests.{eq-eqb, ne-eqb}
 use Rattle.rules.specs.Bptc.{weightsOf}
 use Rattle.rules.specs.Notation.{build}
-use Rattle.rest.specs.Whole.{whole, passedBy, widthBy}
+use Rattle.bc7.specs.rest.Whole.{whole, passedBy, widthBy}
 use borrow.Author.Needs.{needs}
 use Rattle.bc7.proofs.second_weights.Statement.{statement}
 use Rattle.bc7.proofs.second_weights.Tie as tie

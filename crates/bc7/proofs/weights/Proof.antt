@@ -10,7 +10,7 @@ use lib.ListN.{getD}
 use lib.Pow.{pow-pos, pow-mono}
 use Rattle.rules.specs.Bptc.{weightsOf}
 use Rattle.laws.proofs.Filled.{getD-build, build-same}
-use Rattle.rest.specs.Whole.{passedBy, widthBy}
+use Rattle.bc7.specs.rest.Whole.{passedBy, widthBy}
 use Rattle.bc7.proofs.Steps.{each}
 use borrow.Author.Needs.{needs}
 use Rattle.bc7.proofs.weights.Statement.{statement}

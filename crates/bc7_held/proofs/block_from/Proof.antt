@@ -14,7 +14,7 @@ use Rattle.rules.specs.declared.Answer.the-variants.{Done}
 use Rattle.laws.proofs.Number.{joined}
 use Rattle.bc7_held.specs.declared.Sixteen.{Sixteen}
 use Rattle.bc7_held.specs.Sixteen.{sixteenOf}
-use Rattle.bc7_held.proofs.Bits.{there, both}
+use Rattle.bc7_held.proofs.ByteReads.{there, both}
 use borrow.Author.Needs.{needs}
 use Rattle.bc7_held.proofs.block_from.Statement.{statement}
 use Rattle.bc7_held.proofs.block_from.Tie as tie

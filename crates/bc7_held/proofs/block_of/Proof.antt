@@ -44,10 +44,10 @@ use denote.Triple.Walked.{says, Stays, stay-none, walkOf, goes-none, Walks, ends
 use denote.Exit.{yes}
 use denote.Triple.Clauses.{ensured, lasts}
 use Rattle.bc7_held.specs.Sixteen.{blockFrom}
-use Rattle.bits.specs.declared.BitReader.{BitReader}
+use Rattle.bc7_held.specs.declared.bits.BitReader.{BitReader}
 use Rattle.bc7_held.specs.declared.Sixteen.{Sixteen}
-use Rattle.bits.proofs.BitReader as T
-use Rattle.bits.proofs.BitReader.Laws as T′
+use Rattle.bc7_held.proofs.bits.BitReader as T
+use Rattle.bc7_held.proofs.bits.BitReader.Laws as T′
 use Rattle.bc7_held.proofs.Sixteen as S
 use Rattle.bc7_held.proofs.Sixteen.Laws as S′
 use Rattle.bc7_held.proofs.block_from as from-block

@@ -2,13 +2,13 @@
 -- Assumes nothing.
 use mathlib.Core.Path.{_∙_}
 use denote.Ref.{now}
-use Rattle.bc7_held.proofs.Bits.{value, not-refused}
+use Rattle.bc7_held.proofs.ByteReads.{value, not-refused}
 use borrow.Author.Needs.{needs}
 use Rattle.bc7_held.proofs.byte_at.Statement.{statement}
 use Rattle.bc7_held.proofs.byte_at.Tie as tie
 
-bits-at-requires : tie.Need-bits-at-requires
-bits-at-requires c κs = search needs
+read-at-requires : tie.Need-read-at-requires
+read-at-requires c κs = search needs
 
 enum-known-got : tie.Need-enum-known-got
 enum-known-got c = search needs
@@ -23,14 +23,14 @@ returns : tie.Need-returns
 returns c =
     let b = c .before .before .before .before in
     let s = b .before .before in
-    (c .wide .ensures .0 ∙ value (now (s .args .s)) (s .args .place) _ (s .pre) (b .bits-at .ensures) _ (c .before .before .got .given .1), c .wide .ensures .1)
+    (c .wide .ensures .0 ∙ value (now (s .args .s)) (s .args .place) _ (s .pre) (b .read-at .ensures .0) _ (c .before .before .got .given .1), c .wide .ensures .1)
 
 returns-2 : tie.Need-returns-2
 returns-2 c =
     let b = c .before .before in
     let s = b .before .before in
-    absurd (not-refused (now (s .args .s)) (s .args .place) _ (s .pre) (b .bits-at .ensures) (c .enum-told .given .1))
+    absurd (not-refused (now (s .args .s)) (s .args .place) _ (s .pre) (b .read-at .ensures .0) (c .enum-told .given .1))
 
 pub byte-at-spec : {M : Type 1} → statement M
 byte-at-spec =
-    tie.close (tie.spec bits-at-requires enum-known-got wide-requires enum-told returns returns-2)
+    tie.close (tie.spec read-at-requires enum-known-got wide-requires enum-told returns returns-2)

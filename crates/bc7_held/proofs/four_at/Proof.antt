@@ -6,7 +6,7 @@ use native.Mathlib.Omega.{arith}
 use denote.Ref.{now}
 use Rattle.rules.specs.Bits.{fieldAt}
 use Rattle.laws.proofs.Refuse.{within}
-use Rattle.bc7_held.proofs.Bits.{four, below}
+use Rattle.bc7_held.proofs.ByteReads.{four, below}
 use borrow.Author.Needs.{needs}
 use Rattle.bc7_held.proofs.four_at.Statement.{statement}
 use Rattle.bc7_held.proofs.four_at.Tie as tie

@@ -4,7 +4,7 @@ use mathlib.Core.Path.{_∙_, sym}
 use native.Mathlib.Omega.{arith}
 use lib.ListN.{length}
 use denote.Ref.{now}
-use Rattle.bc7_held.proofs.Bits.{too-far, near, same-end}
+use Rattle.bc7_held.proofs.ByteReads.{too-far, near, same-end}
 use borrow.Author.Needs.{needs}
 use Rattle.bc7_held.proofs.missing.Statement.{statement}
 use Rattle.bc7_held.proofs.missing.Tie as tie

@@ -2,7 +2,7 @@
 -- Assumes nothing.
 use denote.Ref.{now}
 use Rattle.laws.proofs.Number.{joined}
-use Rattle.bc7_held.proofs.Bits.{both}
+use Rattle.bc7_held.proofs.ByteReads.{both}
 use borrow.Author.Needs.{needs}
 use Rattle.bc7_held.proofs.word_at.Statement.{statement}
 use Rattle.bc7_held.proofs.word_at.Tie as tie

@@ -92,6 +92,41 @@ run-bc7-requires : tie.Need-run-bc7-requires
 unfolding sizeOf
 run-bc7-requires c κs = let s = c .before .before .before .before .before in (enough (s .args .n) (c .before .enum-told12 .given .1) (s .pre .0), s .pre .1)
 
+enum-told-13 : tie.Need-enum-told-13
+enum-told-13 c = search needs
+
+run-bc2-requires : tie.Need-run-bc2-requires
+unfolding sizeOf
+run-bc2-requires c κs = let s = c .before .before .before .before .before in (enough (s .args .n) (c .before .enum-told13 .given .1) (s .pre .0), s .pre .1)
+
+enum-told-14 : tie.Need-enum-told-14
+enum-told-14 c = search needs
+
+run-bc4-requires : tie.Need-run-bc4-requires
+unfolding sizeOf
+run-bc4-requires c κs = let s = c .before .before .before .before .before in (enough (s .args .n) (c .before .enum-told14 .given .1) (s .pre .0), s .pre .1)
+
+enum-told-15 : tie.Need-enum-told-15
+enum-told-15 c = search needs
+
+run-bc4-requires-2 : tie.Need-run-bc4-requires-2
+unfolding sizeOf
+run-bc4-requires-2 c κs = let s = c .before .before .before .before .before in (enough (s .args .n) (c .before .enum-told15 .given .1) (s .pre .0), s .pre .1)
+
+enum-told-16 : tie.Need-enum-told-16
+enum-told-16 c = search needs
+
+run-bc5-requires : tie.Need-run-bc5-requires
+unfolding sizeOf
+run-bc5-requires c κs = let s = c .before .before .before .before .before in (enough (s .args .n) (c .before .enum-told16 .given .1) (s .pre .0), s .pre .1)
+
+enum-told-17 : tie.Need-enum-told-17
+enum-told-17 c = search needs
+
+run-bc5-requires-2 : tie.Need-run-bc5-requires-2
+unfolding sizeOf
+run-bc5-requires-2 c κs = let s = c .before .before .before .before .before in (enough (s .args .n) (c .before .enum-told17 .given .1) (s .pre .0), s .pre .1)
+
 same-length : tie.Need-same-length
 same-length c = search needs
 
@@ -212,6 +247,56 @@ returns-12 c =
     let a = t .before .before .before .before .args in
     shown (now (a .«data»)) (a .pic) (a .bx) (a .by) (a .n) (now (a .image)) _ (t .enum-told12 .given .1) (c .before .before .run-bc7 .ensures)
 
+same-length-13 : tie.Need-same-length-13
+same-length-13 c = search needs
+
+returns-13 : tie.Need-returns-13
+unfolding showsOf sizeOf
+returns-13 c =
+    let t = c .before .before .before .before in
+    let a = t .before .before .before .before .args in
+    shown (now (a .«data»)) (a .pic) (a .bx) (a .by) (a .n) (now (a .image)) _ (t .enum-told13 .given .1) (c .before .before .run-bc2 .ensures)
+
+same-length-14 : tie.Need-same-length-14
+same-length-14 c = search needs
+
+returns-14 : tie.Need-returns-14
+unfolding showsOf sizeOf
+returns-14 c =
+    let t = c .before .before .before .before in
+    let a = t .before .before .before .before .args in
+    shown (now (a .«data»)) (a .pic) (a .bx) (a .by) (a .n) (now (a .image)) _ (t .enum-told14 .given .1) (c .before .before .run-bc4 .ensures)
+
+same-length-15 : tie.Need-same-length-15
+same-length-15 c = search needs
+
+returns-15 : tie.Need-returns-15
+unfolding showsOf sizeOf
+returns-15 c =
+    let t = c .before .before .before .before in
+    let a = t .before .before .before .before .args in
+    shown (now (a .«data»)) (a .pic) (a .bx) (a .by) (a .n) (now (a .image)) _ (t .enum-told15 .given .1) (c .before .before .run-bc42 .ensures)
+
+same-length-16 : tie.Need-same-length-16
+same-length-16 c = search needs
+
+returns-16 : tie.Need-returns-16
+unfolding showsOf sizeOf
+returns-16 c =
+    let t = c .before .before .before .before in
+    let a = t .before .before .before .before .args in
+    shown (now (a .«data»)) (a .pic) (a .bx) (a .by) (a .n) (now (a .image)) _ (t .enum-told16 .given .1) (c .before .before .run-bc5 .ensures)
+
+same-length-17 : tie.Need-same-length-17
+same-length-17 c = search needs
+
+returns-17 : tie.Need-returns-17
+unfolding showsOf sizeOf
+returns-17 c =
+    let t = c .before .before .before .before in
+    let a = t .before .before .before .before .args in
+    shown (now (a .«data»)) (a .pic) (a .bx) (a .by) (a .n) (now (a .image)) _ (t .enum-told17 .given .1) (c .before .before .run-bc52 .ensures)
+
 pub run-spec : {M : Type 1} → statement M
 run-spec =
     tie.close
@@ -240,6 +325,16 @@ run-spec =
     run-bc3-requires
     enum-told-12
     run-bc7-requires
+    enum-told-13
+    run-bc2-requires
+    enum-told-14
+    run-bc4-requires
+    enum-told-15
+    run-bc4-requires-2
+    enum-told-16
+    run-bc5-requires
+    enum-told-17
+    run-bc5-requires-2
     same-length
     returns
     same-length-2
@@ -263,4 +358,14 @@ run-spec =
     same-length-11
     returns-11
     same-length-12
-    returns-12)
+    returns-12
+    same-length-13
+    returns-13
+    same-length-14
+    returns-14
+    same-length-15
+    returns-15
+    same-length-16
+    returns-16
+    same-length-17
+    returns-17)

@@ -5,7 +5,7 @@ use native.Mathlib.Omega.{arith}
 use mathlib.Core.Bool.{false}
 use denote.Ref.{now}
 use Rattle.rules.specs.Desktop.{bc1Pixel}
-use Rattle.place.proofs.Grid.{kept}
+use Rattle.pixel.proofs.place.Grid.{kept}
 use Rattle.blocks.proofs.Beside.{Turned, start, turn, ended}
 use borrow.Author.Needs.{needs}
 use Rattle.blocks.proofs.run_bc1.Statement.{statement}

@@ -5,7 +5,7 @@ use Prim.Native.Nat.{ℕ, _+_, _-_, _*_, _≤_}
 use native.Mathlib.Omega.{arith}
 use lib.ListN.{length, length-take, length-drop}
 use denote.Ref.{now}
-use Rattle.place.proofs.Grid.{kept}
+use Rattle.pixel.proofs.place.Grid.{kept}
 use Rattle.blocks.specs.Run.{PaintsRow}
 use Rattle.blocks.specs.Colour.{colourShows}
 use Rattle.blocks.proofs.Blocks.{room}

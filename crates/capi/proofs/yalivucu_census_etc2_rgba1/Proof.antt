@@ -8,7 +8,7 @@ use borrow.Author.Needs.{needs}
 use Rattle.rules.specs.Places.{sized}
 use Rattle.rules.specs.Census.{rgba1Tests, rgba1Said}
 use Rattle.rules.specs.declared.Answer.the-variants.{TooLarge, ShortData}
-use Rattle.capi.proofs.Counted.{refused, lays}
+use Rattle.capi.proofs.Counted.{census-refused, census-lays}
 use Rattle.capi.proofs.yalivucu_census_etc2_rgba1.Statement.{statement}
 use Rattle.capi.proofs.yalivucu_census_etc2_rgba1.Tie as tie
 
@@ -34,13 +34,15 @@ returns : tie.Need-returns
 returns c =
     let k = c .before .before in
     let a = k .before .before .before .args in
-    refused rgba1Tests (now (a .«data»)) (sized (a .width) (a .height)) (now (a .counts)) TooLarge 1 refl (lit< tt) (sym (ap rgba1Said (c .enum-told .given .1)) ∙ k .census-etc2-rgba1 .ensures) refl
+    census-refused rgba1Tests (now (a .«data»)) (sized (a .width) (a .height)) (now (a .counts))
+    TooLarge 1 refl (lit< tt) (sym (ap rgba1Said (c .enum-told .given .1)) ∙ k .census-etc2-rgba1 .ensures) refl
 
 returns-2 : tie.Need-returns-2
 returns-2 c =
     let k = c .before .before in
     let a = k .before .before .before .args in
-    refused rgba1Tests (now (a .«data»)) (sized (a .width) (a .height)) (now (a .counts)) ShortData 2 refl (lit< tt) (sym (ap rgba1Said (c .enum-told2 .given .1)) ∙ k .census-etc2-rgba1 .ensures) refl
+    census-refused rgba1Tests (now (a .«data»)) (sized (a .width) (a .height)) (now (a .counts))
+    ShortData 2 refl (lit< tt) (sym (ap rgba1Said (c .enum-told2 .given .1)) ∙ k .census-etc2-rgba1 .ensures) refl
 
 same-length : tie.Need-same-length
 same-length c = search needs
@@ -51,7 +53,8 @@ returns-3 c =
     let v = l .before .before .before .before .before .before in
     let k = v .before .before in
     let a = k .before .before .before .args in
-    lays rgba1Tests (now (a .«data»)) (sized (a .width) (a .height)) (now (a .counts)) _ (sym (ap rgba1Said (v .c .given .1)) ∙ k .census-etc2-rgba1 .ensures) (l .lay .result) _ (l .lay .ensures)
+    census-lays rgba1Tests (now (a .«data»)) (sized (a .width) (a .height)) (now (a .counts))
+    _ (sym (ap rgba1Said (v .c .given .1)) ∙ k .census-etc2-rgba1 .ensures) (l .lay .result) _ (l .lay .ensures)
 
 pub yalivucu-census-etc2-rgba1-spec : {M : Type 1} → statement M
 yalivucu-census-etc2-rgba1-spec =

@@ -6,7 +6,7 @@ use denote.Ref.{now}
 use Rattle.rules.specs.Answers.{said, accepts}
 use Rattle.rules.specs.declared.Answer.{Answer}
 use Rattle.laws.proofs.Unique.{refusal}
-use Rattle.told.specs.Told.{answerNumber}
+use Rattle.capi.specs.pictures.Told.{answerNumber}
 use borrow.Author.Needs.{needs}
 use Rattle.capi.proofs.yalivucu_write_sheet.Statement.{statement}
 use Rattle.capi.proofs.yalivucu_write_sheet.Tie as tie

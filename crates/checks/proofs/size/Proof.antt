@@ -49,6 +49,21 @@ enum-told-11 c = search needs
 enum-told-12 : tie.Need-enum-told-12
 enum-told-12 c = search needs
 
+enum-told-13 : tie.Need-enum-told-13
+enum-told-13 c = search needs
+
+enum-told-14 : tie.Need-enum-told-14
+enum-told-14 c = search needs
+
+enum-told-15 : tie.Need-enum-told-15
+enum-told-15 c = search needs
+
+enum-told-16 : tie.Need-enum-told-16
+enum-told-16 c = search needs
+
+enum-told-17 : tie.Need-enum-told-17
+enum-told-17 c = search needs
+
 returns : tie.Need-returns
 unfolding sizeOf
 returns c = sized (c .enum-told .given .1) (lit≤ tt) (lit< tt)
@@ -97,6 +112,26 @@ returns-12 : tie.Need-returns-12
 unfolding sizeOf
 returns-12 c = sized (c .enum-told12 .given .1) (lit≤ tt) (lit< tt)
 
+returns-13 : tie.Need-returns-13
+unfolding sizeOf
+returns-13 c = sized (c .enum-told13 .given .1) (lit≤ tt) (lit< tt)
+
+returns-14 : tie.Need-returns-14
+unfolding sizeOf
+returns-14 c = sized (c .enum-told14 .given .1) (lit≤ tt) (lit< tt)
+
+returns-15 : tie.Need-returns-15
+unfolding sizeOf
+returns-15 c = sized (c .enum-told15 .given .1) (lit≤ tt) (lit< tt)
+
+returns-16 : tie.Need-returns-16
+unfolding sizeOf
+returns-16 c = sized (c .enum-told16 .given .1) (lit≤ tt) (lit< tt)
+
+returns-17 : tie.Need-returns-17
+unfolding sizeOf
+returns-17 c = sized (c .enum-told17 .given .1) (lit≤ tt) (lit< tt)
+
 pub size-spec : {M : Type 1} → statement M
 size-spec =
     tie.close
@@ -113,6 +148,11 @@ size-spec =
     enum-told-10
     enum-told-11
     enum-told-12
+    enum-told-13
+    enum-told-14
+    enum-told-15
+    enum-told-16
+    enum-told-17
     returns
     returns-2
     returns-3
@@ -124,4 +164,9 @@ size-spec =
     returns-9
     returns-10
     returns-11
-    returns-12)
+    returns-12
+    returns-13
+    returns-14
+    returns-15
+    returns-16
+    returns-17)

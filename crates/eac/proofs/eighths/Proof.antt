@@ -8,7 +8,7 @@ use lib.ListN.{getD}
 use mir.Syntax.{w16}
 use Rattle.laws.proofs.Filling.{Filling, inOrder, begun, stored-next, filled-all}
 use Rattle.laws.proofs.Signed.{held, held-small, mag-add}
-use Rattle.values.proofs.Whole.{as-natural}
+use Rattle.eac.proofs.values.Whole.{as-natural}
 use Rattle.eac.proofs.eighths.Statement.{statement}
 use Rattle.eac.proofs.eighths.Tie as tie
 

@@ -4,7 +4,7 @@ use native.Mathlib.Nat.{sub-zero}
 use native.Mathlib.Omega.{arith}
 use denote.Ref.{now}
 use Rattle.rules.specs.Formats.{sizeOf, showsOf}
-use Rattle.place.proofs.Grid.{roomy}
+use Rattle.pixel.proofs.place.Grid.{roomy}
 use Rattle.blocks.proofs.Blocks.{whole}
 use borrow.Author.Needs.{needs}
 use Rattle.picture.proofs.paint_all.Statement.{statement}

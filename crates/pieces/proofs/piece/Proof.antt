@@ -10,7 +10,7 @@ use Rattle.rules.specs.Answers.{said, accepts}
 use Rattle.rules.specs.Pieces.{startChecks, pieceVerdict}
 use Rattle.laws.proofs.Judged.{passed}
 use Rattle.laws.proofs.Unique.{refusal}
-use Rattle.place.proofs.Grid.{roomy}
+use Rattle.pixel.proofs.place.Grid.{roomy}
 use Rattle.checks.proofs.Checks.{within-limit}
 use Rattle.pieces.proofs.Promise.{refused, accepted}
 use borrow.Author.Needs.{needs}

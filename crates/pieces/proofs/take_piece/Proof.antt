@@ -9,7 +9,7 @@ use denote.Ref.{now}
 use Rattle.rules.specs.Places.{blocks}
 use Rattle.rules.specs.Pieces.{whole, got, later}
 use Rattle.rules.specs.declared.Progress.{Progress}
-use Rattle.kept.proofs.Numbers.{blocks-up, blocks-top, shared}
+use Rattle.pieces.proofs.kept.Numbers.{blocks-up, blocks-top, shared}
 use Rattle.pieces.proofs.Promise.{took}
 use borrow.Author.Needs.{needs}
 use Rattle.pieces.proofs.take_piece.Statement.{statement}

@@ -5,7 +5,7 @@ use native.Mathlib.Omega.{arith}
 use native.Mathlib.Nat.{add-sub-cancel-left}
 use denote.Ref.{now}
 use Rattle.sheet.proofs.Shown.{reads}
-use Rattle.sheet_read.specs.Found.{Sheeted}
+use Rattle.sheet.specs.find.Found.{Sheeted}
 use Rattle.sheet_read.proofs.Sheets.{refuses}
 use borrow.Author.Needs.{needs}
 use Rattle.sheet_read.proofs.read_sheet.Statement.{statement}
@@ -28,17 +28,17 @@ add-end c = let t = sheet c in omega (arith, t .within)
 format-of-requires : tie.Need-format-of-requires
 format-of-requires c κs = let t = sheet c in t .shown .begins .sound .known
 
-sub-read : tie.Need-sub-read
-sub-read c = search needs
+sub-read-picture : tie.Need-sub-read-picture
+sub-read-picture c = search needs
 
-part-read-start : tie.Need-part-read-start
-part-read-start c = search needs
+part-read-picture-start : tie.Need-part-read-picture-start
+part-read-picture-start c = search needs
 
-part-read-end : tie.Need-part-read-end
-part-read-end c = let t = sheet (c .before) in omega (arith, t .within)
+part-read-picture-end : tie.Need-part-read-picture-end
+part-read-picture-end c = let t = sheet (c .before) in omega (arith, t .within)
 
-read-requires : tie.Need-read-requires
-read-requires c κs = search needs
+read-picture-requires : tie.Need-read-picture-requires
+read-picture-requires c κs = search needs
 
 enum-known-found-2 : tie.Need-enum-known-found-2
 enum-known-found-2 c = search needs
@@ -52,7 +52,7 @@ returns c =
     let o = b .before .before .before in
     let k = o .before in
     let t = sheet k in
-    let q = rw (o .format-of .ensures) at (b .read .ensures) in
+    let q = rw (o .format-of .ensures) at (b .read-picture .ensures) in
     reads _ _ _ (t .shown) _ _ _ (rw (add-sub-cancel-left (k .before .found .given .0 .1 .0) (k .before .found .given .0 .1 .1 .0)) at q)
 
 returns-2 : tie.Need-returns-2
@@ -68,10 +68,10 @@ read-sheet-spec =
     enum-known-found
     add-end
     format-of-requires
-    sub-read
-    part-read-start
-    part-read-end
-    read-requires
+    sub-read-picture
+    part-read-picture-start
+    part-read-picture-end
+    read-picture-requires
     enum-known-found-2
     same-length
     returns

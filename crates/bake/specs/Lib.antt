@@ -1,0 +1,3 @@
+pub mod baking
+pub mod nearest
+pub mod indices

@@ -1,0 +1,2 @@
+pub mod bc1
+pub mod alpha_lanes

@@ -1,6 +1,0 @@
-pub mod Table
-pub mod Bytes
-pub mod Fold
-pub mod Adler
-pub mod Known
-pub mod Four

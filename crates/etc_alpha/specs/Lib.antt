@@ -1,0 +1,2 @@
+pub mod picks
+pub mod channel

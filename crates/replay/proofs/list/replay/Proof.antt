@@ -1,0 +1,49 @@
+-- `replay::list::replay` is safe and ends: the measure is the number of turns that are left. Assumes nothing.
+use borrow.Author.Needs.{needs}
+use Rattle.replay.proofs.list.replay.Statement.{statement}
+use Rattle.replay.proofs.list.replay.Tie as tie
+
+abbrev Inv-loop : tie.InvT-loop
+Inv-loop data₀ shown₀ image₀ due₀ turns₀ «data» shown image due turns = Unit {0}
+
+abbrev μ-loop : tie.MeasureT-loop
+μ-loop data₀ shown₀ image₀ due₀ turns₀ «data» shown image due turns = turns
+
+taken-requires : tie.Need-taken-requires Inv-loop μ-loop
+taken-requires c κs = search needs
+
+loop-holds : tie.Need-loop-holds Inv-loop μ-loop
+loop-holds c = search needs
+
+group-requires : tie.Need-group-requires Inv-loop μ-loop
+group-requires c κs = search needs
+
+sub-turns : tie.Need-sub-turns Inv-loop μ-loop
+sub-turns c = search needs
+
+loop-less : tie.Need-loop-less Inv-loop μ-loop
+loop-less c = search needs
+
+loop-again : tie.Need-loop-again Inv-loop μ-loop
+loop-again c = search needs
+
+returns : tie.Need-returns Inv-loop μ-loop
+returns c = search needs
+
+returns-2 : tie.Need-returns-2 Inv-loop μ-loop
+returns-2 c = search needs
+
+pub replay-spec : {M : Type 1} → statement M
+replay-spec =
+    tie.close
+    (tie.spec
+    Inv-loop
+    μ-loop
+    taken-requires
+    loop-holds
+    group-requires
+    sub-turns
+    loop-less
+    loop-again
+    returns
+    returns-2)

@@ -1,2 +1,0 @@
-pub mod Pens
-pub mod Known

@@ -1,4 +1,0 @@
-// A texture file to a PNG: `--help` says how to call it.
-fn main() {
-    tool::run();
-}
