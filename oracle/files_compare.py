@@ -25,13 +25,12 @@ import tempfile
 from PIL import Image
 
 import files
-from files import BC1, BC1A, BC2, BC3, BC7, ETC1, R, RG_SIGNED
+from files import BC1A, BC2, BC3, BC4_SIGNED, BC5_SIGNED, BC7, ETC1, R, RG_SIGNED
 
 ENDINGS = (".ktx", ".ktx2", ".pkm", ".dds")
 MOST = 65536  # the elements of a case of oracle/PROTOCOL.md
-# PROTOCOL.md's numbers by the formats', of which the last five are those from BC2 on.
-READERS = {**{n: n for n in range(8)}, BC1: 34, BC1A: 35, BC3: 36, BC7: 37, **{BC2 + k: 80 + k for k in range(5)}}
 SHOWN_ALIKE = {BC1A, BC2, BC3, BC7}  # what other readers of DDS show as colours; of one or two channels each shows something of its own
+ROUNDED = {BC4_SIGNED, BC5_SIGNED}  # where Mesa rounds towards zero (docs/DIFFERENCES.md)
 
 
 def told(data):
@@ -84,7 +83,7 @@ class Decoder:
         self.running = subprocess.Popen([program], stdin=subprocess.PIPE, stdout=subprocess.PIPE, stderr=subprocess.DEVNULL)
 
     def ask(self, reader, width, height, data):
-        head = struct.pack("<6I", reader, 0, width, height, len(data), width * height)
+        head = struct.pack("<8Q", reader, 0, 0, 0, width, height, len(data), width * height)
         self.running.stdin.write(head + data + bytes(4 * width * height))
         self.running.stdin.flush()
         shown = self.running.stdout.read(8 + 4 * width * height)
@@ -125,7 +124,7 @@ class Second:
         for top in range(0, level.height, rows):
             height = min(rows, level.height - top)
             band = data[level.start + files.blocks(form, level.width, top) :][: files.blocks(form, level.width, height)]
-            words = decoder.ask(READERS[form], level.width, height, band)
+            words = decoder.ask(form, level.width, height, band)
             shown += eac_pixels(form, words) if R <= form <= RG_SIGNED else words
         return shown
 
@@ -362,6 +361,9 @@ def compare_pixels(found, paths, library, room, report):
             due = second.pixels(facts.format, level, data)
             if due is None:
                 report.aside["levels too wide for a second decoder"] += 1
+            elif facts.format in ROUNDED:
+                near = all(abs(a - b) <= 1 for a, b in zip(due, shown[n], strict=True))
+                report.count("levels of signed BC4 and BC5 as Mesa shows them, within one", near, name, "level %d" % n)
             else:
                 report.count("levels as a second decoder shows them", due == shown[n], name, "level %d" % n)
         if name in paths:
