@@ -1,4 +1,6 @@
 // What an answer says: its number in document 01, and the block that it names.
+#![tactic(auto)]
+
 ghost use Rattle.std.specs.Prelude.{◌≡◌, get_or};
 ghost use Rattle.rules.specs.Answers.{said};
 ghost use Rattle.rules.specs.Checking.{baking_said};

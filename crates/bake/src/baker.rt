@@ -77,7 +77,7 @@ fn write(eight: [u8; 8], block: &mut [u8])
     requires { 8 ≤ length block.old }
     ensures { block.new ≡ eight_over eight block.old }
 {
-    bytes::copy(&eight, block);
+    block[..8].copy_from_slice(&eight);
 }
 
 // Bakes the individual block with these bases and this flip that has the least sum of differences from the tile.

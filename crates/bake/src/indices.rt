@@ -7,7 +7,7 @@ ghost use Rattle.bake.specs.indices.Index.{index_by};
 use super::nearest;
 
 // The words of the high and of the low index bits.
-#[derive(Drop)]
+#[derive(Clone, Copy)]
 pub struct Words {
     pub high: u32,
     pub low: u32,

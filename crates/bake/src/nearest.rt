@@ -6,7 +6,7 @@ ghost use Rattle.bake.specs.nearest.Search.{away, nearest_of, cost_of};
 use super::distance;
 
 // The best so far: where it is, and how much it is there.
-#[derive(Drop)]
+#[derive(Clone, Copy)]
 pub struct Best {
     pub at: usize,
     pub value: u32,

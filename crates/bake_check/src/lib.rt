@@ -1,4 +1,6 @@
 // The checker of ETC1 blocks that an outside baker sends.
+#![tactic(auto)]
+
 ghost use Rattle.std.specs.Prelude.{◌≡◌, ℕ, ◌≤◌, length, get_or};
 ghost use Rattle.rules.specs.Counting.{each};
 ghost use Rattle.rules.specs.Checking.{near as near_to, Checks};

@@ -9,7 +9,7 @@ use super::{bptc, rest};
 use rules::Mode;
 
 // The fields in front of the endpoints, and what is left.
-#[derive(Drop)]
+#[derive(Clone, Copy)]
 pub struct Front {
     pub partition: u8,
     pub rotation: u8,
@@ -18,7 +18,7 @@ pub struct Front {
 }
 
 // The endpoints of four channels, two for each subset, and what is left.
-#[derive(Drop)]
+#[derive(Clone, Copy)]
 pub struct Ends {
     pub red: [u8; 8],
     pub green: [u8; 8],

@@ -1,4 +1,6 @@
 // A BC7 block: all eight modes are one reading, by the record of the mode.
+#![tactic(auto)]
+
 mod bptc;
 mod endpoints;
 pub mod rest;

@@ -7,7 +7,7 @@ ghost use Rattle.bc7.specs.rest.Whole.{whole, field_of, width_by, passed_by};
 use bc::bc1;
 
 // What is left of a block's bits, the next one lowest.
-#[derive(Drop)]
+#[derive(Clone, Copy)]
 pub struct Rest {
     pub lo: u64,
     pub hi: u64,
@@ -68,7 +68,7 @@ pub fn word_of(r: Rest) -> u64
 }
 
 // Up to 24 fields of one width, and what is left.
-#[derive(Drop)]
+#[derive(Clone, Copy)]
 pub struct Fields {
     pub values: [u8; 24],
     pub rest: Rest,

@@ -67,7 +67,7 @@ pub fn place_after(s: &[u8], place: usize, n: usize) -> usize
 }
 
 // A bit reader: it borrows the bytes, and holds the place of the next bit.
-#[derive(Drop)]
+#[derive(Clone, Copy)]
 pub struct BitReader<'a> {
     pub src: &'a [u8],
     pub place: usize,
@@ -99,7 +99,7 @@ pub fn read<'s, 'a>(r: &'s mut BitReader<'a>, n: usize) -> Bits
 }
 
 // What a read has found, and where the reader stands after it.
-#[derive(Drop)]
+#[derive(Clone, Copy)]
 pub struct Found {
     pub bits: Bits,
     pub place: usize,

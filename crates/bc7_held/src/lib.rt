@@ -1,4 +1,6 @@
 // A whole BC7 block through the bit reader: sixteen reads of eight bits. It shows what the fast reader shows, and takes longer.
+#![tactic(auto)]
+
 pub mod bits;
 
 ghost use Rattle.std.specs.Prelude.{◌≡◌, false, ◌+◌, ◌*◌, ◌^◌, ◌<◌, ◌≤◌, length};
@@ -10,7 +12,7 @@ use bits::BitReader;
 use rules::{Answer, Bits};
 
 // The pixels of a block, or why there are none.
-#[derive(Drop)]
+#[derive(Clone, Copy)]
 pub struct Sixteen {
     pub answer: Answer,
     pub pixels: [u32; 16],

@@ -1,5 +1,7 @@
 // Single blocks: the checks, then sixteen pixels into the elements 0 to 15. One reader serves the formats; the alpha half and
 // a single channel, which join what stood there, have one each.
+#![tactic(auto)]
+
 ghost use Rattle.std.specs.Prelude.{◌≡◌, ◌/◌, ◌%◌, ◌≤◌, ◌<◌, length, get_or};
 ghost use Rattle.rules.specs.Notation.{build};
 ghost use Rattle.rules.specs.Answers.{said, verdict, block_checks};
@@ -49,7 +51,7 @@ pub fn read_alpha(data: &[u8], image: &mut [u32]) -> Answer
 }
 
 // What a single channel is read from.
-#[derive(Drop)]
+#[derive(Clone, Copy)]
 pub enum Joined {
     // a byte of EAC, joined by OR
     Eac,

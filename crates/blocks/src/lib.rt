@@ -1,6 +1,8 @@
 // The formats: blocks that stand beside each other in a picture, painted one after another, and the sixteen pixels of one block. Each
 // kind of block has one caller, its own loop, so that its pixels go from the registers into the image (docs/PERFORMANCE.md); one block
 // alone is a picture of 4 by 4.
+#![tactic(auto)]
+
 ghost use Rattle.std.specs.Prelude.{◌≡◌, true, false, ℕ, ◌+◌, ◌*◌, ◌≤◌, length, get_or};
 ghost use Rattle.rules.specs.Notation.{byte};
 ghost use Rattle.rules.specs.Places.{tile, bytes_of};

@@ -1,4 +1,6 @@
 // How many blocks of a picture are of each kind. Nothing is painted.
+#![tactic(auto)]
+
 mod tally;
 
 ghost use Rattle.std.specs.Prelude.{◌≡◌, get_or};

@@ -1,5 +1,7 @@
 // How many bytes a block has, how many blocks a picture and how many elements it needs, and the checks of its description, which every
 // reader of a picture makes before it looks at a block.
+#![tactic(auto)]
+
 ghost use Rattle.std.specs.Prelude.{◌≡◌, ◌*◌, ◌<◌, ◌≤◌, ltb};
 ghost use Rattle.rules.specs.Places.{across as across_of, needed, blocks};
 ghost use Rattle.rules.specs.Answers.{said, limit, too_large_lem, over_limit_lem, picture_checks, exact_checks, verdict};

@@ -1,4 +1,6 @@
 // From colour to degrees: what a legend predicts at a pixel, beside what was measured.
+#![tactic(auto)]
+
 pub mod floats;
 mod legend;
 mod ranges;

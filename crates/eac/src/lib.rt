@@ -1,6 +1,8 @@
 // The EAC channels of src/etc/eac.rs. The unsigned and the signed reader differ only in the numbers that crates/eac gives, so one
 // function serves both. A block has eight whole values of eleven bits, of which each pixel picks one. The byte is a last step of its
 // own, taken of the eight, and so are the sixteen bits, taken of the picked (docs/DECISIONS.md).
+#![tactic(auto)]
+
 pub mod values;
 
 ghost use Rattle.std.specs.Prelude.{◌≡◌, ℕ, ◌+◌, ◌*◌, ◌/◌, ◌%◌, ◌^◌, ◌<◌, ◌≤◌, T, length, pos, ◌+ℤ◌, slice_index, slice_index_or, unsigned_abs};

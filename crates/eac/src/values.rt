@@ -82,7 +82,7 @@ fn added_of(signed: bool) -> u16
 }
 
 // The numbers in which signed and unsigned values differ.
-#[derive(Drop)]
+#[derive(Clone, Copy)]
 pub struct Span {
     pub signed: bool,
     // the least and the most of the values

@@ -1,4 +1,6 @@
 // Opening texture files: what a file holds, and where its levels are. crates/rules/specs/Files.antt says what is answered, for all bytes.
+#![tactic(auto)]
+
 mod dds;
 pub mod formats;
 mod keys;

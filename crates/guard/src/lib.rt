@@ -1,4 +1,6 @@
 // The scan for a block that an older viewer must not show, said once for both viewers: the first such block of some bytes.
+#![tactic(auto)]
+
 ghost use Rattle.std.specs.Prelude.{◌≡◌, cond, [], ◌∷◌, ◌*◌, ◌≤◌, length};
 ghost use Rattle.rules.specs.Answers.{said};
 ghost use Rattle.rules.specs.Guards.{not_opaque};
@@ -8,7 +10,7 @@ ghost use Rattle.guard.specs.Viewers.{guard_of, scanned_from};
 use rules::{Answer, Format, Kind};
 
 // The older viewers: one that knows ETC1 alone, and one that knows ETC2 RGB, but nothing transparent.
-#[derive(Drop)]
+#[derive(Clone, Copy)]
 pub enum Viewer {
     Etc1,
     Opaque,

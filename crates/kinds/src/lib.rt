@@ -1,4 +1,6 @@
 // The kind of a colour block, by its difference bit and its three sums.
+#![tactic(auto)]
+
 ghost use Rattle.std.specs.Prelude.{◌≡◌, ◌≤◌, length};
 ghost use Rattle.rules.specs.Colour.{sum, beyond as is_beyond, kind_by_sums_lem, kind_of};
 

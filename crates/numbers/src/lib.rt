@@ -1,5 +1,7 @@
 // Numbers of two and of four bytes, read from a place of a slice and put there, in either order; and bytes put one after another.
 // specs/Numbers.antt says what they are.
+#![tactic(auto)]
+
 ghost use Rattle.std.specs.Prelude.{◌≡◌, ◌∷◌, [], ◌+◌, ◌<◌, ◌≤◌, length};
 ghost use Rattle.std.proofs.lemmas.List.Edits.{sets};
 ghost use Rattle.numbers.specs.Numbers.{little, big, in_bytes, big_bytes};

@@ -1,4 +1,6 @@
 // What an older viewer shows wrong, in numbers: how many pixels and blocks, the first of them, and by how much. Nothing is painted.
+#![tactic(auto)]
+
 ghost use Rattle.std.specs.Prelude.{◌≡◌, cond, not, ◌&&◌, ℕ, suc, ◌*◌, ◌<◌, ◌≤◌, ltb, eqb, length, get_or};
 ghost use Rattle.rules.specs.Pixel.{alpha_of};
 ghost use Rattle.rules.specs.Places.{blocks};
@@ -14,7 +16,7 @@ use guard::Viewer;
 use rules::{Answer, Older, OlderCounts, Picture};
 
 // The same of one block: how many pixels, the first of them or 16, and the differences.
-#[derive(Drop)]
+#[derive(Clone, Copy)]
 struct Found {
     pixels: u32,
     place: usize,

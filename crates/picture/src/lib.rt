@@ -1,5 +1,7 @@
 // Whole pictures: the checks, then every block in its place, said once for all formats; and the readers of older viewers, which look
 // at every block before they paint one, said once for both, with a check of each that paints nothing.
+#![tactic(auto)]
+
 pub mod paint;
 
 ghost use Rattle.std.specs.Prelude.{◌≡◌, true, length};

@@ -11,7 +11,7 @@ use pixel::place;
 use rules::{Format, Picture};
 
 // The column and the row in which a block stands.
-#[derive(Drop)]
+#[derive(Clone, Copy)]
 struct Spot {
     bx: usize,
     by: usize,

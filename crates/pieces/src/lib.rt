@@ -1,6 +1,8 @@
 // A picture whose bytes arrive in pieces of any length: each block is painted as soon as it is whole, and between two pieces at most
 // 15 bytes are kept. The state goes in by value and comes back. Every value of it is a state, so a forged one is answered like any
 // other, and nothing is asked of the caller.
+#![tactic(auto)]
+
 mod joined;
 pub mod kept;
 

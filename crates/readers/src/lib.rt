@@ -3,6 +3,8 @@
 // No function has a precondition. Each promises its answer, and every element of what it is lent, for all inputs, as Readers.antt,
 // Whole.antt, Census.antt, Sheets.antt, Pieces.antt, Degrees.antt, Checking.antt, Baking.antt and Files.antt of crates/rules/specs say.
 // A refusal changes nothing; docs/API.md lists the refusals by number.
+#![tactic(auto)]
+
 ghost use Rattle.std.specs.Prelude.{◌≡◌, true, false, length, get_or};
 ghost use Rattle.rules.specs.Places.{sized};
 ghost use Rattle.rules.specs.Answers.{said};

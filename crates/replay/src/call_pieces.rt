@@ -7,7 +7,7 @@ use super::{call, elements};
 use rules::{Answer, Format, Picture, Progress};
 
 // How far a picture has come: the next byte's number, and what stands for all that was answered.
-#[derive(Drop)]
+#[derive(Clone, Copy)]
 struct Course {
     progress: Progress,
     at: usize,

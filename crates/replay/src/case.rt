@@ -4,7 +4,7 @@ ghost use Rattle.std.specs.Prelude.{◌<◌, ◌≤◌};
 use super::{call, stdio, words};
 
 // What is called, its numbers, and how many bytes and elements it is lent.
-#[derive(Drop)]
+#[derive(Clone, Copy)]
 pub struct Case {
     pub number: usize,
     pub a: usize,
@@ -17,7 +17,7 @@ pub struct Case {
 }
 
 // What a call answers: its number, and the block that it names or another number of the function's own.
-#[derive(Drop)]
+#[derive(Clone, Copy)]
 pub struct Said {
     pub number: u32,
     pub extra: u32,

@@ -1,5 +1,7 @@
 // Calls every public function by the cases of oracle/PROTOCOL.md, and writes what it answers. With any argument it replays a stored
 // list instead: it compares each answer with the one that the list has for it, and says what differs.
+#![tactic(auto)]
+
 mod call;
 mod call_baking;
 mod call_bits;

@@ -6,7 +6,7 @@ use super::records::Met;
 use rules::{Answer, Head, Picture};
 
 // A head, with a place in the sheet and how many bytes its blocks are; or why the sheet is refused.
-#[derive(Drop)]
+#[derive(Clone, Copy)]
 pub enum Found {
     At(Head, usize, usize),
     Refused(Answer),

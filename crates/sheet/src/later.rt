@@ -9,7 +9,7 @@ use super::records::Met;
 use rules::Answer;
 
 // Where the blocks start, or why the sheet is refused.
-#[derive(Drop)]
+#[derive(Clone, Copy)]
 pub enum Blocks {
     At(usize),
     Refused(Answer),

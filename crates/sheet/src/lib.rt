@@ -1,4 +1,6 @@
 // What the reader and the writer of sheets share: the formats by their numbers, and how many bytes a picture's blocks are.
+#![tactic(auto)]
+
 pub mod find;
 pub mod first;
 pub mod later;

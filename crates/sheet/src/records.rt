@@ -3,7 +3,7 @@ ghost use Rattle.std.specs.Prelude.{◌≤◌, length};
 ghost use Rattle.sheet.specs.records.Turns.{Stands, Meets};
 
 // What the walk meets: a record of a kind, with the start and the length of its payload; the end; or a record that is cut short.
-#[derive(Drop)]
+#[derive(Clone, Copy)]
 pub enum Met {
     Whole(usize, usize, usize),
     End,

@@ -43,7 +43,7 @@ fn put_front(format: usize, width: usize, height: usize, n: usize, out: &mut [u8
     ensures { out.new ≡ front_of_lem format (sized width height) n ++ drop 21 out.old }
 {
     let front = front_of(format as u8, width as u32, height as u32, n as u32);
-    bytes::copy(&front, out);
+    out[..21].copy_from_slice(&front);
 }
 
 // The writer's checks in their order, of n bytes of blocks and so many bytes of room.
@@ -90,8 +90,8 @@ pub fn write_sheet(
         };
     };
     put_front(format, width, height, n, out);
-    bytes::copy(blocks, &mut out[21..]);
     let whole = 21 + n;
+    out[21..whole].copy_from_slice(blocks);
     Written {
         answer: Answer::Done,
         bytes: whole,

@@ -1,4 +1,6 @@
 // Reading sheets: the walk over their records, then the plain picture reader on exactly the payload of the block record.
+#![tactic(auto)]
+
 ghost use Rattle.rules.specs.Sheets.{TellsHead, ReadsSheet};
 
 use rules::{Answer, Picture, Sheet};

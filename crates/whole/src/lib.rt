@@ -1,5 +1,7 @@
 // All eleven bits of EAC R and RG, as 16-bit numbers in a lent image: the checks, then every block in its place. A picture with two numbers
 // to a pixel is a picture of numbers, twice as wide with twice the pitch, in which a block has two tiles beside each other.
+#![tactic(auto)]
+
 ghost use Rattle.std.specs.Prelude.{◌≡◌, ◌+◌, ◌*◌, ◌/◌, ◌<◌, ◌≤◌, length};
 ghost use Rattle.rules.specs.Notation.{build};
 ghost use Rattle.rules.specs.Places.{across, blocks};

@@ -1,0 +1,11 @@
+-- A copy of eight bytes.
+-- Assumes nothing.
+use mathlib.Core.Path.{sym}
+use Rattle.laws.proofs.Parts.{copied}
+use borrow.Author.Rules.{rules}
+use Rattle.bake.proofs.baker.write.Goals as goal
+
+pub returns : goal.returns
+returns c =
+    let a = c.args in
+    copied a.t1 a.block-1.now _ 8 (sym (slice-aggregate-copy c)) c.copy.ensures.1

@@ -1,0 +1,45 @@
+-- The bits of the pixels passed, from the last one down.
+-- Assumes nothing.
+use Prim.Native.Nat.{ℕ, ◌<◌}
+use native.Mathlib.Omega.{arith}
+use lib.ListN.{get_or}
+use Rattle.bake.specs.indices.Index.{index_by}
+use Rattle.rules.specs.Baking.{of_half_lem, half_of}
+use Rattle.bake.proofs.nearest.Search.{one_of_four}
+use Rattle.bake.proofs.indices.Spelling.{Spelt, begun, turned, small, ended}
+use borrow.Author.Rules.{rules}
+use Rattle.bake.proofs.indices.index_words.Goals as goal
+
+-- the index of each pixel
+abbrev rule : tie.Start invariant-loop decreases-loop → ℕ → ℕ
+rule c = index_by c.args.first c.args.second c.args.flip c.args.tile.now
+
+-- the words are small before each turn
+bound : (c : tie.At-loop invariant-loop decreases-loop) → (c.loop.high < 65536) × (c.loop.low < 65536)
+bound c =
+    let a = c.before.before.args in
+    small (rule c.before.before) (λ k. one_of_four (of_half_lem a.first a.second (half_of a.flip k)) (get_or a.tile.now k 0)) c.loop.i c.loop.high c.loop.low c.loop.invariant
+
+pub loop-i-init : goal.loop-i-init
+loop-i-init c = begun (rule c)
+
+pub overflow_mul-high : goal.overflow_mul-high
+overflow_mul-high c = omega (arith, (bound c).0)
+
+pub overflow_add-high : goal.overflow_add-high
+overflow_add-high c = omega (arith, (bound c).0)
+
+pub overflow_mul-low : goal.overflow_mul-low
+overflow_mul-low c = omega (arith, (bound c).1)
+
+pub overflow_add-low : goal.overflow_add-low
+overflow_add-low c = omega (arith, (bound c).1)
+
+pub loop-i-preserved : goal.loop-i-preserved
+loop-i-preserved c =
+    turned (rule c) c.loop-i.i c.loop-i.high c.loop-i.low _ c.loop-i.invariant c.loop-i-test.true c.index_at-index.ensures.0
+
+pub returns : goal.returns
+returns c =
+    let e = ended (rule c) c.loop-i.i c.loop-i.high c.loop-i.low c.loop-i.invariant (omega arith) in
+    (e.0, e.1, (bound c).0, (bound c).1)

@@ -1,0 +1,17 @@
+-- The invariant and the measure of the loop of `bc7::bptc::weigh`.
+use mathlib.Core.Path.{◌∙◌, ap, refl}
+use mathlib.Core.List.{List}
+use Prim.Native.Nat.{ℕ, ◌-◌}
+use native.Mathlib.Omega.{arith}
+use borrow.Author.Rules.{rules}
+use lib.ListN.{get_or, replicate}
+use Rattle.rules.specs.Bptc.{weights_of}
+use Rattle.laws.proofs.Filled.{getD-build}
+use Rattle.laws.proofs.Filling.{Filling, in_order_lem, begun, stored_next, filled-all}
+use Rattle.bc7.proofs.bptc.weigh.Given as goal
+
+abbrev pub invariant-loop-i : goal.invariant-loop-i
+invariant-loop-i l = Filling in_order_lem (weight_by l.n l.indices) 0 16 l.i l.out
+
+abbrev pub decreases-loop-i : goal.decreases-loop-i
+decreases-loop-i l = 16 - l.i

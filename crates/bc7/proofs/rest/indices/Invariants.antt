@@ -1,0 +1,12 @@
+-- The invariant and the measure of the loop of `bc7::rest::indices`.
+use Prim.Native.Nat.{◌-◌}
+use native.Mathlib.Omega.{arith}
+use Rattle.laws.proofs.Filling.{filled-all}
+use Rattle.bc7.proofs.rest.Loops.{Indexed, index_of, started, indexed}
+use Rattle.bc7.proofs.rest.indices.Given as goal
+
+abbrev pub invariant-loop-i : goal.invariant-loop-i
+invariant-loop-i l = Indexed l.v l.b l.mask l.w l.m l.out l.i
+
+abbrev pub decreases-loop-i : goal.decreases-loop-i
+decreases-loop-i l = 16 - l.i

@@ -1,0 +1,17 @@
+-- The invariant and the measure of the loop of `bc7::shade`.
+use Rattle.bc7.proofs.Steps.{same_rotated}
+use mathlib.Core.Path.{◌∙◌, refl}
+use mathlib.Core.List.{List}
+use Prim.Native.Nat.{ℕ, ◌-◌, ◌*◌, ◌/◌, ◌%◌, ◌^◌}
+use native.Mathlib.Omega.{arith}
+use lib.ListN.{get_or, replicate}
+use Rattle.rules.specs.Bc7.{rotated}
+use Rattle.laws.proofs.Filling.{Filling, in_order_lem, begun, stored_next, filled-all}
+use Rattle.bc7.specs.Shaded.{between}
+use Rattle.bc7.proofs.shade.Given as goal
+
+abbrev pub invariant-loop-i : goal.invariant-loop-i
+invariant-loop-i l = Filling in_order_lem (shade_of l.t l.layout l.colour l.alpha l.red l.green l.blue l.clear) 0 16 l.i l.out
+
+abbrev pub decreases-loop-i : goal.decreases-loop-i
+decreases-loop-i l = 16 - l.i

@@ -1,0 +1,33 @@
+-- `blocks::block_at` meets its contract: the part of the data that is lent is block n, and the picture of 4 by 4 is its tile.
+-- Assumes nothing.
+use mathlib.Core.Path.{refl}
+use Prim.Native.Nat.{◌+◌, ◌*◌, ◌≤◌}
+use native.Mathlib.Omega.{arith}
+use lib.ListN.{length}
+use Rattle.rules.specs.Formats.{size_of, shows_of}
+use Rattle.blocks.proofs.Alone.{enough, alone, whole_four}
+use borrow.Author.Rules.{rules}
+use Rattle.blocks.proofs.block_at.Goals as goal
+
+-- the end of the block is within the data
+room : (c : tie.After-size) → c.before.before.args.n * c.size.result + c.size.result ≤ length c.before.before.args.«data».now
+room c = rw c.size.ensures.0 c.before.before.requires
+
+pub overflow_mul-at : goal.overflow_mul-at
+overflow_mul-at c = omega (arith, room c)
+
+pub overflow_add-end : goal.overflow_add-end
+overflow_add-end c = omega (arith, room c)
+
+pub slice_bounds-run-end : goal.slice_bounds-run-end
+slice_bounds-run-end c = room c
+
+pub run-requires : goal.run-requires
+run-requires c =
+    let a = c.args in
+    (enough (shows_of a.f) c.size-s.result (size_of a.f) a.n a.«data».now c.size-s.ensures.0 (room c), whole_four)
+
+pub returns : goal.returns
+returns c =
+    let a = c.args in
+    alone (shows_of a.f) c.size-s.result (size_of a.f) a.n a.«data».now c.size-s.ensures.0 _ _ refl c.run.ensures

@@ -1,0 +1,48 @@
+-- `capi::census_lent::lay` meets its contract. The loop has laid the counts before i.
+-- Assumes nothing.
+use mathlib.Core.Path.{◌≡◌, ◌∙◌, refl, ap}
+use mathlib.Core.List.{◌++◌}
+use Prim.Native.Nat.{◌+◌, ◌-◌, ◌≤◌}
+use native.Mathlib.Omega.{arith}
+use borrow.Author.Rules.{rules}
+use borrow.Author.Tests.{lt-ltb, le-ltb}
+use lib.ListN.{length, take, drop}
+use lib.Seq.{take-length}
+use Rattle.capi.proofs.census_lent.Laid.{next, long}
+use Rattle.capi.proofs.census_lent.lay.Goals as goal
+
+as_long : (c : tie.At-loop invariant-loop decreases-loop) → length c.loop.room ≡ length c.before.before.args.room.now
+as_long c =
+    let a = c.before.before.args in
+    ap length c.loop.invariant.1 ∙ long a.counts.now a.room.now c.loop.i c.loop.invariant.0 c.before.if1.false
+
+pub returns-then-room-counts : goal.returns-then-room-counts
+returns-then-room-counts c =
+    let a = c.args in
+    let e = lt-ltb (length a.room.now) (length a.counts.now) c.if-room-counts.true in
+    record { says = rw e; leaves = rw e }
+
+pub loop-i-init : goal.loop-i-init
+loop-i-init c = (omega arith, refl)
+
+pub offset_bounds-room-i : goal.offset_bounds-room-i
+offset_bounds-room-i c = omega arith
+
+pub bounds-room-i : goal.bounds-room-i
+bounds-room-i c = omega (arith, as_long c)
+
+pub loop-i-preserved : goal.loop-i-preserved
+loop-i-preserved c =
+    let a = c.args in
+    let i = c.loop-i.i in
+    (omega arith, rw c.loop-i.invariant.1 (next a.counts.now a.room.now i c.loop-i-test.true c.if-room-counts.false))
+
+pub shape_of-room : goal.shape_of-room
+shape_of-room c = as_long c
+
+pub returns : goal.returns
+returns c =
+    let a = c.args in
+    let e = le-ltb (length a.room.now) (length a.counts.now) c.if-room-counts.false in
+    let f : c.loop-i.i ≡ length a.counts.now = omega arith in
+    record { says = rw e; leaves = rw e (c.loop-i.invariant.1 ∙ rw (f, take-length)) }

@@ -1,0 +1,20 @@
+-- The invariant and the measure of the loop of `census::tally::tally`.
+use mathlib.Core.Path.{◌≡◌, ◌∙◌, refl, ap}
+use mathlib.Core.Bool.{Bool, true, false}
+use mathlib.Core.List.{List, [], ◌∷◌}
+use Prim.Native.Nat.{ℕ, ◌+◌, ◌-◌, ◌*◌, ◌≤◌}
+use native.Mathlib.Omega.{arith}
+use lib.ListN.{get_or, set, take, drop, length-take, length-drop}
+use borrow.Author.Rules.{rules}
+use Rattle.rules.specs.Places.{bytes_of}
+use Rattle.laws.proofs.Parts.{part}
+use Rattle.rules.specs.Census.{count_of, counts}
+use Rattle.laws.specs.Sorted.{met, only, eight}
+use Rattle.census.proofs.tally.Grown.{one_more, within}
+use Rattle.census.proofs.tally.tally.Given as goal
+
+abbrev pub invariant-loop-b : goal.invariant-loop-b
+invariant-loop-b l = (l.b ≤ l.n) × (l.tally ≡ before l.split «data» l.b)
+
+abbrev pub decreases-loop-b : goal.decreases-loop-b
+decreases-loop-b l = l.n - l.b

@@ -1,0 +1,73 @@
+-- Turn i stores value i.
+-- Assumes nothing.
+use Rattle.std.proofs.Common.{◌≡◌, ◌-◌, pos, refl, ap, ◌∙◌, arith, w16, rules}
+use Rattle.rules.specs.Channels.{multiplier}
+use Rattle.laws.proofs.Filling.{Filling, in_order_lem, begun, stored_next, filled-all}
+use Rattle.laws.proofs.Signed.{held, held_small}
+use Rattle.eac.specs.Eights.{whole_of}
+use Rattle.eac.proofs.Bytes.{step-held, step_small, in_order, whole-at}
+use Rattle.eac.proofs.eight_wholes.Goals as goal
+
+-- what the function was given
+abbrev given : tie.After-eac-whole invariant-loop decreases-loop → tie.Start invariant-loop decreases-loop
+given c = c.before.before.before.before.before.before.before.before.before.before.before.before.before
+
+-- the value of the turn
+value : (c : tie.After-eac-whole invariant-loop decreases-loop)
+    → held w16 c.eac-whole.result ≡ whole_of (given c).args.span.signed (given c).args.d.now c.before.before.before.before.before.loop.i
+value c =
+    let l = c.before.before.before.before.before in
+    let t = l.before in
+    let r = t.before.before.before in
+    let s = given c in
+    let a = s.args in
+    let d = a.d.now in
+    whole-at a.span.signed d a.base a.span.low a.span.high c.eac-whole.result _
+    t.times-of.result l.loop.i s.pre.1.0 s.pre.1.1 (t.times-of.ensures.0 ∙ ap multiplier t.before.multiplier-of.ensures.0)
+    s.pre.0.2.from s.pre.0.2.to
+    (step-held d r.steps-in.result r.before.row_of.result l.loop.i r.steps-in.ensures r.before.row_of.ensures.0)
+    c.eac-whole.ensures
+
+pub bounds-d-1 : goal.bounds-d-1
+bounds-d-1 c = omega arith
+
+pub bounds-d-1-2 : goal.bounds-d-1-2
+bounds-d-1-2 c = omega arith
+
+pub loop-i-init : goal.loop-i-init
+loop-i-init c = begun in_order_lem _ (pos 0) 8 _ refl
+
+pub offset_bounds-steps-i : goal.offset_bounds-steps-i
+offset_bounds-steps-i c = omega arith
+
+pub bounds-steps-i : goal.bounds-steps-i
+bounds-steps-i c = omega arith
+
+pub eac_whole-requires : goal.eac_whole-requires
+eac_whole-requires c =
+    let a = c.args in (
+      rw (held_small w16 a.base (omega arith)) c.requires.1.1,
+      omega arith,
+      step_small a.d.now c.steps_in-steps.result c.row_of.result c.loop-i.i c.steps_in-steps.ensures c.row_of.ensures.0,
+      in_order a.span.signed a.span.low a.span.high c.requires.0.2.from c.requires.0.2.to,
+    )
+
+pub offset_bounds-eight-i : goal.offset_bounds-eight-i
+offset_bounds-eight-i c = omega arith
+
+pub bounds-eight-i : goal.bounds-eight-i
+bounds-eight-i c = omega arith
+
+pub overflow_add-i : goal.overflow_add-i
+overflow_add-i c = omega arith
+
+pub loop-i-smaller : goal.loop-i-smaller
+loop-i-smaller c = omega arith
+
+pub loop-i-preserved : goal.loop-i-preserved
+loop-i-preserved c =
+    let l = c.loop-i in
+    stored_next _ (pos 0) 8 l.eight l.i l.invariant _ (omega arith) (value c)
+
+pub returns : goal.returns
+returns c = filled-all _ (pos 0) 8 c.loop-i.eight c.loop-i.i c.loop-i.invariant (omega arith)

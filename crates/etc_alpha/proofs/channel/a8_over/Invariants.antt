@@ -1,0 +1,22 @@
+-- The invariant and the measure of the loop of `etc_alpha::channel::a8_over`.
+use mathlib.Core.Path.{◌≡◌, ◌∙◌, refl, sym, ap, subst}
+use mathlib.Core.List.{List}
+use Prim.Native.Nat.{ℕ, ◌+◌, ◌-◌, ◌/◌, ◌%◌, ◌≤◌, ◌<◌}
+use native.Mathlib.Omega.{arith}
+use borrow.Author.Rules.{rules}
+use lib.IntN.{ℤ, pos, nat_abs}
+use lib.ListN.{length, get_or, set}
+use mir.Syntax.{w16}
+use Rattle.rules.specs.Notation.{byte}
+use Rattle.rules.specs.Channels.{alpha_byte, with_alpha}
+use Rattle.laws.proofs.Paint.{said}
+use Rattle.laws.proofs.Signed.{held}
+use Rattle.pixel.proofs.fill.Part.{Begun, begin, go_on}
+use Rattle.etc_alpha.proofs.channel.Moves.{small_alpha, small_byte, alpha_held}
+use Rattle.etc_alpha.proofs.channel.a8_over.Given as goal
+
+abbrev pub invariant-loop-i : goal.invariant-loop-i
+invariant-loop-i l = (l.i ≤ 16) × Begun (rule l.d l.initial.image) l.initial.image l.image l.i
+
+abbrev pub decreases-loop-i : goal.decreases-loop-i
+decreases-loop-i l = 16 - l.i

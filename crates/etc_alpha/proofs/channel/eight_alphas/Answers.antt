@@ -1,0 +1,69 @@
+-- Turn i stores alpha i: the base moved by product i, as the machine holds it.
+-- Assumes nothing.
+use mathlib.Core.Path.{◌≡◌, ◌∙◌, refl, ap}
+use mathlib.Core.List.{List}
+use Prim.Native.Nat.{ℕ, ◌-◌, ◌<◌}
+use native.Mathlib.Omega.{arith}
+use borrow.Author.Rules.{rules}
+use lib.IntN.{ℤ, pos, ◌+ℤ◌}
+use lib.ListN.{get_or}
+use lib.Signed.{mag}
+use mir.Syntax.{w16}
+use Rattle.rules.specs.Notation.{bits, clamp}
+use Rattle.laws.proofs.Filling.{Filling, in_order_lem, begun, stored_next, filled-all}
+use Rattle.laws.proofs.Signed.{held, held_small, cast-pos}
+use Rattle.tables.specs.products.Products.{products_of_lem}
+use Rattle.etc_alpha.proofs.channel.Moves.{small_product}
+use Rattle.etc_alpha.proofs.channel.eight_alphas.Goals as goal
+
+-- the product at place j of a row
+abbrev product_at : ℕ → ℕ → ℤ
+product_at b j = get_or (products_of_lem (bits 7 4 b) (bits 3 0 b)) j (pos 0)
+
+-- the product of a turn, as the machine holds it
+small : (b j : ℕ) → mag (product_at b j) < 256
+small b j = small_product (bits 7 4 b) (bits 3 0 b) j (omega arith) (omega arith)
+
+product : (c : tie.After-products-of invariant-loop decreases-loop) (j : ℕ) → held w16 (get_or c.products-of.result j (pos 0)) ≡ product_at c.before.args.b j
+product c j =
+    ap (λ (l : List ℤ). held w16 (get_or l j (pos 0))) c.products-of.ensures
+    ∙ held_small w16 (product_at c.before.args.b j) (omega (arith, small c.before.args.b j))
+
+pub loop-i-init : goal.loop-i-init
+loop-i-init c = begun in_order_lem _ (pos 0) 8 _ refl
+
+pub offset_bounds-products-i : goal.offset_bounds-products-i
+offset_bounds-products-i c = omega arith
+
+pub bounds-products-i : goal.bounds-products-i
+bounds-products-i c = omega arith
+
+pub alpha-requires : goal.alpha-requires
+alpha-requires c =
+    rw (product c c.loop-i.i) (small c.args.b c.loop-i.i)
+
+pub overflow_cast-eight : goal.overflow_cast-eight
+overflow_cast-eight c = record { sfits = omega (arith, c.alpha.ensures.1) }
+
+pub offset_bounds-eight-i : goal.offset_bounds-eight-i
+offset_bounds-eight-i c = omega arith
+
+pub bounds-eight-i : goal.bounds-eight-i
+bounds-eight-i c = omega arith
+
+pub overflow_add-i : goal.overflow_add-i
+overflow_add-i c = omega arith
+
+pub loop-i-smaller : goal.loop-i-smaller
+loop-i-smaller c = omega arith
+
+pub loop-i-preserved : goal.loop-i-preserved
+loop-i-preserved c =
+    let l = c.loop-i in
+    let base = c.args.base in
+    stored_next _ (pos 0) 8 l.eight l.i l.invariant _ (omega arith)
+    (cast-pos w16 c.alpha.result (omega (arith, c.alpha.ensures.1))
+    ∙ ap pos (c.alpha.ensures.0 ∙ ap (λ (z : ℤ). clamp 255 (pos base +ℤ z)) (product c l.i)))
+
+pub returns : goal.returns
+returns c = filled-all _ (pos 0) 8 c.loop-i.eight c.loop-i.i c.loop-i.invariant (omega arith)

@@ -1,0 +1,22 @@
+-- The invariant and the measure of the loop of `etc_alpha::channel::eight_alphas`.
+use mathlib.Core.Path.{◌≡◌, ◌∙◌, refl, ap}
+use mathlib.Core.List.{List}
+use Prim.Native.Nat.{ℕ, ◌-◌, ◌<◌}
+use native.Mathlib.Omega.{arith}
+use borrow.Author.Rules.{rules}
+use lib.IntN.{ℤ, pos, ◌+ℤ◌}
+use lib.ListN.{get_or}
+use lib.Signed.{mag}
+use mir.Syntax.{w16}
+use Rattle.rules.specs.Notation.{bits, clamp}
+use Rattle.laws.proofs.Filling.{Filling, in_order_lem, begun, stored_next, filled-all}
+use Rattle.laws.proofs.Signed.{held, held_small, cast-pos}
+use Rattle.tables.specs.products.Products.{products_of_lem}
+use Rattle.etc_alpha.proofs.channel.Moves.{small_product}
+use Rattle.etc_alpha.proofs.channel.eight_alphas.Given as goal
+
+abbrev pub invariant-loop-i : goal.invariant-loop-i
+invariant-loop-i l = Filling in_order_lem (λ j. pos (clamp 255 (pos l.base +ℤ product_at l.b j))) (pos 0) 8 l.i l.eight
+
+abbrev pub decreases-loop-i : goal.decreases-loop-i
+decreases-loop-i l = 8 - l.i

@@ -1,0 +1,68 @@
+-- Turn i stores the row's step i; eight of them are the row.
+-- Assumes nothing.
+use mathlib.Core.Path.{◌≡◌, ◌∙◌, refl, sym, ap}
+use mathlib.Core.List.{List, []}
+use Prim.Native.Nat.{◌-◌, ◌<◌}
+use native.Mathlib.Omega.{arith}
+use lib.IntN.{ℤ, pos}
+use lib.ListN.{get_or}
+use lib.Signed.{mag}
+use mir.Syntax.{w8, w16}
+use Rattle.rules.specs.Channels.{alpha_steps_lem}
+use Rattle.laws.proofs.Filled.{is-build}
+use Rattle.laws.proofs.Filling.{Filling, in_order_lem, begun, stored_next, filled-all}
+use Rattle.laws.proofs.Signed.{held_small, held_twice}
+use Rattle.etc_alpha.proofs.channel.Steps.{small_row, eight_in_row}
+use Rattle.etc_alpha.proofs.channel.steps_in.Goals as goal
+
+-- LEFT
+-- index-1-out : tie.Need-bounds-1-out invariant-loop decreases-loop
+-- index-1-out c = omega arith
+
+-- LEFT
+-- index-2-out : tie.Need-bounds-2-out invariant-loop decreases-loop
+-- index-2-out c = omega arith
+
+-- the number that the turn reads, and what it is
+abbrev read : tie.In-loop invariant-loop decreases-loop → ℤ
+read c = get_or (get_or c.before.before.args.table.now c.before.before.args.row []) c.before.loop.i (pos 0)
+
+is-step : (c : tie.In-loop invariant-loop decreases-loop) → read c ≡ get_or (get_or alpha_steps_lem c.before.before.args.row []) c.before.loop.i (pos 0)
+is-step c =
+    ap (λ (a : List (List ℤ)). get_or (get_or a c.before.before.args.row []) c.before.loop.i (pos 0)) c.before.before.requires.1
+
+is-small : (c : tie.In-loop invariant-loop decreases-loop) → mag (read c) < 16
+is-small c = rw (is-step c) (small_row _ _ c.before.before.requires.0)
+
+pub loop-i-init : goal.loop-i-init
+loop-i-init c = begun in_order_lem _ (pos 0) 8 _ refl
+
+pub offset_bounds-table-row : goal.offset_bounds-table-row
+offset_bounds-table-row c = omega arith
+
+pub overflow_cast-out : goal.overflow_cast-out
+overflow_cast-out c = rw (held_small w8 (read c) (omega (arith, is-small c))) (record { sfits = omega (arith, is-small c) })
+
+pub offset_bounds-out-i : goal.offset_bounds-out-i
+offset_bounds-out-i c = omega arith
+
+pub bounds-out-i : goal.bounds-out-i
+bounds-out-i c = omega arith
+
+pub overflow_add-i : goal.overflow_add-i
+overflow_add-i c = omega arith
+
+pub loop-i-smaller : goal.loop-i-smaller
+loop-i-smaller c = omega arith
+
+pub loop-i-preserved : goal.loop-i-preserved
+loop-i-preserved c =
+    let l = c.loop-i in
+    let s = is-small c in
+    stored_next _ (pos 0) 8 l.out-1 l.i l.invariant _ (omega arith) (held_twice w8 w16 (read c) (omega arith) (omega arith) ∙ is-step c)
+
+pub returns : goal.returns
+returns c =
+    let row = c.args.row in
+    filled-all _ (pos 0) 8 c.loop-i.out-1 c.loop-i.i c.loop-i.invariant (omega arith)
+    ∙ sym (is-build _ (pos 0) 8 (get_or alpha_steps_lem row []) (eight_in_row row c.requires.0) (λ k h. refl))

@@ -1,0 +1,89 @@
+-- `older::compare_at` meets its contract: both rules' pixels of the block, and as much of it as the picture shows.
+-- Assumes nothing.
+use mathlib.Core.Path.{◌≡◌, ◌∙◌, sym, ap}
+use mathlib.Core.List.{List}
+use Prim.Native.Nat.{ℕ, ◌+◌, ◌-◌, ◌*◌, ◌/◌, ◌%◌, ◌<◌, ◌≤◌}
+use native.Mathlib.Omega.{arith}
+use lib.ListN.{get_or}
+use Rattle.rules.specs.Places.{across, blocks, tile, bytes_of}
+use Rattle.rules.specs.Formats.{size_of, shows_of}
+use Rattle.rules.specs.declared.Format.{Format}
+use Rattle.laws.proofs.Filled.{getD-build}
+use Rattle.guard.specs.Viewers.{guard_of}
+use Rattle.guard.specs.declared.Viewer.{Viewer}
+use Rattle.guard.proofs.Scan.{eight, sound}
+use Rattle.blocks.proofs.Blocks.{room}
+use Rattle.rules.specs.Older.{older_at, newer_at, in_picture}
+use Rattle.older.proofs.Turn.{alike}
+use Rattle.older.proofs.Place as place
+use borrow.Author.Rules.{rules}
+use Rattle.older.proofs.compare_at.Goals as goal
+
+-- a block of eight bytes lies in the data
+fits : (f : Format) (n b m : ℕ) → size_of f ≡ 8 → b < n → n * 8 ≤ m → b * size_of f + size_of f ≤ m
+fits f n b m e h r = rw e (room 8 n b m h r)
+
+-- the newer rule's blocks have eight bytes too
+shown-eight : (viewer : Viewer) → size_of (guard_of viewer).shown ≡ 8
+shown-eight viewer = sym (sound viewer).one_size ∙ eight viewer
+
+-- a pixel of a tile is what the rule shows at its place
+at_place : (f g : Format) (d t : List ℕ) (n k : ℕ) → f ≡ g → size_of g ≡ 8 → t ≡ tile (shows_of f) (bytes_of (size_of f) d n) → k < 16 → get_or t k 0 ≡ shows_of g (bytes_of 8 d n) (k % 4) (k / 4)
+at_place f g d t n k e s h l =
+    ap (λ (z : List ℕ). get_or z k 0) h
+    ∙ getD-build (λ k. shows_of f (bytes_of (size_of f) d n) (k % 4) (k / 4)) 0 16 k l
+    ∙ ap (λ (z : Format). shows_of z (bytes_of (size_of z) d n) (k % 4) (k / 4)) e
+    ∙ ap (λ (z : ℕ). shows_of g (bytes_of z d n) (k % 4) (k / 4)) s
+
+-- where the block stands, in rows of as many blocks as were asked for
+abbrev start : tie.After-across → tie.Start
+start c = c.before.before.before.before.before.before
+
+some : (c : tie.After-across) → 0 < c.across.result
+some c = place.some_of (start c).args.pic (start c).args.b (start c).requires.0 c.across.result c.across.ensures
+
+column : (c : tie.After-across) → (start c).args.b % c.across.result * 4 ≤ (start c).args.pic.width
+column c = place.column-of (start c).args.pic (start c).args.b (start c).requires.0 c.across.result c.across.ensures
+
+row : (c : tie.After-across) → (start c).args.b / c.across.result * 4 ≤ (start c).args.pic.height
+row c = place.row_of (start c).args.pic (start c).args.b (start c).requires.0 c.across.result c.across.ensures
+
+-- LEFT
+-- rem-compare : tie.Need-nonzero-rem-compare
+-- rem-compare c = some c
+
+-- LEFT
+-- div-compare : tie.Need-nonzero-div-compare
+-- div-compare c = some c.before
+
+pub block_at-old-requires : goal.block_at-old-requires
+block_at-old-requires c =
+    fits c.own.result (blocks c.args.pic) c.args.b _ (ap size_of c.own.ensures ∙ eight c.args.viewer) c.requires.0 c.requires.1
+
+pub block_at-new-requires : goal.block_at-new-requires
+block_at-new-requires c =
+    fits c.shown.result (blocks c.args.pic) c.args.b _ (ap size_of c.shown.ensures ∙ shown-eight c.args.viewer) c.requires.0 c.requires.1
+
+pub overflow_mul-b : goal.overflow_mul-b
+overflow_mul-b c = omega (arith, column c, (start c).requires.2)
+
+pub overflow_sub-pic : goal.overflow_sub-pic
+overflow_sub-pic c = column c
+
+pub overflow_mul-b-2 : goal.overflow_mul-b-2
+overflow_mul-b-2 c = omega (arith, row c, (start c).requires.3)
+
+pub overflow_sub-pic-2 : goal.overflow_sub-pic-2
+overflow_sub-pic-2 c = row c
+
+pub returns : goal.returns
+returns c =
+    let s = start c in
+    let a = s.args in
+    let d = a.«data».now in
+    let g = guard_of a.viewer in
+    alike _ (in_picture a.pic a.b) _ (older_at g d a.b) _ (newer_at g d a.b)
+    (λ k l. place.shown a.pic a.b s.pre.0 c.across-row.result c.across-row.ensures k)
+    (λ k l. at_place c.own.result g.own d c.block_at-c.result a.b k c.own.ensures (eight a.viewer) c.block_at-c.ensures l)
+    (λ k l. at_place c.shown.result g.shown d c.block_at-c.result a.b k c.shown.ensures (shown-eight a.viewer) c.block_at-c.ensures l)
+    _ c.compare.ensures

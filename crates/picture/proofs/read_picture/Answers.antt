@@ -1,0 +1,30 @@
+-- `picture::read_picture` meets its contract: the checks, and then the picture where they pass.
+-- Assumes nothing.
+use mathlib.Core.Path.{◌≡◌}
+use mathlib.Core.List.{[], ◌∷◌}
+use lib.ListN.{length}
+use Rattle.rules.specs.Answers.{said}
+use Rattle.rules.specs.Formats.{size_of}
+use Rattle.rules.specs.Readers.{picture_of, picture_verdict}
+use Rattle.checks.proofs.Checks.{as_said, passed_by_lem}
+use borrow.Author.Rules.{rules}
+use Rattle.picture.proofs.read_picture.Goals as goal
+
+abbrev start : tie.After-verify → tie.Start
+start c = c.before.before.before.before
+
+-- the answer says the verdict, at the format's own size
+told : (c : tie.After-verify) → said c.verify.result ≡ picture_verdict (start c).args.f (start c).args.pic (start c).args.«data».now (start c).args.image.now
+told c = rw c.before.size.ensures.0 at c.verify.ensures
+
+pub paint_if_done-requires : goal.paint_if_done-requires
+paint_if_done-requires c =
+    let a = (start c).args in
+    passed_by_lem (size_of a.f) a.pic (length a.«data».now) (length a.image-1.now) (0 ∷ []) c.verify-answer.result (told c)
+
+pub returns : goal.returns
+returns c =
+    let a = (start c).args in
+    let d = a.«data».now in
+    let l = a.image-1.now in
+    as_said (said c.verify-answer.result) (picture_verdict a.f a.pic d l) (picture_of a.f a.pic d l) l _ c.paint_if_done.result (told c) c.paint_if_done.ensures

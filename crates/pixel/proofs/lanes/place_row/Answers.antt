@@ -1,0 +1,36 @@
+-- `pixel::lanes::place_row` meets its contract: the pixels of the row stand one after another, and the image has them.
+-- Assumes nothing.
+use Prim.Native.Nat.{◌+◌, ◌-◌, ◌*◌, ◌≤◌}
+use native.Mathlib.Omega.{arith}
+use lib.ListN.{length}
+use Rattle.rules.specs.Places.{element}
+use Rattle.pixel.proofs.place.Tile.{enough, pieced}
+use borrow.Author.Rules.{rules, scaled_Fits}
+use Rattle.pixel.proofs.lanes.place_row.Goals as goal
+
+-- the image has the piece
+there : (s : tie.Start) → element s.args.pic (s.args.bx * 4) s.args.y + s.args.n ≤ length s.args.image.now
+there s = enough s.args.pic s.args.bx s.args.y s.args.n s.requires.2 s.requires.3 s.requires.1 _ s.requires.4
+
+pub overflow_mul-at : goal.overflow_mul-at
+overflow_mul-at c = omega (arith, there c)
+
+pub overflow_add-at : goal.overflow_add-at
+overflow_add-at c = omega (arith, there c)
+
+pub overflow_add-end : goal.overflow_add-end
+overflow_add-end c = omega (arith, there c)
+
+pub offset_bounds-image-at : goal.offset_bounds-image-at
+offset_bounds-image-at c =
+    scaled_Fits _ _ _ (omega (arith, there c, c.requires.2, c.requires.3)) c.well-formed.1.1.1.1.1.1.0.1
+
+pub slice_bounds-fill-end : goal.slice_bounds-fill-end
+slice_bounds-fill-end c = omega (arith, there c)
+
+pub returns : goal.returns
+returns c =
+    let a = c.args in
+    let at = element a.pic (a.bx * 4) a.y in
+    pieced a.pic a.bx a.y a.n c.requires.2 c.requires.3 c.requires.1 a.tile a.i (at + a.n - at) a.image-1.now _ c.requires.4 (omega arith)
+    c.fill.ensures

@@ -1,0 +1,30 @@
+-- `sheet::later::after_blocks` meets its contract.
+-- Assumes nothing.
+use Prim.Native.Nat.{◌-◌}
+use Rattle.rules.specs.Records.{kept}
+use Rattle.sheet.specs.records.Turns.{Turn}
+use Rattle.sheet.proofs.records.Turns.{turn_of, ended_of, short_of}
+use Rattle.sheet.proofs.later.Follow.{none, cut-behind, second, other-behind}
+use borrow.Author.Rules.{rules}
+use Rattle.sheet.proofs.later.after_blocks.Goals as goal
+
+-- the record that was met
+turn : (c : tie.After-known-told)
+    → let a = c.before.before.before.before.before.args in let g = c.before.met.given.0 in Turn kept a.d.now a.at g.0 g.1.0 g.1.1.0
+turn c = turn_of kept _ _ c.before.before.before.next.result c.before.met.given.1 c.before.before.before.next.ensures
+
+pub returns-then-kind-eq2 : goal.returns-then-kind-eq2
+returns-then-kind-eq2 c = second _ _ _ _ _ (turn c) c.if-kind-eq2.true
+
+pub returns-else-kind-eq2 : goal.returns-else-kind-eq2
+returns-else-kind-eq2 c = other-behind _ _ _ _ _ (turn c) c.if-kind-eq2.false
+
+pub returns-in-End : goal.returns-in-End
+returns-in-End c =
+    let a = c.args in
+    none a.d.now a.at (ended_of kept _ _ c.next-met.result c.in-End.is c.next-met.ensures)
+
+pub returns-in-Cut : goal.returns-in-Cut
+returns-in-Cut c =
+    let a = c.args in
+    cut-behind a.d.now a.at (short_of kept _ _ c.next-met.result c.in-Cut.is c.next-met.ensures)

@@ -1,0 +1,65 @@
+-- `sheet::write::write_sheet` meets its contract.
+-- Assumes nothing.
+use mathlib.Core.Path.{◌≡◌, ◌∙◌, refl}
+use native.Mathlib.Omega.{arith}
+use lib.ListN.{length}
+use Rattle.rules.specs.Places.{sized}
+use Rattle.rules.specs.Answers.{said}
+use Rattle.rules.specs.declared.Answer.TheVariants.{Done}
+use Rattle.laws.proofs.Unique.{refusal}
+use Rattle.rules.specs.Sheets.{write_verdict}
+use Rattle.sheet.proofs.Sizes.{bytes}
+use Rattle.sheet.proofs.Checks.{Accepted, passed}
+use Rattle.sheet.specs.write.Front.{front_of_lem}
+use Rattle.sheet.proofs.write.Copied.{twice, is_sheet_said, front_length}
+use Rattle.sheet.proofs.write.Owes.{refuses, writes}
+use borrow.Author.Rules.{rules}
+use Rattle.sheet.proofs.write.write_sheet.Goals as goal
+
+-- every check has passed
+done : (c : tie.After-enum-told)
+    → let a = c.before.before.before.before.before.args in said Done ≡ write_verdict a.format (sized a.width a.height) a.blocks.now (length a.out.now)
+done c =
+    let v = c.before.before in
+    rw c.enum_told.given.1 at (v.verify.ensures v.before.before.before.args.blocks.now refl)
+
+good : (c : tie.After-enum-told) → let a = c.before.before.before.before.before.args in Accepted a.format (sized a.width a.height) a.blocks.now (length a.out.now)
+good c = passed _ _ _ _ (done c)
+
+-- LEFT
+-- sub-copy : tie.Need-overflow-sub-copy
+-- sub-copy c = let t = good c.before.before.before.before in omega (arith, t.roomy)
+
+-- LEFT
+-- part-copy-start : tie.Need-slice-bounds-copy-start
+-- part-copy-start c = let t = good c.before.before.before.before in omega (arith, t.roomy)
+
+-- LEFT
+-- copy-requires : tie.Need-copy-requires
+-- copy-requires c κs = let t = good c.before.before.before.before.before in omega (arith, t.roomy)
+
+pub returns-in_default : goal.returns-in_default
+returns-in_default c =
+    let a = c.args in
+    refuses a.format (sized a.width a.height) a.blocks.now a.out-1.now c.verify-answer.result
+    (c.verify-answer.ensures a.blocks.now refl)
+    (refusal c.verify-answer.result c.in-Done.keys2)
+
+pub put_front-requires : goal.put_front-requires
+put_front-requires c =
+    let t = good c in
+    let a = c.args in
+    let n = bytes a.format (sized a.width a.height) t.narrow t.low in (
+      (omega (arith, t.known), omega (arith, t.narrow), omega (arith, t.low)),
+      (omega (arith, t.exact, n), omega (arith, t.roomy)),
+    )
+
+pub returns : goal.returns
+returns c =
+    let a = c.args in
+    let b = a.blocks.now in
+    let p = sized a.width a.height in
+    let t = good c in
+    writes a.format p b a.out-1.now _ (done c)
+    (twice 21 (front_of_lem a.format p (length b)) b a.out-1.now _ _ (front_length a.format p (length b)) t.roomy c.put_front.ensures c.copy.ensures.1
+    ∙ is_sheet_said a.format p b a.out-1.now)

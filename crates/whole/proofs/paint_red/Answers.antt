@@ -1,0 +1,18 @@
+-- `eleven::paint_red` meets its contract: its tile is the block.
+-- Assumes nothing.
+use native.Mathlib.Omega.{arith}
+use Rattle.pixel.proofs.place.Grid.{roomy}
+use Rattle.whole.proofs.Lanes.{one-tile}
+use borrow.Author.Rules.{rules}
+use Rattle.whole.proofs.paint_red.Goals as goal
+
+pub place-requires : goal.place-requires
+place-requires c =
+    let r = c.requires.0.2 in
+    (omega (arith, c.requires.1.0), omega (arith, c.requires.1.1), roomy c.args.pic _ r.fits (omega (arith, r.roomy)))
+
+pub returns : goal.returns
+returns c =
+    let a = c.args in
+    one-tile a.pic a.span.signed a.d.now a.bx a.by c.eac_sixteens.result a.image-1.now _ c.eac_sixteens.ensures
+    c.place.ensures

@@ -1,0 +1,62 @@
+-- `eleven::paint_red_green` meets its contract: its two tiles, in the picture that is twice as wide, are the block.
+-- Assumes nothing.
+use mathlib.Core.List.{List}
+use mathlib.Core.Path.{◌∙◌, ap}
+use Prim.Native.Nat.{ℕ}
+use native.Mathlib.Omega.{arith}
+use lib.ListN.{length}
+use Rattle.rules.specs.Notation.{build}
+use Rattle.laws.proofs.Parts.{rest}
+use Rattle.pixel.specs.place.Tile.{Room}
+use Rattle.pixel.proofs.place.Grid.{kept}
+use Rattle.eac.proofs.Bytes.{middle_held}
+use Rattle.whole.specs.Lanes.{twice}
+use Rattle.whole.proofs.Lanes.{value_at, room_twice, both-tiles}
+use borrow.Author.Rules.{rules}
+use Rattle.whole.proofs.paint_red_green.Goals as goal
+
+-- what the function was given
+abbrev given : tie.After-doubled → tie.Start
+given w = w.before.before.before.before.before.before.before.before.before.before.before.before
+
+-- the image has every number of the wider picture
+wide : (s : tie.Start) → Room (twice s.args.pic) (length s.args.image.now)
+wide s = room_twice s.args.pic s.requires.0.2.fits _ s.requires.0.2.roomy
+
+pub eight_wholes-red_eight-requires : goal.eight_wholes-red_eight-requires
+eight_wholes-red_eight-requires c =
+    ((omega (arith, c.requires.0.0), c.requires.0.1, c.requires.1.2), middle_held c.middle_of-red_base.result c.middle_of-red_base.ensures.0 c.middle_of-red_base.ensures.1)
+
+pub eight_wholes-green_eight-requires : goal.eight_wholes-green_eight-requires
+eight_wholes-green_eight-requires c =
+    ((search rules, c.requires.0.1, c.requires.1.2), middle_held c.middle_of-green_base.result c.middle_of-green_base.ensures.0 c.middle_of-green_base.ensures.1)
+
+-- the column of a tile is small
+pub overflow_mul-bx : goal.overflow_mul-bx
+overflow_mul-bx c = let s = given c in omega (arith, s.pre.1.0, s.pre.0.2.narrow)
+
+pub place-requires : goal.place-requires
+place-requires c =
+    let s = given c in
+    rw c.doubled-wide.ensures (omega (arith, s.pre.1.0), omega (arith, s.pre.1.1), wide s)
+
+pub overflow_mul-bx-2 : goal.overflow_mul-bx-2
+overflow_mul-bx-2 c = let s = given c in omega (arith, s.pre.1.0, s.pre.0.2.narrow)
+
+pub overflow_add-bx : goal.overflow_add-bx
+overflow_add-bx c = let s = given c in omega (arith, s.pre.1.0, s.pre.0.2.narrow)
+
+pub place-requires-2 : goal.place-requires-2
+place-requires-2 c =
+    let s = given c in
+    rw c.doubled-wide.ensures (omega (arith, s.pre.1.0), omega (arith, s.pre.1.1), kept (twice s.args.pic) _ _ (wide s) c.place.ensures.same)
+
+pub returns : goal.returns
+returns c =
+    let s = given c in
+    let a = s.args in
+    both-tiles a.pic s.pre.0.2.fits a.span.signed a.d.now c.eac_sixteens-c.result c.eac_sixteens-c.result
+    c.eac_sixteens-c.ensures
+    (c.eac_sixteens-c.ensures ∙ ap (λ (l : List ℕ). build 16 (value_at a.span.signed l)) (rest 8 a.d.now))
+    a.bx a.by _ c.pairs.result c.pairs-2.result a.image-1.now _ _ (omega arith)
+    c.pairs.ensures c.pairs-2.ensures (rw c.doubled-wide.ensures at c.place.ensures) (rw c.doubled-wide.ensures at c.place-2.ensures)

@@ -1,0 +1,22 @@
+-- `eleven::whole_block` meets its contract: red and green, or red alone.
+-- Assumes nothing.
+use borrow.Author.Rules.{rules}
+use Rattle.whole.proofs.whole_block.Goals as goal
+
+pub whole_red_green-requires : goal.whole_red_green-requires
+whole_red_green-requires c =
+    let p = c.requires in
+    ((rw c.if-green.true at p.0.0, p.0.1, rw c.if-green.true at p.0.2), p.1)
+
+pub returns-then-green : goal.returns-then-green
+returns-then-green c =
+    rw c.if-green.true c.whole_red_green.ensures
+
+pub whole_red-requires : goal.whole_red-requires
+whole_red-requires c =
+    let p = c.requires in
+    ((rw c.if-green.false at p.0.0, p.0.1, rw c.if-green.false at p.0.2), p.1)
+
+pub returns : goal.returns
+returns c =
+    rw c.if-green.false c.whole_red.ensures
