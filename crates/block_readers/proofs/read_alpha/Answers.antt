@@ -11,25 +11,21 @@ use Rattle.block_readers.proofs.Block.{Passed, passed}
 use borrow.Author.Rules.{rules}
 use Rattle.block_readers.proofs.read_alpha.Goals as goal
 
-abbrev start : tie.After-verify → tie.Start
-start c = c.before.before.before
-
--- where the answer is Done, both checks have passed
-clear : (c : tie.After-enum-told) → Passed 8 (length (start c.before.before).args.«data».now) (length (start c.before.before).args.image.now)
-clear c = passed _ _ _ _ c.before.before.verify.ensures c.enum_told.given.1
-
 pub returns-in_default : goal.returns-in_default
 returns-in_default c =
-    unchanged _ _ (start c).args.image-1.now c.verify-answer.result c.verify-answer.ensures (refusal c.verify-answer.result c.in-Done.keys2)
+    unchanged _ _ c.args.image-1.now c.verify-answer.result c.verify-answer.ensures (refusal c.verify-answer.result c.in-Done.keys2)
 
 pub a8_over-requires : goal.a8_over-requires
-a8_over-requires c = ((clear c).enough, (clear c).room)
+a8_over-requires c =
+    let clear : Passed 8 (length c.args.«data».now) (length c.args.image-1.now) = passed _ _ _ _ c.verify-answer.ensures c.in-Done.is in
+    (clear.enough, clear.room)
 
 pub returns : goal.returns
 returns c =
-    let a = (start c).args in
+    let clear : Passed 8 (length c.args.«data».now) (length c.args.image-1.now) = passed _ _ _ _ c.verify-answer.ensures c.in-Done.is in
+    let a = c.args in
     let d = a.«data».now in
     let l = a.image-1.now in
-    done _ _ l _ (clear c).zero
+    done _ _ l _ clear.zero
     (is_painted _ (λ k. ltb k 16) (λ k. with_alpha (get_or l k 0) (alpha_byte d (k % 4) (k / 4))) l _ (λ k h. ltb→lt k 16 h) (λ k h. lt→ltb k 16 h)
     c.a8_over.ensures)

@@ -9,23 +9,26 @@ use Rattle.blocks.proofs.Alone.{enough, alone, whole_four}
 use borrow.Author.Rules.{rules}
 use Rattle.blocks.proofs.block_at.Goals as goal
 
--- the end of the block is within the data
-room : (c : tie.After-size) → c.before.before.args.n * c.size.result + c.size.result ≤ length c.before.before.args.«data».now
-room c = rw c.size.ensures.0 c.before.before.requires
-
 pub overflow_mul-at : goal.overflow_mul-at
-overflow_mul-at c = omega (arith, room c)
+overflow_mul-at c =
+    let room : c.args.n * c.size-s.result + c.size-s.result ≤ length c.args.«data».now = rw c.size-s.ensures.0 c.requires in
+    omega (arith, room)
 
 pub overflow_add-end : goal.overflow_add-end
-overflow_add-end c = omega (arith, room c)
+overflow_add-end c =
+    let room : c.args.n * c.size-s.result + c.size-s.result ≤ length c.args.«data».now = rw c.size-s.ensures.0 c.requires in
+    omega (arith, room)
 
 pub slice_bounds-run-end : goal.slice_bounds-run-end
-slice_bounds-run-end c = room c
+slice_bounds-run-end c =
+    let room : c.args.n * c.size-s.result + c.size-s.result ≤ length c.args.«data».now = rw c.size-s.ensures.0 c.requires in
+    room
 
 pub run-requires : goal.run-requires
 run-requires c =
+    let room : c.args.n * c.size-s.result + c.size-s.result ≤ length c.args.«data».now = rw c.size-s.ensures.0 c.requires in
     let a = c.args in
-    (enough (shows_of a.f) c.size-s.result (size_of a.f) a.n a.«data».now c.size-s.ensures.0 (room c), whole_four)
+    (enough (shows_of a.f) c.size-s.result (size_of a.f) a.n a.«data».now c.size-s.ensures.0 room, whole_four)
 
 pub returns : goal.returns
 returns c =

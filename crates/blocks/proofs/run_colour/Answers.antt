@@ -12,40 +12,47 @@ use Rattle.blocks.proofs.Beside.{Turned, start, turn, ended}
 use borrow.Author.Rules.{rules}
 use Rattle.blocks.proofs.run_colour.Goals as goal
 
--- the bytes of the turn's block are there
-enough : (c : tie.In-loop invariant-loop decreases-loop)
-    → c.before.loop.i * c.before.before.colour-size.result + c.before.before.colour-size.result
-    ≤ length c.before.before.before.before.before.before.args.«data».now
-enough c =
-    let z = c.before.before in
-    let s = z.before.before.before.before in
-    room z.colour-size.result s.args.n c.before.loop.i (length s.args.«data».now) c.loop-test.true
-    (subst (λ (m : ℕ). s.args.n * m ≤ length s.args.«data».now) (sym z.colour-size.ensures.0) s.requires.0)
-
 pub loop-i-init : goal.loop-i-init
 loop-i-init c =
     let a = c.args in
     start (colour_shows a.plain a.punch a.alpha) c.colour_size-size.result a.«data».now a.pic a.bx a.by a.n a.image-1.now
 
 pub overflow_mul-from : goal.overflow_mul-from
-overflow_mul-from c = omega (arith, enough c)
+overflow_mul-from c =
+    let enough : c.loop-i.i * c.colour_size-size.result + c.colour_size-size.result ≤ length c.args.«data».now = room c.colour_size-size.result c.args.n c.loop-i.i (length c.args.«data».now) c.loop-i-test.true
+    (subst (λ (m : ℕ). c.args.n * m ≤ length c.args.«data».now) (sym c.colour_size-size.ensures.0) c.requires.0) in
+    omega (arith, enough)
 
 pub overflow_add-end : goal.overflow_add-end
-overflow_add-end c = omega (arith, enough c)
+overflow_add-end c =
+    let enough : c.loop-i.i * c.colour_size-size.result + c.colour_size-size.result ≤ length c.args.«data».now = room c.colour_size-size.result c.args.n c.loop-i.i (length c.args.«data».now) c.loop-i-test.true
+    (subst (λ (m : ℕ). c.args.n * m ≤ length c.args.«data».now) (sym c.colour_size-size.ensures.0) c.requires.0) in
+    omega (arith, enough)
 
 pub slice_bounds-paint_colour-count : goal.slice_bounds-paint_colour-count
-slice_bounds-paint_colour-count c = omega (arith, enough c)
+slice_bounds-paint_colour-count c =
+    let enough : c.loop-i.i * c.colour_size-size.result + c.colour_size-size.result ≤ length c.args.«data».now = room c.colour_size-size.result c.args.n c.loop-i.i (length c.args.«data».now) c.loop-i-test.true
+    (subst (λ (m : ℕ). c.args.n * m ≤ length c.args.«data».now) (sym c.colour_size-size.ensures.0) c.requires.0) in
+    omega (arith, enough)
 
 pub slice_bounds-paint_colour-start : goal.slice_bounds-paint_colour-start
-slice_bounds-paint_colour-start c = omega (arith, enough c)
+slice_bounds-paint_colour-start c =
+    let enough : c.loop-i.i * c.colour_size-size.result + c.colour_size-size.result ≤ length c.args.«data».now = room c.colour_size-size.result c.args.n c.loop-i.i (length c.args.«data».now) c.loop-i-test.true
+    (subst (λ (m : ℕ). c.args.n * m ≤ length c.args.«data».now) (sym c.colour_size-size.ensures.0) c.requires.0) in
+    omega (arith, enough)
 
 pub slice_bounds-paint_colour-end : goal.slice_bounds-paint_colour-end
-slice_bounds-paint_colour-end c = omega (arith, enough c)
+slice_bounds-paint_colour-end c =
+    let enough : c.loop-i.i * c.colour_size-size.result + c.colour_size-size.result ≤ length c.args.«data».now = room c.colour_size-size.result c.args.n c.loop-i.i (length c.args.«data».now) c.loop-i-test.true
+    (subst (λ (m : ℕ). c.args.n * m ≤ length c.args.«data».now) (sym c.colour_size-size.ensures.0) c.requires.0) in
+    omega (arith, enough)
 
 pub paint_colour-requires : goal.paint_colour-requires
 paint_colour-requires c =
+    let enough : c.loop-i.i * c.colour_size-size.result + c.colour_size-size.result ≤ length c.args.«data».now = room c.colour_size-size.result c.args.n c.loop-i.i (length c.args.«data».now) c.loop-i-test.true
+    (subst (λ (m : ℕ). c.args.n * m ≤ length c.args.«data».now) (sym c.colour_size-size.ensures.0) c.requires.0) in
     let e = c.colour_size-size.ensures.0 in (
-      (simp (length-take, length-drop) (omega (arith, e, enough c)), c.modifiers-table.ensures),
+      (simp (length-take, length-drop) (omega (arith, e, enough)), c.modifiers-table.ensures),
       (omega (arith, c.requires.1.narrow), c.requires.1.low, kept c.args.pic _ _ c.requires.1.room c.loop-i.invariant.1.same),
     )
 

@@ -16,43 +16,43 @@ use Rattle.census.proofs.Answered.{too_large, too_short, passes, five}
 use Rattle.checks.proofs.Checks.{within}
 use Rattle.census.proofs.rgb.Goals as goal
 
--- past the first check, and past the second
-small : (c : tie.Else1) → too_large_lem limit c.before.before.before.args.pic ≡ false
-small c = sym c.before.too_large.ensures ∙ c.if1.false
-
-sides : (c : tie.Else1) → (c.before.before.before.args.pic.width ≤ limit) × (c.before.before.before.args.pic.height ≤ limit)
-sides c = within limit c.before.before.before.args.pic (small c)
-
-enough : (c : tie.Else2) → ltb (length c.before.before.before.before.before.args.«data».now) (blocks c.before.before.before.before.before.args.pic * 8) ≡ false
-enough c = sym c.before.short-data.ensures ∙ c.if2.false
-
 pub returns-then-too_large : goal.returns-then-too_large
 returns-then-too_large c =
     let a = c.args in
     too_large rgb_tests a.«data».now a.pic (sym c.too_large.ensures ∙ c.if-too_large.true)
 
 pub short_data-requires : goal.short_data-requires
-short_data-requires c = let t = sides c in search rules
+short_data-requires c =
+    let small : too_large_lem limit c.args.pic ≡ false = sym c.too_large.ensures ∙ c.if-too_large.false in
+    let sides : (c.args.pic.width ≤ limit) × (c.args.pic.height ≤ limit) = within limit c.args.pic small in
+    let t = sides in search rules
 
 pub returns-then-short_data : goal.returns-then-short_data
 returns-then-short_data c =
+    let small : too_large_lem limit c.args.pic ≡ false = sym c.too_large.ensures ∙ c.if-too_large.false in
     let a = c.args in
-    too_short rgb_tests a.«data».now a.pic (small c) (sym c.short_data.ensures ∙ c.if-short_data.true)
+    too_short rgb_tests a.«data».now a.pic small (sym c.short_data.ensures ∙ c.if-short_data.true)
 
 pub blocks_of-n-requires : goal.blocks_of-n-requires
-blocks_of-n-requires c = let t = sides c in search rules
+blocks_of-n-requires c =
+    let small : too_large_lem limit c.args.pic ≡ false = sym c.too_large.ensures ∙ c.if-too_large.false in
+    let sides : (c.args.pic.width ≤ limit) × (c.args.pic.height ≤ limit) = within limit c.args.pic small in
+    let t = sides in search rules
 
 pub tally-requires : goal.tally-requires
 tally-requires c =
+    let enough : ltb (length c.args.«data».now) (blocks c.args.pic * 8) ≡ false = sym c.short_data.ensures ∙ c.if-short_data.false in
     let a = c.args in
-    omega (arith, ltb-false (length a.«data».now) (blocks a.pic * 8) (enough c), c.blocks_of-n.ensures.0)
+    omega (arith, ltb-false (length a.«data».now) (blocks a.pic * 8) enough, c.blocks_of-n.ensures.0)
 
 pub returns : goal.returns
 returns c =
+    let small : too_large_lem limit c.args.pic ≡ false = sym c.too_large.ensures ∙ c.if-too_large.false in
+    let enough : ltb (length c.args.«data».now) (blocks c.args.pic * 8) ≡ false = sym c.short_data.ensures ∙ c.if-short_data.false in
     let a = c.args in
     let d = a.«data».now in
     ap (λ (l : List ℕ). 0 ∷ l)
     (c.rgb_counts.ensures
     ∙ five (bytes_of 8 d) c.blocks_of-c.result c.tally.result c.tally.ensures
     ∙ ap (λ (m : ℕ). counts (bytes_of 8 d) m rgb_tests) c.blocks_of-c.ensures.0)
-    ∙ passes rgb_tests d a.pic (small c) (enough c)
+    ∙ passes rgb_tests d a.pic small enough

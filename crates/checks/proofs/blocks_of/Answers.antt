@@ -8,19 +8,19 @@ use Rattle.checks.proofs.Checks.{few}
 use borrow.Author.Rules.{rules}
 use Rattle.checks.proofs.blocks_of.Goals as goal
 
--- along each side there are few
-small : (c : tie.After-across2) → c.before.across.result * c.across2.result ≤ 0x10000000
-small c =
-    few c.before.across.result c.across2.result
-    (omega (arith, c.before.across.ensures, c.before.before.requires.0))
-    (omega (arith, c.across2.ensures, c.before.before.requires.1))
-
 pub overflow_mul-result : goal.overflow_mul-result
-overflow_mul-result c = omega (arith, small c)
+overflow_mul-result c =
+    let small : c.across.result * c.across-2.result ≤ 0x10000000 = few c.across.result c.across-2.result
+    (omega (arith, c.across.ensures, c.requires.0))
+    (omega (arith, c.across-2.ensures, c.requires.1)) in
+    omega (arith, small)
 
 pub returns : goal.returns
 returns c =
+    let small : c.across.result * c.across-2.result ≤ 0x10000000 = few c.across.result c.across-2.result
+    (omega (arith, c.across.ensures, c.requires.0))
+    (omega (arith, c.across-2.ensures, c.requires.1)) in
     let pic = c.args.pic in (
       ap (λ (n : ℕ). n * c.across-2.result) c.across.ensures ∙ ap (λ (m : ℕ). across pic.width * m) c.across-2.ensures,
-      small c,
+      small,
     )

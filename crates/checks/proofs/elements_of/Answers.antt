@@ -14,12 +14,6 @@ few h p i j =
     let k : h - 1 ≤ 0x10000 = omega arith in
     mul-le-mul k j
 
-abbrev start : tie.Else2 → tie.Start
-start c = c.before.before.before.before
-
-small : (c : tie.Else2) → let pic = (start c).args.pic in (pic.height - 1) * pic.pitch ≤ 0x100000000
-small c = few (start c).args.pic.height (start c).args.pic.pitch (start c).requires.1 (start c).requires.2
-
 pub returns-then-pic-eq0 : goal.returns-then-pic-eq0
 unfolding needed
 returns-then-pic-eq0 c = rw (eq-eqb c.args.pic.width 0 c.if-pic-eq0.true)
@@ -31,14 +25,17 @@ returns-then-pic-eq0-2 c =
     rw (ne_eqb pic.width 0 c.if-pic-eq0.false, eq-eqb pic.height 0 c.if-pic-eq0-2.true)
 
 pub overflow_mul-result : goal.overflow_mul-result
-overflow_mul-result c = omega (arith, small c)
+overflow_mul-result c =
+    let small : let pic = c.args.pic in (pic.height - 1) * pic.pitch ≤ 0x100000000 = few c.args.pic.height c.args.pic.pitch c.requires.1 c.requires.2 in
+    omega (arith, small)
 
 pub overflow_add-result : goal.overflow_add-result
 overflow_add-result c =
-    omega (arith, small c, (start c).requires.0)
+    let small : let pic = c.args.pic in (pic.height - 1) * pic.pitch ≤ 0x100000000 = few c.args.pic.height c.args.pic.pitch c.requires.1 c.requires.2 in
+    omega (arith, small, c.requires.0)
 
 pub returns : goal.returns
 unfolding needed
 returns c =
-    let pic = (start c).args.pic in
+    let pic = c.args.pic in
     rw (ne_eqb pic.width 0 c.if-pic-eq0.false, ne_eqb pic.height 0 c.if-pic-eq0-2.false)

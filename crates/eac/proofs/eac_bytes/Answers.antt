@@ -6,15 +6,15 @@ use Rattle.eac.specs.Eights.{number_at}
 use Rattle.eac.proofs.Bytes.{picked_at}
 use Rattle.eac.proofs.eac_bytes.Goals as goal
 
--- what pixel k picks
-pick : (c : tie.After-picked) (k : ℕ) → k < 16 → get_or c.picked.result k (pos 0) ≡ get_or c.before.before.args.eight (number_at c.before.before.args.d.now k) (pos 0)
-pick c k h = picked_at c.before.before.args.d.now c.before.before.args.eight c.picked.result k c.picked.ensures h
-
 pub picked-requires : goal.picked-requires
 picked-requires c = (c.requires.0, λ j h. omega (arith, (c.requires.1 j h).1))
 
 pub widened-requires : goal.widened-requires
-widened-requires c = λ k h. rw (pick c k h) (c.requires.1 (number_at c.args.d.now k) (omega arith))
+widened-requires c =
+    let pick : (k : ℕ) → k < 16 → get_or c.picked.result k (pos 0) ≡ get_or c.args.eight (number_at c.args.d.now k) (pos 0) = λ k h. picked_at c.args.d.now c.args.eight c.picked.result k c.picked.ensures h in
+    λ k h. rw (pick k h) (c.requires.1 (number_at c.args.d.now k) (omega arith))
 
 pub returns : goal.returns
-returns c = c.widened.ensures ∙ build_same 0 _ _ 16 (λ k h. ap nat_abs (pick c k h))
+returns c =
+    let pick : (k : ℕ) → k < 16 → get_or c.picked.result k (pos 0) ≡ get_or c.args.eight (number_at c.args.d.now k) (pos 0) = λ k h. picked_at c.args.d.now c.args.eight c.picked.result k c.picked.ensures h in
+    c.widened.ensures ∙ build_same 0 _ _ 16 (λ k h. ap nat_abs (pick k h))

@@ -14,19 +14,6 @@ use Rattle.eac.proofs.eac_onto.Goals as goal
 alike : (p : ℕ) {b c u v : ℕ} → b ≡ c → u ≡ v → bit_or p (b * u) ≡ bit_or p (c * v)
 alike p e f = cc
 
--- what the function was given
-abbrev given : tie.After-eight-bytes invariant-loop decreases-loop → tie.Start invariant-loop decreases-loop
-given c = c.before.before.before.before.before.before.before
-
--- the eight bytes are those of the block
-eight : (c : tie.After-eight-bytes invariant-loop decreases-loop) → c.eight-bytes.result ≡ build 8 (λ j. pos (eighth_of (given c).args.signed (given c).args.d.now j))
-eight c = c.eight-bytes.ensures ∙ ap (λ (t : Bool). build 8 (λ j. pos (eighth_of t (given c).args.d.now j))) c.before.before.Span-of.ensures.0
-
-bytes : (c : tie.After-eac-bytes invariant-loop decreases-loop) → c.eac-bytes.result ≡ build 16 (byte_at (given c.before).args.signed (given c.before).args.d.now)
-bytes c =
-    let a = (given c.before).args in
-    bytes_of a.signed a.d.now c.before.eight-bytes.result (eight c.before) c.eac-bytes.result c.eac-bytes.ensures
-
 pub bounds-d-0 : goal.bounds-d-0
 bounds-d-0 c = omega arith
 
@@ -40,8 +27,8 @@ eight_bytes-eight-requires c =
 
 pub eac_bytes-bytes-requires : goal.eac_bytes-bytes-requires
 eac_bytes-bytes-requires c =
-    let s = given c in
-    (s.pre.0, eights-are-bytes s.args.signed s.args.d.now c.eight_bytes-eight.result (eight c))
+    let eight : c.eight_bytes-eight.result ≡ build 8 (λ j. pos (eighth_of c.args.signed c.args.d.now j)) = c.eight_bytes-eight.ensures ∙ ap (λ (t : Bool). build 8 (λ j. pos (eighth_of t c.args.d.now j))) c.Span-of.ensures.0 in
+    (c.pre.0, eights-are-bytes c.args.signed c.args.d.now c.eight_bytes-eight.result eight)
 
 pub loop-i-init : goal.loop-i-init
 loop-i-init c = begun in_order_lem _ 0 16 _ (search rules)
@@ -60,8 +47,11 @@ bounds-bytes-i c = omega arith
 
 pub overflow_mul-out : goal.overflow_mul-out
 overflow_mul-out c =
+    let eight : c.eight_bytes-eight.result ≡ build 8 (λ j. pos (eighth_of c.args.signed c.args.d.now j)) = c.eight_bytes-eight.ensures ∙ ap (λ (t : Bool). build 8 (λ j. pos (eighth_of t c.args.d.now j))) c.Span-of.ensures.0 in
+    let bytes : c.eac_bytes-bytes.result ≡ build 16 (byte_at c.args.signed c.args.d.now) = let a = c.args in
+    bytes_of a.signed a.d.now c.eight_bytes-eight.result eight c.eac_bytes-bytes.result c.eac_bytes-bytes.ensures in
     let u = c.unit_of-unit in
-    let s = byte_small _ _ c.eac_bytes-bytes.result c.loop-i.i (bytes c) (omega arith) in
+    let s = byte_small _ _ c.eac_bytes-bytes.result c.loop-i.i bytes (omega arith) in
     omega (arith, times_le (get_or c.eac_bytes-bytes.result c.loop-i.i 0) 255 u.result 0x1000000 (omega arith) (omega arith))
 
 pub offset_bounds-out-i : goal.offset_bounds-out-i
@@ -78,9 +68,12 @@ loop-i-smaller c = omega arith
 
 pub loop-i-preserved : goal.loop-i-preserved
 loop-i-preserved c =
+    let eight : c.eight_bytes-eight.result ≡ build 8 (λ j. pos (eighth_of c.args.signed c.args.d.now j)) = c.eight_bytes-eight.ensures ∙ ap (λ (t : Bool). build 8 (λ j. pos (eighth_of t c.args.d.now j))) c.Span-of.ensures.0 in
+    let bytes : c.eac_bytes-bytes.result ≡ build 16 (byte_at c.args.signed c.args.d.now) = let a = c.args in
+    bytes_of a.signed a.d.now c.eight_bytes-eight.result eight c.eac_bytes-bytes.result c.eac_bytes-bytes.ensures in
     let l = c.loop-i in
     stored_next _ 0 16 l.out l.i l.invariant _ (omega arith)
-    (alike (get_or (given c).args.px l.i 0) (byte-at _ _ c.eac_bytes-bytes.result l.i (bytes c) (omega arith)) c.unit_of-unit.ensures.0)
+    (alike (get_or c.args.px l.i 0) (byte-at _ _ c.eac_bytes-bytes.result l.i bytes (omega arith)) c.unit_of-unit.ensures.0)
 
 pub returns : goal.returns
 returns c =

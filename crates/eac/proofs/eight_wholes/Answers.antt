@@ -8,26 +8,6 @@ use Rattle.eac.specs.Eights.{whole_of}
 use Rattle.eac.proofs.Bytes.{step-held, step_small, in_order, whole-at}
 use Rattle.eac.proofs.eight_wholes.Goals as goal
 
--- what the function was given
-abbrev given : tie.After-eac-whole invariant-loop decreases-loop → tie.Start invariant-loop decreases-loop
-given c = c.before.before.before.before.before.before.before.before.before.before.before.before.before
-
--- the value of the turn
-value : (c : tie.After-eac-whole invariant-loop decreases-loop)
-    → held w16 c.eac-whole.result ≡ whole_of (given c).args.span.signed (given c).args.d.now c.before.before.before.before.before.loop.i
-value c =
-    let l = c.before.before.before.before.before in
-    let t = l.before in
-    let r = t.before.before.before in
-    let s = given c in
-    let a = s.args in
-    let d = a.d.now in
-    whole-at a.span.signed d a.base a.span.low a.span.high c.eac-whole.result _
-    t.times-of.result l.loop.i s.pre.1.0 s.pre.1.1 (t.times-of.ensures.0 ∙ ap multiplier t.before.multiplier-of.ensures.0)
-    s.pre.0.2.from s.pre.0.2.to
-    (step-held d r.steps-in.result r.before.row_of.result l.loop.i r.steps-in.ensures r.before.row_of.ensures.0)
-    c.eac-whole.ensures
-
 pub bounds-d-1 : goal.bounds-d-1
 bounds-d-1 c = omega arith
 
@@ -66,8 +46,15 @@ loop-i-smaller c = omega arith
 
 pub loop-i-preserved : goal.loop-i-preserved
 loop-i-preserved c =
+    let value : held w16 c.eac_whole.result ≡ whole_of c.args.span.signed c.args.d.now c.loop-i.i = let a = c.args in
+    let d = a.d.now in
+    whole-at a.span.signed d a.base a.span.low a.span.high c.eac_whole.result _
+    c.times_of-m.result c.loop-i.i c.pre.1.0 c.pre.1.1 (c.times_of-m.ensures.0 ∙ ap multiplier c.multiplier_of.ensures.0)
+    c.pre.0.2.from c.pre.0.2.to
+    (step-held d c.steps_in-steps.result c.row_of.result c.loop-i.i c.steps_in-steps.ensures c.row_of.ensures.0)
+    c.eac_whole.ensures in
     let l = c.loop-i in
-    stored_next _ (pos 0) 8 l.eight l.i l.invariant _ (omega arith) (value c)
+    stored_next _ (pos 0) 8 l.eight l.i l.invariant _ (omega arith) value
 
 pub returns : goal.returns
 returns c = filled-all _ (pos 0) 8 c.loop-i.eight c.loop-i.i c.loop-i.invariant (omega arith)

@@ -6,10 +6,6 @@ use Rattle.laws.proofs.Signed.{held, held_small, mag_add}
 use Rattle.eac.proofs.values.Whole.{as_natural}
 use Rattle.eac.proofs.eighths.Goals as goal
 
--- the value of the turn, as the machine holds it
-value : (c : tie.In-loop invariant-loop decreases-loop) → held w16 (get_or c.before.before.args.t1 c.before.loop.i (pos 0)) ≡ get_or c.before.before.args.t1 c.before.loop.i (pos 0)
-value c = held_small w16 _ (omega (arith, (c.before.before.requires.1 c.before.loop.i (omega arith)).1))
-
 pub loop-i-init : goal.loop-i-init
 loop-i-init c = begun in_order_lem _ (pos 0) 8 _ refl
 
@@ -21,8 +17,9 @@ bounds-wholes-i c = omega arith
 
 pub byte_of-requires : goal.byte_of-requires
 byte_of-requires c =
+    let value : held w16 (get_or c.args.wholes c.loop-i.i (pos 0)) ≡ get_or c.args.wholes c.loop-i.i (pos 0) = held_small w16 _ (omega (arith, (c.requires.1 c.loop-i.i (omega arith)).1)) in
     let p = c.requires.1 c.loop-i.i (omega arith) in
-    rw (value c) (p.1, c.requires.0, p.0)
+    rw value (p.1, c.requires.0, p.0)
 
 pub offset_bounds-eight-i : goal.offset_bounds-eight-i
 offset_bounds-eight-i c = omega arith
@@ -38,11 +35,12 @@ loop-i-smaller c = omega arith
 
 pub loop-i-preserved : goal.loop-i-preserved
 loop-i-preserved c =
+    let value : held w16 (get_or c.args.wholes c.loop-i.i (pos 0)) ≡ get_or c.args.wholes c.loop-i.i (pos 0) = held_small w16 _ (omega (arith, (c.requires.1 c.loop-i.i (omega arith)).1)) in
     let v = get_or c.args.wholes c.loop-i.i (pos 0) in
     let p = c.requires.1 c.loop-i.i (omega arith) in
     let n = (as_natural (pos c.args.up +ℤ v) 4096 p.0 (omega (arith, mag_add c.args.up v))).1 in
     stored_next _ (pos 0) 8 c.loop-i.eight c.loop-i.i c.loop-i.invariant _ (omega arith)
-    (ap (held w16) (c.byte_of.ensures ∙ ap (λ (z : ℤ). pos (nat_abs (pos c.args.up +ℤ z) / 8)) (value c))
+    (ap (held w16) (c.byte_of.ensures ∙ ap (λ (z : ℤ). pos (nat_abs (pos c.args.up +ℤ z) / 8)) value)
     ∙ held_small w16 (pos (nat_abs (pos c.args.up +ℤ v) / 8)) (omega (arith, n)))
 
 pub returns : goal.returns

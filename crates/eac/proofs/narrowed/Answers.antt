@@ -6,10 +6,6 @@ use Rattle.laws.proofs.Filling.{Filling, in_order_lem, begun, stored_next, fille
 use Rattle.laws.proofs.Signed.{held, held_small}
 use Rattle.eac.proofs.narrowed.Goals as goal
 
--- the value of the turn, as the machine holds it
-value : (c : tie.In-loop invariant-loop decreases-loop) → held w16 (get_or c.before.before.args.t1 c.before.loop.i (pos 0)) ≡ get_or c.before.before.args.t1 c.before.loop.i (pos 0)
-value c = held_small w16 _ (omega (arith, (c.before.before.requires.1 c.before.loop.i (omega arith)).1))
-
 pub loop-i-init : goal.loop-i-init
 loop-i-init c = begun in_order_lem _ 0 16 _ refl
 
@@ -21,8 +17,9 @@ bounds-whole-i c = omega arith
 
 pub sixteen-requires : goal.sixteen-requires
 sixteen-requires c =
+    let value : held w16 (get_or c.args.whole c.loop-i.i (pos 0)) ≡ get_or c.args.whole c.loop-i.i (pos 0) = held_small w16 _ (omega (arith, (c.requires.1 c.loop-i.i (omega arith)).1)) in
     let p = c.requires.1 c.loop-i.i (omega arith) in
-    rw (value c) (p.1, c.requires.0, p.0)
+    rw value (p.1, c.requires.0, p.0)
 
 pub offset_bounds-out-i : goal.offset_bounds-out-i
 offset_bounds-out-i c = omega arith
@@ -38,8 +35,9 @@ loop-i-smaller c = omega arith
 
 pub loop-i-preserved : goal.loop-i-preserved
 loop-i-preserved c =
+    let value : held w16 (get_or c.args.whole c.loop-i.i (pos 0)) ≡ get_or c.args.whole c.loop-i.i (pos 0) = held_small w16 _ (omega (arith, (c.requires.1 c.loop-i.i (omega arith)).1)) in
     let l = c.loop-i in
-    stored_next _ 0 16 l.out l.i l.invariant _ (omega arith) (c.sixteen.ensures ∙ ap sixteen (value c))
+    stored_next _ 0 16 l.out l.i l.invariant _ (omega arith) (c.sixteen.ensures ∙ ap sixteen value)
 
 pub returns : goal.returns
 returns c = filled-all _ 0 16 c.loop-i.out c.loop-i.i c.loop-i.invariant (omega arith)

@@ -6,16 +6,6 @@ use Rattle.laws.proofs.Signed.{held, held_small}
 use Rattle.eac.proofs.values.Whole.{as_natural}
 use Rattle.eac.proofs.widened.Goals as goal
 
--- the byte of the turn, as the machine holds it
-byte : (c : tie.In-loop invariant-loop decreases-loop) → held w16 (get_or c.before.before.args.t1 c.before.loop.i (pos 0)) ≡ get_or c.before.before.args.t1 c.before.loop.i (pos 0)
-byte c = held_small w16 _ (omega (arith, (c.before.before.requires c.before.loop.i (omega arith)).1))
-
--- and that it is one
-is_byte : (c : tie.In-loop invariant-loop decreases-loop) → nat_abs (get_or c.before.before.args.t1 c.before.loop.i (pos 0)) < 256
-is_byte c =
-    let p = c.before.before.requires c.before.loop.i (omega arith) in
-    (as_natural (get_or c.before.before.args.t1 c.before.loop.i (pos 0)) 256 p.0 p.1).1
-
 pub loop-i-init : goal.loop-i-init
 loop-i-init c = begun in_order_lem _ 0 16 _ refl
 
@@ -27,10 +17,17 @@ bounds-bytes-i c = omega arith
 
 pub overflow_cast-out : goal.overflow_cast-out
 overflow_cast-out c =
-    rw (byte c) ((c.requires c.loop-i.i (omega arith)).0, record { fits = omega (arith, is_byte c) })
+    let byte : held w16 (get_or c.args.bytes c.loop-i.i (pos 0)) ≡ get_or c.args.bytes c.loop-i.i (pos 0) = held_small w16 _ (omega (arith, (c.requires c.loop-i.i (omega arith)).1)) in
+    let is_byte : nat_abs (get_or c.args.bytes c.loop-i.i (pos 0)) < 256 = let p = c.requires c.loop-i.i (omega arith) in
+    (as_natural (get_or c.args.bytes c.loop-i.i (pos 0)) 256 p.0 p.1).1 in
+    rw byte ((c.requires c.loop-i.i (omega arith)).0, record { fits = omega (arith, is_byte) })
 
 pub overflow_cast-out-in-loop-i : goal.overflow_cast-out-in-loop-i
-overflow_cast-out-in-loop-i c = rw (byte c) (record { fits = omega (arith, is_byte c) })
+overflow_cast-out-in-loop-i c =
+    let byte : held w16 (get_or c.args.bytes c.loop-i.i (pos 0)) ≡ get_or c.args.bytes c.loop-i.i (pos 0) = held_small w16 _ (omega (arith, (c.requires c.loop-i.i (omega arith)).1)) in
+    let is_byte : nat_abs (get_or c.args.bytes c.loop-i.i (pos 0)) < 256 = let p = c.requires c.loop-i.i (omega arith) in
+    (as_natural (get_or c.args.bytes c.loop-i.i (pos 0)) 256 p.0 p.1).1 in
+    rw byte (record { fits = omega (arith, is_byte) })
 
 pub offset_bounds-out-i : goal.offset_bounds-out-i
 offset_bounds-out-i c = omega arith
@@ -46,8 +43,9 @@ loop-i-smaller c = omega arith
 
 pub loop-i-preserved : goal.loop-i-preserved
 loop-i-preserved c =
+    let byte : held w16 (get_or c.args.bytes c.loop-i.i (pos 0)) ≡ get_or c.args.bytes c.loop-i.i (pos 0) = held_small w16 _ (omega (arith, (c.requires c.loop-i.i (omega arith)).1)) in
     let l = c.loop-i in
-    stored_next _ 0 16 l.out-1 l.i l.invariant _ (omega arith) (ap nat_abs (byte c))
+    stored_next _ 0 16 l.out-1 l.i l.invariant _ (omega arith) (ap nat_abs byte)
 
 pub returns : goal.returns
 returns c = filled-all _ 0 16 c.loop-i.out-1 c.loop-i.i c.loop-i.invariant (omega arith)

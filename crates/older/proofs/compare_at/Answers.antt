@@ -35,19 +35,6 @@ at_place f g d t n k e s h l =
     ∙ ap (λ (z : Format). shows_of z (bytes_of (size_of z) d n) (k % 4) (k / 4)) e
     ∙ ap (λ (z : ℕ). shows_of g (bytes_of z d n) (k % 4) (k / 4)) s
 
--- where the block stands, in rows of as many blocks as were asked for
-abbrev start : tie.After-across → tie.Start
-start c = c.before.before.before.before.before.before
-
-some : (c : tie.After-across) → 0 < c.across.result
-some c = place.some_of (start c).args.pic (start c).args.b (start c).requires.0 c.across.result c.across.ensures
-
-column : (c : tie.After-across) → (start c).args.b % c.across.result * 4 ≤ (start c).args.pic.width
-column c = place.column-of (start c).args.pic (start c).args.b (start c).requires.0 c.across.result c.across.ensures
-
-row : (c : tie.After-across) → (start c).args.b / c.across.result * 4 ≤ (start c).args.pic.height
-row c = place.row_of (start c).args.pic (start c).args.b (start c).requires.0 c.across.result c.across.ensures
-
 -- LEFT
 -- rem-compare : tie.Need-nonzero-rem-compare
 -- rem-compare c = some c
@@ -65,25 +52,32 @@ block_at-new-requires c =
     fits c.shown.result (blocks c.args.pic) c.args.b _ (ap size_of c.shown.ensures ∙ shown-eight c.args.viewer) c.requires.0 c.requires.1
 
 pub overflow_mul-b : goal.overflow_mul-b
-overflow_mul-b c = omega (arith, column c, (start c).requires.2)
+overflow_mul-b c =
+    let column : c.args.b % c.across-row.result * 4 ≤ c.args.pic.width = place.column-of c.args.pic c.args.b c.requires.0 c.across-row.result c.across-row.ensures in
+    omega (arith, column, c.requires.2)
 
 pub overflow_sub-pic : goal.overflow_sub-pic
-overflow_sub-pic c = column c
+overflow_sub-pic c =
+    let column : c.args.b % c.across-row.result * 4 ≤ c.args.pic.width = place.column-of c.args.pic c.args.b c.requires.0 c.across-row.result c.across-row.ensures in
+    column
 
 pub overflow_mul-b-2 : goal.overflow_mul-b-2
-overflow_mul-b-2 c = omega (arith, row c, (start c).requires.3)
+overflow_mul-b-2 c =
+    let row : c.args.b / c.across-row.result * 4 ≤ c.args.pic.height = place.row_of c.args.pic c.args.b c.requires.0 c.across-row.result c.across-row.ensures in
+    omega (arith, row, c.requires.3)
 
 pub overflow_sub-pic-2 : goal.overflow_sub-pic-2
-overflow_sub-pic-2 c = row c
+overflow_sub-pic-2 c =
+    let row : c.args.b / c.across-row.result * 4 ≤ c.args.pic.height = place.row_of c.args.pic c.args.b c.requires.0 c.across-row.result c.across-row.ensures in
+    row
 
 pub returns : goal.returns
 returns c =
-    let s = start c in
-    let a = s.args in
+    let a = c.args in
     let d = a.«data».now in
     let g = guard_of a.viewer in
     alike _ (in_picture a.pic a.b) _ (older_at g d a.b) _ (newer_at g d a.b)
-    (λ k l. place.shown a.pic a.b s.pre.0 c.across-row.result c.across-row.ensures k)
+    (λ k l. place.shown a.pic a.b c.pre.0 c.across-row.result c.across-row.ensures k)
     (λ k l. at_place c.own.result g.own d c.block_at-c.result a.b k c.own.ensures (eight a.viewer) c.block_at-c.ensures l)
     (λ k l. at_place c.shown.result g.shown d c.block_at-c.result a.b k c.shown.ensures (shown-eight a.viewer) c.block_at-c.ensures l)
     _ c.compare.ensures

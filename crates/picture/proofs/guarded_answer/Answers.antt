@@ -20,47 +20,38 @@ use Rattle.picture.proofs.Viewed.{passed_by_lem, in_order}
 use borrow.Author.Rules.{rules}
 use Rattle.picture.proofs.guarded_answer.Goals as goal
 
-abbrev checks : tie.Start → List Check
-checks s = checks_for s.args.viewer s.args.pic (length s.args.d.now) s.args.elements
-
--- the guard, the test that the scan makes with blocks of so many bytes, and what it says of all blocks
-abbrev guard : tie.Start → Guard
-guard s = guard_of s.args.viewer
-
-abbrev test : tie.Start → ℕ → ℕ → Bool
-test s size i = (guard s).bad (bytes_of size s.args.d.now i)
-
-abbrev then : tie.Start → List ℕ
-then s = guarded (guard s).number (bad_at (guard s) s.args.d.now) (blocks s.args.pic)
-
-abbrev start : tie.After-enum-told → tie.Start
-start c = c.before.before.before.before
-
--- where the answer of the checks is Done, every one has passed
-clear : (c : tie.After-enum-told) → Passed 8 (start c).args.pic (length (start c).args.d.now) (start c).args.elements
-clear c =
-    let v = c.before.before in
-    let a = (start c).args in
-    passed_by_lem a.viewer a.pic (length a.d.now) a.elements (0 ∷ []) v.verify.result v.verify.ensures
-    (ap (λ (x : Answer). accepts (said x)) c.enum_told.given.1)
-
 pub returns-in_default : goal.returns-in_default
 returns-in_default c =
-    stops (checks c) (then c) c.verify-answer.result c.verify-answer.ensures (refusal c.verify-answer.result c.in-Done.keys2)
+    let checks : List Check = checks_for c.args.viewer c.args.pic (length c.args.d.now) c.args.elements in
+    let guard : Guard = guard_of c.args.viewer in
+    let then : List ℕ = guarded guard.number (bad_at guard c.args.d.now) (blocks c.args.pic) in
+    stops checks then c.verify-answer.result c.verify-answer.ensures (refusal c.verify-answer.result c.in-Done.keys2)
 
 pub blocks_of-requires : goal.blocks_of-requires
-blocks_of-requires c = ((clear c).narrow, (clear c).low)
+blocks_of-requires c =
+    let clear : Passed 8 c.args.pic (length c.args.d.now) c.args.elements = let a = c.args in
+    passed_by_lem a.viewer a.pic (length a.d.now) a.elements (0 ∷ []) c.verify-answer.result c.verify-answer.ensures
+    (ap (λ (x : Answer). accepts (said x)) c.in-Done.is) in
+    (clear.narrow, clear.low)
 
 pub refusal-requires : goal.refusal-requires
-refusal-requires c = (rw c.blocks_of.ensures.0 (clear c).enough, omega arith)
+refusal-requires c =
+    let clear : Passed 8 c.args.pic (length c.args.d.now) c.args.elements = let a = c.args in
+    passed_by_lem a.viewer a.pic (length a.d.now) a.elements (0 ∷ []) c.verify-answer.result c.verify-answer.ensures
+    (ap (λ (x : Answer). accepts (said x)) c.in-Done.is) in
+    (rw c.blocks_of.ensures.0 clear.enough, omega arith)
 
 pub returns : goal.returns
 returns c =
+    let checks : List Check = checks_for c.args.viewer c.args.pic (length c.args.d.now) c.args.elements in
+    let guard : Guard = guard_of c.args.viewer in
+    let test : ℕ → ℕ → Bool = λ size i. guard.bad (bytes_of size c.args.d.now i) in
+    let then : List ℕ = guarded guard.number (bad_at guard c.args.d.now) (blocks c.args.pic) in
     let a = c.args in
     c.refusal.ensures
-    ∙ from_first (guard c) c.blocks_of.result a.d.now
-    ∙ ap (guarded (guard c).number (test c 8)) c.blocks_of.ensures.0
-    ∙ ap (λ (size : ℕ). guarded (guard c).number (test c size) (blocks a.pic)) (sym (eight a.viewer))
+    ∙ from_first guard c.blocks_of.result a.d.now
+    ∙ ap (guarded guard.number (test 8)) c.blocks_of.ensures.0
+    ∙ ap (λ (size : ℕ). guarded guard.number (test size) (blocks a.pic)) (sym (eight a.viewer))
     ∙ sym
-    (goes_on (checks c) (then c) (in_order a.viewer a.pic (length a.d.now) a.elements)
+    (goes_on checks then (in_order a.viewer a.pic (length a.d.now) a.elements)
     (sym (ap said c.in-Done.is) ∙ c.verify-answer.ensures))

@@ -10,21 +10,16 @@ use Rattle.checks.proofs.Checks.{as_said, passed_by_lem}
 use borrow.Author.Rules.{rules}
 use Rattle.picture.proofs.read_picture.Goals as goal
 
-abbrev start : tie.After-verify → tie.Start
-start c = c.before.before.before.before
-
--- the answer says the verdict, at the format's own size
-told : (c : tie.After-verify) → said c.verify.result ≡ picture_verdict (start c).args.f (start c).args.pic (start c).args.«data».now (start c).args.image.now
-told c = rw c.before.size.ensures.0 at c.verify.ensures
-
 pub paint_if_done-requires : goal.paint_if_done-requires
 paint_if_done-requires c =
-    let a = (start c).args in
-    passed_by_lem (size_of a.f) a.pic (length a.«data».now) (length a.image-1.now) (0 ∷ []) c.verify-answer.result (told c)
+    let told : said c.verify-answer.result ≡ picture_verdict c.args.f c.args.pic c.args.«data».now c.args.image-1.now = rw c.size.ensures.0 at c.verify-answer.ensures in
+    let a = c.args in
+    passed_by_lem (size_of a.f) a.pic (length a.«data».now) (length a.image-1.now) (0 ∷ []) c.verify-answer.result told
 
 pub returns : goal.returns
 returns c =
-    let a = (start c).args in
+    let told : said c.verify-answer.result ≡ picture_verdict c.args.f c.args.pic c.args.«data».now c.args.image-1.now = rw c.size.ensures.0 at c.verify-answer.ensures in
+    let a = c.args in
     let d = a.«data».now in
     let l = a.image-1.now in
-    as_said (said c.verify-answer.result) (picture_verdict a.f a.pic d l) (picture_of a.f a.pic d l) l _ c.paint_if_done.result (told c) c.paint_if_done.ensures
+    as_said (said c.verify-answer.result) (picture_verdict a.f a.pic d l) (picture_of a.f a.pic d l) l _ c.paint_if_done.result told c.paint_if_done.ensures

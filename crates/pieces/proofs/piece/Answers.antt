@@ -15,28 +15,23 @@ use Rattle.pieces.proofs.Promise.{refused, accepted}
 use borrow.Author.Rules.{rules}
 use Rattle.pieces.proofs.piece.Goals as goal
 
-abbrev start_of : tie.After-check → tie.Start
-start_of c = c.before.before.before.before
-
--- where the answer is Done, every check has passed
-clear : (c : tie.After-enum-told) → 0 ∷ [] ≡ piece_verdict (start_of c.before.before).args.p (start_of c.before.before).args.image.now
-clear c = sym (ap said c.enum_told.given.1) ∙ c.before.before.check.ensures
-
 pub returns-in_default : goal.returns-in_default
 returns-in_default c =
-    let a = (start_of c).args in
+    let a = c.args in
     refused a.p a.bytes.now a.image-1.now c.check-answer.result c.check-answer.ensures (refusal c.check-answer.result c.in-Done.keys2)
 
 pub take_piece-requires : goal.take_piece-requires
 take_piece-requires c =
-    let a = (start_of c).args in
+    let clear : 0 ∷ [] ≡ piece_verdict c.args.p c.args.image-1.now = sym (ap said c.in-Done.is) ∙ c.check-answer.ensures in
+    let a = c.args in
     let pic = a.p.picture in
     let n = length a.image-1.now in
-    let k = passed (start_checks pic n) (0 ∷ []) tt (sym (ap accepts (clear c))) in
+    let k = passed (start_checks pic n) (0 ∷ []) tt (sym (ap accepts clear)) in
     let w = within_limit pic k.first in
     (w.0, w.1, roomy pic n (ltb-false pic.pitch pic.width k.rest.first) (ltb-false n (needed pic) k.rest.rest.first))
 
 pub returns : goal.returns
 returns c =
-    let a = (start_of c).args in
-    accepted a.p a.bytes.now a.image-1.now c.take_piece.result _ (clear c) c.take_piece.ensures
+    let clear : 0 ∷ [] ≡ piece_verdict c.args.p c.args.image-1.now = sym (ap said c.in-Done.is) ∙ c.check-answer.ensures in
+    let a = c.args in
+    accepted a.p a.bytes.now a.image-1.now c.take_piece.result _ clear c.take_piece.ensures

@@ -9,23 +9,25 @@ use Rattle.sheet_read.proofs.Sheets.{refuses}
 use borrow.Author.Rules.{rules}
 use Rattle.sheet_read.proofs.read_sheet.Goals as goal
 
--- the sheet that was found
-sheet : (c : tie.After-known-told)
-    → Sheeted c.before.before.before.before.before.before.args.bytes.now c.before.found.given.0.0 c.before.found.given.0.1.0 c.before.found.given.0.1.1.0
-sheet c = rw c.before.found.given.1 at c.before.before.before.find.ensures
-
 pub overflow_add-end : goal.overflow_add-end
-overflow_add-end c = let t = sheet c in omega (arith, t.within)
+overflow_add-end c =
+    let sheet : Sheeted c.args.bytes.now c.in-At.head c.in-At.start c.in-At.n = rw c.in-At.is at c.find-found.ensures in
+    let t = sheet in omega (arith, t.within)
 
 pub format_of-requires : goal.format_of-requires
-format_of-requires c = let t = sheet c in t.shown.begins.sound.known
+format_of-requires c =
+    let sheet : Sheeted c.args.bytes.now c.in-At.head c.in-At.start c.in-At.n = rw c.in-At.is at c.find-found.ensures in
+    let t = sheet in t.shown.begins.sound.known
 
 pub slice_bounds-read_picture-end : goal.slice_bounds-read_picture-end
-slice_bounds-read_picture-end c = let t = sheet c in omega (arith, t.within)
+slice_bounds-read_picture-end c =
+    let sheet : Sheeted c.args.bytes.now c.in-At.head c.in-At.start c.in-At.n = rw c.in-At.is at c.find-found.ensures in
+    let t = sheet in omega (arith, t.within)
 
 pub returns-in-At : goal.returns-in-At
 returns-in-At c =
-    let t = sheet c in
+    let sheet : Sheeted c.args.bytes.now c.in-At.head c.in-At.start c.in-At.n = rw c.in-At.is at c.find-found.ensures in
+    let t = sheet in
     let q = rw c.format_of.ensures at c.read_picture.ensures in
     reads _ _ _ t.shown _ _ _ (rw (add-sub_cancel_left c.in-At.start c.in-At.n) at q)
 

@@ -9,33 +9,6 @@ use Rattle.whole.specs.Lanes.{lanes, Ready}
 use Rattle.whole.proofs.Rows.{Turned, start, turn, from_first, fits, small}
 use Rattle.whole.proofs.paint_whole.Goals as goal
 
--- how many blocks the row has, how many of them are whole, and what is known where the function begins
-abbrev row_of : tie.In-loop invariant-loop decreases-loop → tie.After-across invariant-loop decreases-loop
-row_of c = c.before.before.before.before.before
-
-abbrev whole_of : tie.In-loop invariant-loop decreases-loop → tie.After-whole-in invariant-loop decreases-loop
-whole_of c = c.before.before.before.before
-
-abbrev start_of : tie.In-loop invariant-loop decreases-loop → tie.Start invariant-loop decreases-loop
-start_of c = (row_of c).before.before.before
-
--- the bytes of a block, as the function was told of them
-size : (c : tie.In-loop invariant-loop decreases-loop) → c.before.before.lanes-of.result * 8 ≡ lanes (start_of c).args.green * 8
-size c = ap (λ (z : ℕ). z * 8) c.before.before.lanes-of.ensures.0
-
--- the block is one of the row's
-in_row : (c : tie.In-loop invariant-loop decreases-loop) → c.before.loop.bx < (row_of c).across.result
-in_row c = omega (arith, c.loop-test.true, (whole_of c).whole_in.ensures.0, (row_of c).across.ensures)
-
--- the end of the block is within the data
-there : (c : tie.In-loop invariant-loop decreases-loop)
-    → ((start_of c).args.by * (row_of c).across.result + c.before.loop.bx) * (c.before.before.lanes-of.result * 8) + c.before.before.lanes-of.result * 8
-    ≤ length (start_of c).args.«data».now
-there c =
-    let s = start_of c in
-    fits s.args.pic s.args.by c.before.loop.bx (row_of c).across.result (c.before.before.lanes-of.result * 8) (lanes s.args.green) _
-    (row_of c).across.ensures (size c) (in_row c) s.pre.0.1 s.pre.0.0
-
 pub whole_in-n-requires : goal.whole_in-n-requires
 whole_in-n-requires c =
     omega (arith, c.requires.0.1, c.requires.0.2)
@@ -54,45 +27,75 @@ loop-bx-init c =
 
 pub overflow_add-from : goal.overflow_add-from
 overflow_add-from c =
-    let s = start_of c in
-    let w = (row_of c).across in
-    omega (arith, small s.args.pic s.args.by w.result w.ensures s.pre.1.narrow s.pre.0.2 s.pre.0.1, in_row c, w.ensures, s.pre.1.narrow)
+    let in_row : c.loop-bx.bx < c.across.result = omega (arith, c.loop-bx-test.true, c.whole_in.ensures.0, c.across.ensures) in
+    let w = c.across in
+    omega (arith, small c.args.pic c.args.by w.result w.ensures c.pre.1.narrow c.pre.0.2 c.pre.0.1, in_row, w.ensures, c.pre.1.narrow)
 
 pub overflow_mul-from : goal.overflow_mul-from
-overflow_mul-from c = omega (arith, there c)
+overflow_mul-from c =
+    let size : c.lanes_of-s.result * 8 ≡ lanes c.args.green * 8 = ap (λ (z : ℕ). z * 8) c.lanes_of-s.ensures.0 in
+    let in_row : c.loop-bx.bx < c.across.result = omega (arith, c.loop-bx-test.true, c.whole_in.ensures.0, c.across.ensures) in
+    let there : (c.args.by * c.across.result + c.loop-bx.bx) * (c.lanes_of-s.result * 8) + c.lanes_of-s.result * 8 ≤ length c.args.«data».now = fits c.args.pic c.args.by c.loop-bx.bx c.across.result (c.lanes_of-c.result * 8) (lanes c.args.green) _
+    c.across.ensures size in_row c.pre.0.1 c.pre.0.0 in
+    omega (arith, there)
 
 pub overflow_add-end : goal.overflow_add-end
-overflow_add-end c = omega (arith, there c)
+overflow_add-end c =
+    let size : c.lanes_of-s.result * 8 ≡ lanes c.args.green * 8 = ap (λ (z : ℕ). z * 8) c.lanes_of-s.ensures.0 in
+    let in_row : c.loop-bx.bx < c.across.result = omega (arith, c.loop-bx-test.true, c.whole_in.ensures.0, c.across.ensures) in
+    let there : (c.args.by * c.across.result + c.loop-bx.bx) * (c.lanes_of-s.result * 8) + c.lanes_of-s.result * 8 ≤ length c.args.«data».now = fits c.args.pic c.args.by c.loop-bx.bx c.across.result (c.lanes_of-c.result * 8) (lanes c.args.green) _
+    c.across.ensures size in_row c.pre.0.1 c.pre.0.0 in
+    omega (arith, there)
 
 pub slice_bounds-whole_block-count : goal.slice_bounds-whole_block-count
-slice_bounds-whole_block-count c = omega (arith, there c)
+slice_bounds-whole_block-count c =
+    let size : c.lanes_of-s.result * 8 ≡ lanes c.args.green * 8 = ap (λ (z : ℕ). z * 8) c.lanes_of-s.ensures.0 in
+    let in_row : c.loop-bx.bx < c.across.result = omega (arith, c.loop-bx-test.true, c.whole_in.ensures.0, c.across.ensures) in
+    let there : (c.args.by * c.across.result + c.loop-bx.bx) * (c.lanes_of-s.result * 8) + c.lanes_of-s.result * 8 ≤ length c.args.«data».now = fits c.args.pic c.args.by c.loop-bx.bx c.across.result (c.lanes_of-c.result * 8) (lanes c.args.green) _
+    c.across.ensures size in_row c.pre.0.1 c.pre.0.0 in
+    omega (arith, there)
 
 pub slice_bounds-whole_block-start : goal.slice_bounds-whole_block-start
-slice_bounds-whole_block-start c = omega (arith, there c)
+slice_bounds-whole_block-start c =
+    let size : c.lanes_of-s.result * 8 ≡ lanes c.args.green * 8 = ap (λ (z : ℕ). z * 8) c.lanes_of-s.ensures.0 in
+    let in_row : c.loop-bx.bx < c.across.result = omega (arith, c.loop-bx-test.true, c.whole_in.ensures.0, c.across.ensures) in
+    let there : (c.args.by * c.across.result + c.loop-bx.bx) * (c.lanes_of-s.result * 8) + c.lanes_of-s.result * 8 ≤ length c.args.«data».now = fits c.args.pic c.args.by c.loop-bx.bx c.across.result (c.lanes_of-c.result * 8) (lanes c.args.green) _
+    c.across.ensures size in_row c.pre.0.1 c.pre.0.0 in
+    omega (arith, there)
 
 pub slice_bounds-whole_block-end : goal.slice_bounds-whole_block-end
-slice_bounds-whole_block-end c = omega (arith, there c)
+slice_bounds-whole_block-end c =
+    let size : c.lanes_of-s.result * 8 ≡ lanes c.args.green * 8 = ap (λ (z : ℕ). z * 8) c.lanes_of-s.ensures.0 in
+    let in_row : c.loop-bx.bx < c.across.result = omega (arith, c.loop-bx-test.true, c.whole_in.ensures.0, c.across.ensures) in
+    let there : (c.args.by * c.across.result + c.loop-bx.bx) * (c.lanes_of-s.result * 8) + c.lanes_of-s.result * 8 ≤ length c.args.«data».now = fits c.args.pic c.args.by c.loop-bx.bx c.across.result (c.lanes_of-c.result * 8) (lanes c.args.green) _
+    c.across.ensures size in_row c.pre.0.1 c.pre.0.0 in
+    omega (arith, there)
 
 pub whole_block-requires : goal.whole_block-requires
 whole_block-requires c =
-    let s = start_of c in
-    let w = (whole_of c).whole_in.ensures in (
+    let size : c.lanes_of-s.result * 8 ≡ lanes c.args.green * 8 = ap (λ (z : ℕ). z * 8) c.lanes_of-s.ensures.0 in
+    let in_row : c.loop-bx.bx < c.across.result = omega (arith, c.loop-bx-test.true, c.whole_in.ensures.0, c.across.ensures) in
+    let there : (c.args.by * c.across.result + c.loop-bx.bx) * (c.lanes_of-s.result * 8) + c.lanes_of-s.result * 8 ≤ length c.args.«data».now = fits c.args.pic c.args.by c.loop-bx.bx c.across.result (c.lanes_of-c.result * 8) (lanes c.args.green) _
+    c.across.ensures size in_row c.pre.0.1 c.pre.0.0 in
+    let w = c.whole_in.ensures in (
       (
-        simp (length-take, length-drop) (omega (arith, there c, size c)),
+        simp (length-take, length-drop) (omega (arith, there, size)),
         c.alpha_steps-table.ensures,
-        subst (Ready (lanes s.args.green) s.args.pic) (sym c.loop-bx.invariant.1.2.same) s.pre.1,
+        subst (Ready (lanes c.args.green) c.args.pic) (sym c.loop-bx.invariant.1.2.same) c.pre.1,
       ),
-      (omega (arith, c.loop-bx-test.true, w.0), w.1 (omega (arith, c.loop-bx-test.true)), s.pre.0.3),
+      (omega (arith, c.loop-bx-test.true, w.0), w.1 (omega (arith, c.loop-bx-test.true)), c.pre.0.3),
     )
 
 pub loop-bx-preserved : goal.loop-bx-preserved
 loop-bx-preserved c =
-    let a = (start_of c).args in
+    let size : c.lanes_of-s.result * 8 ≡ lanes c.args.green * 8 = ap (λ (z : ℕ). z * 8) c.lanes_of-s.ensures.0 in
+    let in_row : c.loop-bx.bx < c.across.result = omega (arith, c.loop-bx-test.true, c.whole_in.ensures.0, c.across.ensures) in
+    let a = c.args in
     let l = c.loop-bx in (
       omega (arith, c.loop-bx-test.true),
-      turn (lanes a.green) a.span.signed a.«data».now a.pic a.by 0 l.bx (row_of c).across.result (c.lanes_of-s.result * 8)
+      turn (lanes a.green) a.span.signed a.«data».now a.pic a.by 0 l.bx c.across.result (c.lanes_of-s.result * 8)
           a.image-1.now l.image-1 _
-          (row_of c).across.ensures (size c) (in_row c) l.invariant.1 c.whole_block.ensures,
+          c.across.ensures size in_row l.invariant.1 c.whole_block.ensures,
     )
 
 pub shape_of-image : goal.shape_of-image

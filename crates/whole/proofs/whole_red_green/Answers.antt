@@ -15,14 +15,6 @@ use Rattle.whole.proofs.Lanes.{value_at, room_twice, both-tiles}
 use borrow.Author.Rules.{rules}
 use Rattle.whole.proofs.whole_red_green.Goals as goal
 
--- what the function was given
-abbrev given : tie.After-doubled → tie.Start
-given w = w.before.before.before.before.before.before.before.before.before.before.before.before
-
--- the image has every number of the wider picture
-wide : (s : tie.Start) → Room (twice s.args.pic) (length s.args.image.now)
-wide s = room_twice s.args.pic s.requires.0.2.fits _ s.requires.0.2.roomy
-
 pub eight_wholes-red_eight-requires : goal.eight_wholes-red_eight-requires
 eight_wholes-red_eight-requires c =
     ((omega (arith, c.requires.0.0), c.requires.0.1, c.requires.1.2), middle_held c.middle_of-red_base.result c.middle_of-red_base.ensures.0 c.middle_of-red_base.ensures.1)
@@ -33,29 +25,28 @@ eight_wholes-green_eight-requires c =
 
 -- the column of a tile is small
 pub overflow_mul-bx : goal.overflow_mul-bx
-overflow_mul-bx c = let s = given c in omega (arith, s.pre.1.0, s.pre.0.2.narrow)
+overflow_mul-bx c = omega (arith, c.pre.1.0, c.pre.0.2.narrow)
 
 pub place_whole-requires : goal.place_whole-requires
 place_whole-requires c =
-    let s = given c in
-    rw c.doubled-wide.ensures (omega (arith, s.pre.1.0), s.pre.1.1, wide s)
+    let wide : Room (twice c.args.pic) (length c.args.image-1.now) = room_twice c.args.pic c.requires.0.2.fits _ c.requires.0.2.roomy in
+    rw c.doubled-wide.ensures (omega (arith, c.pre.1.0), c.pre.1.1, wide)
 
 pub overflow_mul-bx-2 : goal.overflow_mul-bx-2
-overflow_mul-bx-2 c = let s = given c in omega (arith, s.pre.1.0, s.pre.0.2.narrow)
+overflow_mul-bx-2 c = omega (arith, c.pre.1.0, c.pre.0.2.narrow)
 
 pub overflow_add-bx : goal.overflow_add-bx
-overflow_add-bx c = let s = given c in omega (arith, s.pre.1.0, s.pre.0.2.narrow)
+overflow_add-bx c = omega (arith, c.pre.1.0, c.pre.0.2.narrow)
 
 pub place_whole-requires-2 : goal.place_whole-requires-2
 place_whole-requires-2 c =
-    let s = given c in
-    rw c.doubled-wide.ensures (omega (arith, s.pre.1.0), s.pre.1.1, kept (twice s.args.pic) _ _ (wide s) c.place_whole.ensures.same)
+    let wide : Room (twice c.args.pic) (length c.args.image-1.now) = room_twice c.args.pic c.requires.0.2.fits _ c.requires.0.2.roomy in
+    rw c.doubled-wide.ensures (omega (arith, c.pre.1.0), c.pre.1.1, kept (twice c.args.pic) _ _ wide c.place_whole.ensures.same)
 
 pub returns : goal.returns
 returns c =
-    let s = given c in
-    let a = s.args in
-    both-tiles a.pic s.pre.0.2.fits a.span.signed a.d.now c.eac_sixteens-c.result c.eac_sixteens-c.result
+    let a = c.args in
+    both-tiles a.pic c.pre.0.2.fits a.span.signed a.d.now c.eac_sixteens-c.result c.eac_sixteens-c.result
     c.eac_sixteens-c.ensures
     (c.eac_sixteens-c.ensures ∙ ap (λ (l : List ℕ). build 16 (value_at a.span.signed l)) (rest 8 a.d.now))
     a.bx a.by _ c.pairs.result c.pairs-2.result a.image-1.now _ _ (omega arith)

@@ -11,19 +11,6 @@ use Rattle.bake.proofs.baker.Verdict.{no-base, short-block, short-tile, done}
 use borrow.Author.Rules.{rules}
 use Rattle.bake.proofs.baker.bake.Goals as goal
 
--- the bases and the flip that have passed
-first_good : (c : tie.Else1) → above c.before.before.before.before.args.first ≡ false
-first_good c = sym c.before.above.ensures ∙ c.if1.false
-
-second-good : (c : tie.Else2) → above c.before.before.before.before.before.before.args.second ≡ false
-second-good c = sym c.before.above2.ensures ∙ c.if2.false
-
-abbrev start : tie.Else3 → tie.Start
-start c = c.before.before.before.before.before.before.before
-
-all-good : (c : tie.Else3) → no_base (start c).args.first (start c).args.second (start c).args.flip ≡ false
-all-good c = good (start c).args.first (start c).args.second (start c).args.flip (first_good c.before.before.before) (second-good c.before) c.if3.false
-
 pub returns-then-above : goal.returns-then-above
 returns-then-above c =
     let a = c.args in
@@ -41,21 +28,32 @@ returns-then-flip-gt1 c =
 
 pub returns-then-block-lt8 : goal.returns-then-block-lt8
 returns-then-block-lt8 c =
-    let a = (start c).args in
-    short-block a.first a.second a.flip a.tile.now a.block-1.now (all-good c) c.if-block-lt8.true
+    let first_good : above c.args.first ≡ false = sym c.above.ensures ∙ c.if-above.false in
+    let second-good : above c.args.second ≡ false = sym c.above-2.ensures ∙ c.if-above-2.false in
+    let all-good : no_base c.args.first c.args.second c.args.flip ≡ false = good c.args.first c.args.second c.args.flip first_good second-good c.if-flip-gt1.false in
+    let a = c.args in
+    short-block a.first a.second a.flip a.tile.now a.block-1.now all-good c.if-block-lt8.true
 
 pub returns-then-tile-lt16 : goal.returns-then-tile-lt16
 returns-then-tile-lt16 c =
-    let a = (start c).args in
-    short-tile a.first a.second a.flip a.tile.now a.block-1.now (all-good c) c.if-block-lt8.false c.if-tile-lt16.true
+    let first_good : above c.args.first ≡ false = sym c.above.ensures ∙ c.if-above.false in
+    let second-good : above c.args.second ≡ false = sym c.above-2.ensures ∙ c.if-above-2.false in
+    let all-good : no_base c.args.first c.args.second c.args.flip ≡ false = good c.args.first c.args.second c.args.flip first_good second-good c.if-flip-gt1.false in
+    let a = c.args in
+    short-tile a.first a.second a.flip a.tile.now a.block-1.now all-good c.if-block-lt8.false c.if-tile-lt16.true
 
 pub baked-requires : goal.baked-requires
 baked-requires c =
-    let a = (start c).args in
-    (four a.first (first_good c), (four a.second (second-good c), (omega (arith, c.if-flip-gt1.false), c.if-tile-lt16.false)))
+    let first_good : above c.args.first ≡ false = sym c.above.ensures ∙ c.if-above.false in
+    let second-good : above c.args.second ≡ false = sym c.above-2.ensures ∙ c.if-above-2.false in
+    let a = c.args in
+    (four a.first first_good, (four a.second second-good, (omega (arith, c.if-flip-gt1.false), c.if-tile-lt16.false)))
 
 pub returns : goal.returns
 returns c =
-    let a = (start c).args in
-    done a.first a.second a.flip a.tile.now a.block-1.now (all-good c) c.if-block-lt8.false c.if-tile-lt16.false _
+    let first_good : above c.args.first ≡ false = sym c.above.ensures ∙ c.if-above.false in
+    let second-good : above c.args.second ≡ false = sym c.above-2.ensures ∙ c.if-above-2.false in
+    let all-good : no_base c.args.first c.args.second c.args.flip ≡ false = good c.args.first c.args.second c.args.flip first_good second-good c.if-flip-gt1.false in
+    let a = c.args in
+    done a.first a.second a.flip a.tile.now a.block-1.now all-good c.if-block-lt8.false c.if-tile-lt16.false _
     (c.write.ensures ∙ ap (λ (l : List ℕ). eight_over l a.block-1.now) c.baked.ensures)

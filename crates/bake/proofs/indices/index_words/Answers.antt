@@ -10,36 +10,48 @@ use Rattle.bake.proofs.indices.Spelling.{Spelt, begun, turned, small, ended}
 use borrow.Author.Rules.{rules}
 use Rattle.bake.proofs.indices.index_words.Goals as goal
 
--- the index of each pixel
-abbrev rule : tie.Start invariant-loop decreases-loop → ℕ → ℕ
-rule c = index_by c.args.first c.args.second c.args.flip c.args.tile.now
-
--- the words are small before each turn
-bound : (c : tie.At-loop invariant-loop decreases-loop) → (c.loop.high < 65536) × (c.loop.low < 65536)
-bound c =
-    let a = c.before.before.args in
-    small (rule c.before.before) (λ k. one_of_four (of_half_lem a.first a.second (half_of a.flip k)) (get_or a.tile.now k 0)) c.loop.i c.loop.high c.loop.low c.loop.invariant
-
 pub loop-i-init : goal.loop-i-init
-loop-i-init c = begun (rule c)
+loop-i-init c =
+    let rule : ℕ → ℕ = index_by c.args.first c.args.second c.args.flip c.args.tile.now in
+    begun rule
 
 pub overflow_mul-high : goal.overflow_mul-high
-overflow_mul-high c = omega (arith, (bound c).0)
+overflow_mul-high c =
+    let rule : ℕ → ℕ = index_by c.args.first c.args.second c.args.flip c.args.tile.now in
+    let bound : (c.loop-i.high < 65536) × (c.loop-i.low < 65536) = let a = c.args in
+    small rule (λ k. one_of_four (of_half_lem a.first a.second (half_of a.flip k)) (get_or a.tile.now k 0)) c.loop-i.i c.loop-i.high c.loop-i.low c.loop-i.invariant in
+    omega (arith, bound.0)
 
 pub overflow_add-high : goal.overflow_add-high
-overflow_add-high c = omega (arith, (bound c).0)
+overflow_add-high c =
+    let rule : ℕ → ℕ = index_by c.args.first c.args.second c.args.flip c.args.tile.now in
+    let bound : (c.loop-i.high < 65536) × (c.loop-i.low < 65536) = let a = c.args in
+    small rule (λ k. one_of_four (of_half_lem a.first a.second (half_of a.flip k)) (get_or a.tile.now k 0)) c.loop-i.i c.loop-i.high c.loop-i.low c.loop-i.invariant in
+    omega (arith, bound.0)
 
 pub overflow_mul-low : goal.overflow_mul-low
-overflow_mul-low c = omega (arith, (bound c).1)
+overflow_mul-low c =
+    let rule : ℕ → ℕ = index_by c.args.first c.args.second c.args.flip c.args.tile.now in
+    let bound : (c.loop-i.high < 65536) × (c.loop-i.low < 65536) = let a = c.args in
+    small rule (λ k. one_of_four (of_half_lem a.first a.second (half_of a.flip k)) (get_or a.tile.now k 0)) c.loop-i.i c.loop-i.high c.loop-i.low c.loop-i.invariant in
+    omega (arith, bound.1)
 
 pub overflow_add-low : goal.overflow_add-low
-overflow_add-low c = omega (arith, (bound c).1)
+overflow_add-low c =
+    let rule : ℕ → ℕ = index_by c.args.first c.args.second c.args.flip c.args.tile.now in
+    let bound : (c.loop-i.high < 65536) × (c.loop-i.low < 65536) = let a = c.args in
+    small rule (λ k. one_of_four (of_half_lem a.first a.second (half_of a.flip k)) (get_or a.tile.now k 0)) c.loop-i.i c.loop-i.high c.loop-i.low c.loop-i.invariant in
+    omega (arith, bound.1)
 
 pub loop-i-preserved : goal.loop-i-preserved
 loop-i-preserved c =
-    turned (rule c) c.loop-i.i c.loop-i.high c.loop-i.low _ c.loop-i.invariant c.loop-i-test.true c.index_at-index.ensures.0
+    let rule : ℕ → ℕ = index_by c.args.first c.args.second c.args.flip c.args.tile.now in
+    turned rule c.loop-i.i c.loop-i.high c.loop-i.low _ c.loop-i.invariant c.loop-i-test.true c.index_at-index.ensures.0
 
 pub returns : goal.returns
 returns c =
-    let e = ended (rule c) c.loop-i.i c.loop-i.high c.loop-i.low c.loop-i.invariant (omega arith) in
-    (e.0, e.1, (bound c).0, (bound c).1)
+    let rule : ℕ → ℕ = index_by c.args.first c.args.second c.args.flip c.args.tile.now in
+    let bound : (c.loop-i.high < 65536) × (c.loop-i.low < 65536) = let a = c.args in
+    small rule (λ k. one_of_four (of_half_lem a.first a.second (half_of a.flip k)) (get_or a.tile.now k 0)) c.loop-i.i c.loop-i.high c.loop-i.low c.loop-i.invariant in
+    let e = ended rule c.loop-i.i c.loop-i.high c.loop-i.low c.loop-i.invariant (omega arith) in
+    (e.0, e.1, bound.0, bound.1)

@@ -8,37 +8,53 @@ use Rattle.bc.proofs.alphas.Shares.{eight, few, listed}
 use borrow.Author.Rules.{rules}
 use Rattle.bc.proofs.alphas.alphas.Goals as goal
 
--- two parts more, or none
-more : (c : tie.After-either) → c.either.result ≤ 510
-more c =
-    let p = c.before.before.before.byte in
-    omega (arith, c.either.ensures, few c.before.is-above.result p.result p.ensures.1)
-
 pub overflow_add-p-2 : goal.overflow_add-p-2
-overflow_add-p-2 c = omega (arith, more c, c.byte-p.ensures.1, c.byte-q.ensures.1)
+overflow_add-p-2 c =
+    let more : c.either-more.result ≤ 510 = let p = c.byte-p in
+    omega (arith, c.either-more.ensures, few c.is_above-sevenths.result p.result p.ensures.1) in
+    omega (arith, more, c.byte-p.ensures.1, c.byte-q.ensures.1)
 
 pub share-requires : goal.share-requires
-share-requires c = omega (arith, more c, c.byte-p.ensures.1, c.byte-q.ensures.1)
+share-requires c =
+    let more : c.either-more.result ≤ 510 = let p = c.byte-p in
+    omega (arith, c.either-more.ensures, few c.is_above-sevenths.result p.result p.ensures.1) in
+    omega (arith, more, c.byte-p.ensures.1, c.byte-q.ensures.1)
 
 pub overflow_add-p-4 : goal.overflow_add-p-4
-overflow_add-p-4 c = omega (arith, more c, c.byte-p.ensures.1, c.byte-q.ensures.1)
+overflow_add-p-4 c =
+    let more : c.either-more.result ≤ 510 = let p = c.byte-p in
+    omega (arith, c.either-more.ensures, few c.is_above-sevenths.result p.result p.ensures.1) in
+    omega (arith, more, c.byte-p.ensures.1, c.byte-q.ensures.1)
 
 pub share-requires-2 : goal.share-requires-2
-share-requires-2 c = omega (arith, more c, c.byte-p.ensures.1, c.byte-q.ensures.1)
+share-requires-2 c =
+    let more : c.either-more.result ≤ 510 = let p = c.byte-p in
+    omega (arith, c.either-more.ensures, few c.is_above-sevenths.result p.result p.ensures.1) in
+    omega (arith, more, c.byte-p.ensures.1, c.byte-q.ensures.1)
 
 pub overflow_add-p-6 : goal.overflow_add-p-6
-overflow_add-p-6 c = omega (arith, more c, c.byte-p.ensures.1, c.byte-q.ensures.1)
+overflow_add-p-6 c =
+    let more : c.either-more.result ≤ 510 = let p = c.byte-p in
+    omega (arith, c.either-more.ensures, few c.is_above-sevenths.result p.result p.ensures.1) in
+    omega (arith, more, c.byte-p.ensures.1, c.byte-q.ensures.1)
 
 pub share-requires-3 : goal.share-requires-3
-share-requires-3 c = omega (arith, more c, c.byte-p.ensures.1, c.byte-q.ensures.1)
+share-requires-3 c =
+    let more : c.either-more.result ≤ 510 = let p = c.byte-p in
+    omega (arith, c.either-more.ensures, few c.is_above-sevenths.result p.result p.ensures.1) in
+    omega (arith, more, c.byte-p.ensures.1, c.byte-q.ensures.1)
 
 pub overflow_add-p-8 : goal.overflow_add-p-8
 overflow_add-p-8 c =
-    omega (arith, more c, c.byte-p.ensures.1, c.byte-q.ensures.1)
+    let more : c.either-more.result ≤ 510 = let p = c.byte-p in
+    omega (arith, c.either-more.ensures, few c.is_above-sevenths.result p.result p.ensures.1) in
+    omega (arith, more, c.byte-p.ensures.1, c.byte-q.ensures.1)
 
 pub share-requires-4 : goal.share-requires-4
 share-requires-4 c =
-    omega (arith, more c, c.byte-p.ensures.1, c.byte-q.ensures.1)
+    let more : c.either-more.result ≤ 510 = let p = c.byte-p in
+    omega (arith, c.either-more.ensures, few c.is_above-sevenths.result p.result p.ensures.1) in
+    omega (arith, more, c.byte-p.ensures.1, c.byte-q.ensures.1)
 
 pub returns : goal.returns
 returns c =

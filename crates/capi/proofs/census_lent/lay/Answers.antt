@@ -11,11 +11,6 @@ use lib.Seq.{take-length}
 use Rattle.capi.proofs.census_lent.Laid.{next, long}
 use Rattle.capi.proofs.census_lent.lay.Goals as goal
 
-as_long : (c : tie.At-loop invariant-loop decreases-loop) → length c.loop.room ≡ length c.before.before.args.room.now
-as_long c =
-    let a = c.before.before.args in
-    ap length c.loop.invariant.1 ∙ long a.counts.now a.room.now c.loop.i c.loop.invariant.0 c.before.if1.false
-
 pub returns-then-room-counts : goal.returns-then-room-counts
 returns-then-room-counts c =
     let a = c.args in
@@ -29,7 +24,10 @@ pub offset_bounds-room-i : goal.offset_bounds-room-i
 offset_bounds-room-i c = omega arith
 
 pub bounds-room-i : goal.bounds-room-i
-bounds-room-i c = omega (arith, as_long c)
+bounds-room-i c =
+    let as_long : length c.loop-i.room ≡ length c.args.room.now = let a = c.args in
+    ap length c.loop-i.invariant.1 ∙ long a.counts.now a.room.now c.loop-i.i c.loop-i.invariant.0 c.if-room-counts.false in
+    omega (arith, as_long)
 
 pub loop-i-preserved : goal.loop-i-preserved
 loop-i-preserved c =
@@ -38,7 +36,10 @@ loop-i-preserved c =
     (omega arith, rw c.loop-i.invariant.1 (next a.counts.now a.room.now i c.loop-i-test.true c.if-room-counts.false))
 
 pub shape_of-room : goal.shape_of-room
-shape_of-room c = as_long c
+shape_of-room c =
+    let as_long : length c.loop-i.room ≡ length c.args.room.now = let a = c.args in
+    ap length c.loop-i.invariant.1 ∙ long a.counts.now a.room.now c.loop-i.i c.loop-i.invariant.0 c.if-room-counts.false in
+    as_long
 
 pub returns : goal.returns
 returns c =

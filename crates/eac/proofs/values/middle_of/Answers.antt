@@ -32,14 +32,11 @@ module _ (z : ℤ) (b : mag z < 256) where
       → (held w16 (pos 8 *ℤ held w16 z) ≡ middle t m) × (mag (held w16 (pos 8 *ℤ held w16 z)) < 4096)
   ends-eightfold t m e = (eightfold ∙ e, subst (λ (y : ℤ). mag y < 4096) (sym eightfold) (omega (arith, mag_mul 8 z)))
 
--- what the signed byte is, and that it is small
-small : (c : tie.After-signed-byte) → mag c.signed-byte.result < 256
-small c =
-    subst (λ (z : ℤ). mag z < 256) (sym c.signed-byte.ensures)
-    (ltb→lt _ _ (below (λ b. ltb (mag (signed_base b)) 256) 256 tt c.before.before.args.b (omega arith)))
-
 pub overflow_mul-result : goal.overflow_mul-result
-overflow_mul-result c = scaled 0 c.signed_byte.result (omega arith) (small c)
+overflow_mul-result c =
+    let small : mag c.signed_byte.result < 256 = subst (λ (z : ℤ). mag z < 256) (sym c.signed_byte.ensures)
+    (ltb→lt _ _ (below (λ b. ltb (mag (signed_base b)) 256) 256 tt c.args.b (omega arith))) in
+    scaled 0 c.signed_byte.result (omega arith) small
 
 pub overflow_mul-result-else-signed : goal.overflow_mul-result-else-signed
 overflow_mul-result-else-signed c = scaled 4 (pos c.args.b) (omega arith) (omega arith)
@@ -49,7 +46,9 @@ overflow_add-result c = moved 4 (pos c.args.b) (omega arith) (omega arith)
 
 pub returns-then-signed : goal.returns-then-signed
 returns-then-signed c =
-    ends-eightfold c.signed_byte.result (small c) c.args.signed c.args.b
+    let small : mag c.signed_byte.result < 256 = subst (λ (z : ℤ). mag z < 256) (sym c.signed_byte.ensures)
+    (ltb→lt _ _ (below (λ b. ltb (mag (signed_base b)) 256) 256 tt c.args.b (omega arith))) in
+    ends-eightfold c.signed_byte.result small c.args.signed c.args.b
     (ap (λ (z : ℤ). pos 8 *ℤ z) c.signed_byte.ensures ∙ ap (λ (t : Bool). middle t c.args.b) (sym c.if-signed.true))
 
 pub returns-else-signed : goal.returns-else-signed

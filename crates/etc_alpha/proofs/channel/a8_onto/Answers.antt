@@ -14,18 +14,6 @@ use Rattle.laws.proofs.Signed.{held}
 use Rattle.etc_alpha.proofs.channel.Moves.{small_alpha, small_byte, alpha_held}
 use Rattle.etc_alpha.proofs.channel.a8_onto.Goals as goal
 
--- the alpha of a turn
-abbrev given : tie.After-topped-arg invariant-loop decreases-loop → tie.Start invariant-loop decreases-loop
-given c = c.before.before.before.before.before
-
-turn : (c : tie.After-topped-arg invariant-loop decreases-loop)
-    → held w16 (get_or c.before.before.before.picked.result c.before.before.loop.i (pos 0))
-    ≡ pos (alpha_byte (given c).args.d.now (c.before.before.loop.i % 4) (c.before.before.loop.i / 4))
-turn c =
-    let s = given c in
-    let p = c.before.before.before.picked in
-    alpha_held s.args.d.now s.args.eight p.result c.before.before.loop.i s.pre.1 p.ensures (omega arith)
-
 pub picked-alphas-requires : goal.picked-alphas-requires
 picked-alphas-requires c =
     let d = c.args.d.now in
@@ -47,7 +35,10 @@ pub bounds-alphas-i : goal.bounds-alphas-i
 bounds-alphas-i c = omega arith
 
 pub topped-requires : goal.topped-requires
-topped-requires c = rw (turn c) (refl, small_byte (given c).args.d.now (c.loop-i.i % 4) (c.loop-i.i / 4))
+topped-requires c =
+    let turn : held w16 (get_or c.picked-alphas.result c.loop-i.i (pos 0)) ≡ pos (alpha_byte c.args.d.now (c.loop-i.i % 4) (c.loop-i.i / 4)) = let p = c.picked-alphas in
+    alpha_held c.args.d.now c.args.eight p.result c.loop-i.i c.pre.1 p.ensures (omega arith) in
+    rw turn (refl, small_byte c.args.d.now (c.loop-i.i % 4) (c.loop-i.i / 4))
 
 pub offset_bounds-out-i : goal.offset_bounds-out-i
 offset_bounds-out-i c = omega arith
@@ -63,9 +54,11 @@ loop-i-smaller c = omega arith
 
 pub loop-i-preserved : goal.loop-i-preserved
 loop-i-preserved c =
+    let turn : held w16 (get_or c.picked-alphas.result c.loop-i.i (pos 0)) ≡ pos (alpha_byte c.args.d.now (c.loop-i.i % 4) (c.loop-i.i / 4)) = let p = c.picked-alphas in
+    alpha_held c.args.d.now c.args.eight p.result c.loop-i.i c.pre.1 p.ensures (omega arith) in
     let l = c.loop-i in
-    let px = (given c).args.px in
-    stored_next _ 0 16 l.out l.i l.invariant _ (omega arith) (c.topped.ensures ∙ ap (λ (z : ℤ). with_alpha (get_or px l.i 0) (nat_abs z)) (turn c))
+    let px = c.args.px in
+    stored_next _ 0 16 l.out l.i l.invariant _ (omega arith) (c.topped.ensures ∙ ap (λ (z : ℤ). with_alpha (get_or px l.i 0) (nat_abs z)) turn)
 
 pub returns : goal.returns
 returns c =

@@ -20,24 +20,6 @@ use Rattle.etc_alpha.proofs.channel.a8_over.Goals as goal
 abbrev rule : List ℕ → List ℕ → ℕ → ℕ
 rule d image k = with_alpha (get_or image k 0) (alpha_byte d (k % 4) (k / 4))
 
--- the image keeps its length, and has sixteen elements
-room : (c : tie.In-loop invariant-loop decreases-loop) → c.before.loop.i < length c.before.loop.image
-room c =
-    let s = c.before.before.before.before.before.before.before.before in
-    omega (arith, c.before.loop.invariant.1.1.same, s.requires.1)
-
--- the alpha of a turn
-abbrev given : tie.After-topped-arg invariant-loop decreases-loop → tie.Start invariant-loop decreases-loop
-given c = c.before.before.before.before.before.before.before.before.before.before
-
-turn : (c : tie.After-topped-arg invariant-loop decreases-loop)
-    → held w16 (get_or c.before.before.before.before.picked.result c.before.before.before.loop.i (pos 0))
-    ≡ pos (alpha_byte (given c).args.d.now (c.before.before.before.loop.i % 4) (c.before.before.before.loop.i / 4))
-turn c =
-    let p = c.before.before.before.before in
-    let e = p.before.eight-alphas in
-    alpha_held (given c).args.d.now e.result p.picked.result c.before.before.before.loop.i e.ensures p.picked.ensures (omega arith)
-
 pub bounds-d-0 : goal.bounds-d-0
 bounds-d-0 c = omega arith
 
@@ -58,7 +40,9 @@ pub offset_bounds-image-i : goal.offset_bounds-image-i
 offset_bounds-image-i c = omega arith
 
 pub bounds-image-i : goal.bounds-image-i
-bounds-image-i c = room c
+bounds-image-i c =
+    let room : c.loop-i.i < length c.loop-i.image = omega (arith, c.loop-i.invariant.1.1.same, c.requires.1) in
+    room
 
 pub offset_bounds-alphas-i : goal.offset_bounds-alphas-i
 offset_bounds-alphas-i c = omega arith
@@ -67,13 +51,18 @@ pub bounds-alphas-i : goal.bounds-alphas-i
 bounds-alphas-i c = omega arith
 
 pub topped-requires : goal.topped-requires
-topped-requires c = rw (turn c) (refl, small_byte (given c).args.d.now (c.loop-i.i % 4) (c.loop-i.i / 4))
+topped-requires c =
+    let turn : held w16 (get_or c.picked-alphas.result c.loop-i.i (pos 0)) ≡ pos (alpha_byte c.args.d.now (c.loop-i.i % 4) (c.loop-i.i / 4)) = let e = c.eight_alphas in
+    alpha_held c.args.d.now e.result c.picked-alphas.result c.loop-i.i e.ensures c.picked-alphas.ensures (omega arith) in
+    rw turn (refl, small_byte c.args.d.now (c.loop-i.i % 4) (c.loop-i.i / 4))
 
 pub offset_bounds-image-i-in-loop-i : goal.offset_bounds-image-i-in-loop-i
 offset_bounds-image-i-in-loop-i c = omega arith
 
 pub bounds-image-i-in-loop-i : goal.bounds-image-i-in-loop-i
-bounds-image-i-in-loop-i c = room c
+bounds-image-i-in-loop-i c =
+    let room : c.loop-i.i < length c.loop-i.image = omega (arith, c.loop-i.invariant.1.1.same, c.requires.1) in
+    room
 
 pub overflow_add-i : goal.overflow_add-i
 overflow_add-i c = omega arith
@@ -83,17 +72,20 @@ loop-i-smaller c = omega arith
 
 pub loop-i-preserved : goal.loop-i-preserved
 loop-i-preserved c =
+    let room : c.loop-i.i < length c.loop-i.image = omega (arith, c.loop-i.invariant.1.1.same, c.requires.1) in
+    let turn : held w16 (get_or c.picked-alphas.result c.loop-i.i (pos 0)) ≡ pos (alpha_byte c.args.d.now (c.loop-i.i % 4) (c.loop-i.i / 4)) = let e = c.eight_alphas in
+    alpha_held c.args.d.now e.result c.picked-alphas.result c.loop-i.i e.ensures c.picked-alphas.ensures (omega arith) in
     let l = c.loop-i in
-    let a = (given c).args in
+    let a = c.args in
     let d = a.d.now in
     let old = a.image.now in
     let i = l.i in
     let stood : get_or l.image i 0 ≡ get_or old i 0 = l.invariant.1.1.miss i (λ h. omega arith) in
-    let e = c.topped.ensures ∙ ap (λ (z : ℤ). with_alpha (get_or l.image i 0) (nat_abs z)) (turn c)
+    let e = c.topped.ensures ∙ ap (λ (z : ℤ). with_alpha (get_or l.image i 0) (nat_abs z)) turn
     ∙ ap (λ (p : ℕ). with_alpha p (alpha_byte d (i % 4) (i / 4))) stood in (
       omega arith,
       subst (λ (v : ℕ). Begun (rule d old) old (set l.image i v) (i + 1)) (sym e)
-          (go_on (rule d old) old l.image i (room c) l.invariant.1),
+          (go_on (rule d old) old l.image i room l.invariant.1),
     )
 
 pub shape_of-image : goal.shape_of-image

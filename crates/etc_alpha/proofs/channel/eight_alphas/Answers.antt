@@ -24,11 +24,6 @@ product_at b j = get_or (products_of_lem (bits 7 4 b) (bits 3 0 b)) j (pos 0)
 small : (b j : ℕ) → mag (product_at b j) < 256
 small b j = small_product (bits 7 4 b) (bits 3 0 b) j (omega arith) (omega arith)
 
-product : (c : tie.After-products-of invariant-loop decreases-loop) (j : ℕ) → held w16 (get_or c.products-of.result j (pos 0)) ≡ product_at c.before.args.b j
-product c j =
-    ap (λ (l : List ℤ). held w16 (get_or l j (pos 0))) c.products-of.ensures
-    ∙ held_small w16 (product_at c.before.args.b j) (omega (arith, small c.before.args.b j))
-
 pub loop-i-init : goal.loop-i-init
 loop-i-init c = begun in_order_lem _ (pos 0) 8 _ refl
 
@@ -40,7 +35,9 @@ bounds-products-i c = omega arith
 
 pub alpha-requires : goal.alpha-requires
 alpha-requires c =
-    rw (product c c.loop-i.i) (small c.args.b c.loop-i.i)
+    let product : (j : ℕ) → held w16 (get_or c.products_of-products.result j (pos 0)) ≡ product_at c.args.b j = λ j. ap (λ (l : List ℤ). held w16 (get_or l j (pos 0))) c.products_of-products.ensures
+    ∙ held_small w16 (product_at c.args.b j) (omega (arith, small c.args.b j)) in
+    rw (product c.loop-i.i) (small c.args.b c.loop-i.i)
 
 pub overflow_cast-eight : goal.overflow_cast-eight
 overflow_cast-eight c = record { sfits = omega (arith, c.alpha.ensures.1) }
@@ -59,11 +56,13 @@ loop-i-smaller c = omega arith
 
 pub loop-i-preserved : goal.loop-i-preserved
 loop-i-preserved c =
+    let product : (j : ℕ) → held w16 (get_or c.products_of-products.result j (pos 0)) ≡ product_at c.args.b j = λ j. ap (λ (l : List ℤ). held w16 (get_or l j (pos 0))) c.products_of-products.ensures
+    ∙ held_small w16 (product_at c.args.b j) (omega (arith, small c.args.b j)) in
     let l = c.loop-i in
     let base = c.args.base in
     stored_next _ (pos 0) 8 l.eight l.i l.invariant _ (omega arith)
     (cast-pos w16 c.alpha.result (omega (arith, c.alpha.ensures.1))
-    ∙ ap pos (c.alpha.ensures.0 ∙ ap (λ (z : ℤ). clamp 255 (pos base +ℤ z)) (product c l.i)))
+    ∙ ap pos (c.alpha.ensures.0 ∙ ap (λ (z : ℤ). clamp 255 (pos base +ℤ z)) (product l.i)))
 
 pub returns : goal.returns
 returns c = filled-all _ (pos 0) 8 c.loop-i.eight c.loop-i.i c.loop-i.invariant (omega arith)

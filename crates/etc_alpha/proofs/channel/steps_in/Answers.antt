@@ -23,17 +23,6 @@ use Rattle.etc_alpha.proofs.channel.steps_in.Goals as goal
 -- index-2-out : tie.Need-bounds-2-out invariant-loop decreases-loop
 -- index-2-out c = omega arith
 
--- the number that the turn reads, and what it is
-abbrev read : tie.In-loop invariant-loop decreases-loop → ℤ
-read c = get_or (get_or c.before.before.args.table.now c.before.before.args.row []) c.before.loop.i (pos 0)
-
-is-step : (c : tie.In-loop invariant-loop decreases-loop) → read c ≡ get_or (get_or alpha_steps_lem c.before.before.args.row []) c.before.loop.i (pos 0)
-is-step c =
-    ap (λ (a : List (List ℤ)). get_or (get_or a c.before.before.args.row []) c.before.loop.i (pos 0)) c.before.before.requires.1
-
-is-small : (c : tie.In-loop invariant-loop decreases-loop) → mag (read c) < 16
-is-small c = rw (is-step c) (small_row _ _ c.before.before.requires.0)
-
 pub loop-i-init : goal.loop-i-init
 loop-i-init c = begun in_order_lem _ (pos 0) 8 _ refl
 
@@ -41,7 +30,11 @@ pub offset_bounds-table-row : goal.offset_bounds-table-row
 offset_bounds-table-row c = omega arith
 
 pub overflow_cast-out : goal.overflow_cast-out
-overflow_cast-out c = rw (held_small w8 (read c) (omega (arith, is-small c))) (record { sfits = omega (arith, is-small c) })
+overflow_cast-out c =
+    let read : ℤ = get_or (get_or c.args.table.now c.args.row []) c.loop-i.i (pos 0) in
+    let is-step : read ≡ get_or (get_or alpha_steps_lem c.args.row []) c.loop-i.i (pos 0) = ap (λ (a : List (List ℤ)). get_or (get_or a c.args.row []) c.loop-i.i (pos 0)) c.requires.1 in
+    let is-small : mag read < 16 = rw is-step (small_row _ _ c.requires.0) in
+    rw (held_small w8 read (omega (arith, is-small))) (record { sfits = omega (arith, is-small) })
 
 pub offset_bounds-out-i : goal.offset_bounds-out-i
 offset_bounds-out-i c = omega arith
@@ -57,9 +50,12 @@ loop-i-smaller c = omega arith
 
 pub loop-i-preserved : goal.loop-i-preserved
 loop-i-preserved c =
+    let read : ℤ = get_or (get_or c.args.table.now c.args.row []) c.loop-i.i (pos 0) in
+    let is-step : read ≡ get_or (get_or alpha_steps_lem c.args.row []) c.loop-i.i (pos 0) = ap (λ (a : List (List ℤ)). get_or (get_or a c.args.row []) c.loop-i.i (pos 0)) c.requires.1 in
+    let is-small : mag read < 16 = rw is-step (small_row _ _ c.requires.0) in
     let l = c.loop-i in
-    let s = is-small c in
-    stored_next _ (pos 0) 8 l.out-1 l.i l.invariant _ (omega arith) (held_twice w8 w16 (read c) (omega arith) (omega arith) ∙ is-step c)
+    let s = is-small in
+    stored_next _ (pos 0) 8 l.out-1 l.i l.invariant _ (omega arith) (held_twice w8 w16 read (omega arith) (omega arith) ∙ is-step)
 
 pub returns : goal.returns
 returns c =

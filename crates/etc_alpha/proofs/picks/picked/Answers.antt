@@ -21,13 +21,6 @@ use Rattle.etc_alpha.proofs.picks.picked.Goals as goal
 abbrev backwards : ℕ → ℕ
 backwards k = 15 - place k
 
--- the place that the turn stores at
-at : (c : tie.In-loop invariant-loop decreases-loop) → get_or c.before.before.before.write-order.result (15 - c.before.loop.i) 0 ≡ place (15 - c.before.loop.i)
-unfolding write_order_lem
-at c =
-    let j = 15 - c.before.loop.i in
-    ap (λ (a : List ℕ). get_or a j 0) c.before.before.before.write-order.ensures ∙ getD-build place 0 16 j (omega arith)
-
 pub loop-i-init : goal.loop-i-init
 loop-i-init c = (omega arith, begun backwards _ (pos 0) 16 _ refl)
 
@@ -47,10 +40,18 @@ pub bounds-order-i : goal.bounds-order-i
 bounds-order-i c = omega arith
 
 pub offset_bounds-out-order : goal.offset_bounds-out-order
-offset_bounds-out-order c = omega (arith, at c)
+unfolding write_order_lem
+offset_bounds-out-order c =
+    let at : get_or c.write_order-order.result (15 - c.loop-i.i) 0 ≡ place (15 - c.loop-i.i) = let j = 15 - c.loop-i.i in
+    ap (λ (a : List ℕ). get_or a j 0) c.write_order-order.ensures ∙ getD-build place 0 16 j (omega arith) in
+    omega (arith, at)
 
 pub bounds-out-order : goal.bounds-out-order
-bounds-out-order c = omega (arith, at c)
+unfolding write_order_lem
+bounds-out-order c =
+    let at : get_or c.write_order-order.result (15 - c.loop-i.i) 0 ≡ place (15 - c.loop-i.i) = let j = 15 - c.loop-i.i in
+    ap (λ (a : List ℕ). get_or a j 0) c.write_order-order.ensures ∙ getD-build place 0 16 j (omega arith) in
+    omega (arith, at)
 
 pub overflow_add-i : goal.overflow_add-i
 overflow_add-i c = omega arith
@@ -59,10 +60,13 @@ pub loop-i-smaller : goal.loop-i-smaller
 loop-i-smaller c = omega arith
 
 pub loop-i-preserved : goal.loop-i-preserved
+unfolding write_order_lem
 loop-i-preserved c =
+    let at : get_or c.write_order-order.result (15 - c.loop-i.i) 0 ≡ place (15 - c.loop-i.i) = let j = 15 - c.loop-i.i in
+    ap (λ (a : List ℕ). get_or a j 0) c.write_order-order.ensures ∙ getD-build place 0 16 j (omega arith) in
     let l = c.loop-i in
     let w = c.index-IsWord in
-    let o = at c in (
+    let o = at in (
       ap (λ (n : ℕ). n / 8) l.invariant.0 ∙ shifted w.result 3 l.i,
       stored backwards _ (pos 0) 16 l.out-1 l.i _ _ l.invariant.1 (omega arith) (omega arith) (λ k h e. place_only (15 - l.i) k h (omega arith) ∙ sym o)
           (held_small w16 _ (omega (arith, c.requires.1 (l.l % 8) (omega arith)))

@@ -7,28 +7,17 @@ use Rattle.etc_colour.proofs.planar.Fold.{planar_is, more, fewer}
 use Rattle.etc_colour.proofs.planar.Machine.{gap, part, four, two, three, all, all_m, small-more, small-fewer}
 use Rattle.etc_colour.proofs.planar.channel.Goals as goal
 
-small : (c : tie.Start) → (more c.args.o c.args.h c.args.v c.args.x c.args.y < 3000) × (fewer c.args.o c.args.x c.args.y < 3000)
-small c = (
-  small-more c.args.o c.args.h c.args.v c.args.x c.args.y (omega arith) (omega arith) (omega arith) (omega arith) (omega arith),
-  small-fewer c.args.o c.args.h c.args.v c.args.x c.args.y (omega arith) (omega arith) (omega arith) (omega arith) (omega arith),
-)
-
-number : (c : tie.Start)
-    → Is (held w16 (all_m c.args.o c.args.h c.args.v c.args.x c.args.y))
-    (more c.args.o c.args.h c.args.v c.args.x c.args.y) (fewer c.args.o c.args.x c.args.y)
-number c = is_held w16 (all c.args.o c.args.h c.args.v c.args.x c.args.y (omega arith) (omega arith) (omega arith) (omega arith) (omega arith))
-    (omega (arith, small c)) (omega (arith, small c))
-
-value : (c : tie.Start)
-    → planar_channel c.args.o c.args.h c.args.v c.args.x c.args.y
-    ≡ min ((more c.args.o c.args.h c.args.v c.args.x c.args.y - fewer c.args.o c.args.x c.args.y) / 4) 255
-value c = planar_is c.args.o c.args.h c.args.v c.args.x c.args.y
-
 -- LEFT
 -- div-clamp : tie.Need-nonzero-div-clamp
 -- div-clamp c =
 --     let n = number c.before in
 --     (omega arith, rw (is-quotient n 4 (is-natural n c.if1.false)) (record { sfits = omega (arith, small c.before) }))
+
+-- LEFT small : (c : tie.Start) → (more c.args.o c.args.h c.args.v c.args.x c.args.y < 3000) × (fewer c.args.o c.args.x c.args.y < 3000)
+-- small c = (
+--   small-more c.args.o c.args.h c.args.v c.args.x c.args.y (omega arith) (omega arith) (omega arith) (omega arith) (omega arith),
+--   small-fewer c.args.o c.args.h c.args.v c.args.x c.args.y (omega arith) (omega arith) (omega arith) (omega arith) (omega arith),
+-- )
 
 pub overflow_sub-n : goal.overflow_sub-n
 overflow_sub-n c = is-fits w16 (gap c.args.h c.args.o (omega arith) (omega arith)) (omega arith) (omega arith)
@@ -61,11 +50,17 @@ overflow_add-n-3 c = is-fits w16 (all c.args.o c.args.h c.args.v c.args.x c.args
 
 pub returns-then-n-lt0 : goal.returns-then-n-lt0
 returns-then-n-lt0 c =
-    let n = number c in
-    (omega (arith, value c, is_negative n c.if-n-lt0.true), omega arith)
+    let number : Is (held w16 (all_m c.args.o c.args.h c.args.v c.args.x c.args.y)) (more c.args.o c.args.h c.args.v c.args.x c.args.y) (fewer c.args.o c.args.x c.args.y) = is_held w16 (all c.args.o c.args.h c.args.v c.args.x c.args.y (omega arith) (omega arith) (omega arith) (omega arith) (omega arith))
+    (omega (arith, small c)) (omega (arith, small c)) in
+    let value : planar_channel c.args.o c.args.h c.args.v c.args.x c.args.y ≡ min ((more c.args.o c.args.h c.args.v c.args.x c.args.y - fewer c.args.o c.args.x c.args.y) / 4) 255 = planar_is c.args.o c.args.h c.args.v c.args.x c.args.y in
+    let n = number in
+    (omega (arith, value, is_negative n c.if-n-lt0.true), omega arith)
 
 pub returns-else-n-lt0 : goal.returns-else-n-lt0
 returns-else-n-lt0 c =
-    let n = number c in
+    let number : Is (held w16 (all_m c.args.o c.args.h c.args.v c.args.x c.args.y)) (more c.args.o c.args.h c.args.v c.args.x c.args.y) (fewer c.args.o c.args.x c.args.y) = is_held w16 (all c.args.o c.args.h c.args.v c.args.x c.args.y (omega arith) (omega arith) (omega arith) (omega arith) (omega arith))
+    (omega (arith, small c)) (omega (arith, small c)) in
+    let value : planar_channel c.args.o c.args.h c.args.v c.args.x c.args.y ≡ min ((more c.args.o c.args.h c.args.v c.args.x c.args.y - fewer c.args.o c.args.x c.args.y) / 4) 255 = planar_is c.args.o c.args.h c.args.v c.args.x c.args.y in
+    let n = number in
     let q = is-quotient n 4 (is-natural n c.if-n-lt0.false) in
-    (c.clamp.ensures.0 ∙ ap (clamp 255) (held_is w16 _ _ q (omega (arith, small c))) ∙ sym (value c), c.clamp.ensures.1)
+    (c.clamp.ensures.0 ∙ ap (clamp 255) (held_is w16 _ _ q (omega (arith, small c))) ∙ sym value, c.clamp.ensures.1)

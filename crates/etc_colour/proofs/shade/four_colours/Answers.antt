@@ -7,10 +7,6 @@ use Rattle.etc_colour.specs.shade.Tone.{toned}
 use Rattle.etc_colour.proofs.shade.Tone.{small_alpha, tone}
 use Rattle.etc_colour.proofs.shade.four_colours.Goals as goal
 
--- a small step is held as it is
-small : (c : tie.Start invariant-loop decreases-loop) (k : ℕ) → held w16 (get_or c.args.steps.now k (pos 0)) ≡ get_or c.args.steps.now k (pos 0)
-small c k = held_small w16 _ (omega (arith, c.requires.0 k))
-
 pub loop-i-init : goal.loop-i-init
 loop-i-init c = begun in_order_lem _ 0 4 _ refl
 
@@ -34,7 +30,8 @@ bounds-alphas-i c = omega arith
 
 pub applicate_color-requires : goal.applicate_color-requires
 applicate_color-requires c =
-    (rw (small c c.loop-i.i) (c.requires.0 c.loop-i.i), rw c.alphas_where-alphas.ensures (small_alpha c.args.opaque c.loop-i.i))
+    let small : (k : ℕ) → held w16 (get_or c.args.steps.now k (pos 0)) ≡ get_or c.args.steps.now k (pos 0) = λ k. held_small w16 _ (omega (arith, c.requires.0 k)) in
+    (rw (small c.loop-i.i) (c.requires.0 c.loop-i.i), rw c.alphas_where-alphas.ensures (small_alpha c.args.opaque c.loop-i.i))
 
 pub offset_bounds-colours-i : goal.offset_bounds-colours-i
 offset_bounds-colours-i c = omega arith
@@ -50,9 +47,10 @@ loop-i-smaller c = omega arith
 
 pub loop-i-preserved : goal.loop-i-preserved
 loop-i-preserved c =
+    let small : (k : ℕ) → held w16 (get_or c.args.steps.now k (pos 0)) ≡ get_or c.args.steps.now k (pos 0) = λ k. held_small w16 _ (omega (arith, c.requires.0 k)) in
     let l = c.loop-i in
     let w = c.alphas_where-alphas.ensures in
-    let e = small c l.i in
+    let e = small l.i in
     let base = get_or c.args.bases l.i [] in
     let made = c.applicate_color.ensures in
     stored_next _ 0 4 l.colours l.i l.invariant _ (omega arith)

@@ -7,17 +7,6 @@ use Rattle.etc_colour.specs.shade.Pick.{number_at, taken}
 use Rattle.etc_colour.proofs.shade.Pick.{small_number}
 use Rattle.etc_colour.proofs.shade.picked.Goals as goal
 
--- the number that the turn reads
-is_number_lem : (c : tie.In-loop invariant-loop decreases-loop)
-    → get_or c.before.before.numbers.result c.before.loop.i 0 ≡ number_at c.before.before.before.before.args.d.now c.before.loop.i
-is_number_lem c =
-    let d = c.before.before.before.before.args.d.now in
-    let i = c.before.loop.i in
-    ap (λ (l : List ℕ). get_or l i 0) c.before.before.numbers.ensures ∙ getD-build (number_at d) 0 16 i (omega arith)
-
-of-eight : (c : tie.In-loop invariant-loop decreases-loop) → get_or c.before.before.numbers.result c.before.loop.i 0 < 8
-of-eight c = rw (is_number_lem c) (small_number c.before.before.before.before.args.d.now c.before.loop.i (omega arith))
-
 pub loop-i-init : goal.loop-i-init
 loop-i-init c = begun in_order_lem _ 0 16 _ refl
 
@@ -28,13 +17,28 @@ pub bounds-number-i : goal.bounds-number-i
 bounds-number-i c = omega arith
 
 pub overflow_cast-out : goal.overflow_cast-out
-overflow_cast-out c = omega (arith, of-eight c)
+overflow_cast-out c =
+    let is_number_lem : get_or c.numbers-number.result c.loop-i.i 0 ≡ number_at c.args.d.now c.loop-i.i = let d = c.args.d.now in
+    let i = c.loop-i.i in
+    ap (λ (l : List ℕ). get_or l i 0) c.numbers-number.ensures ∙ getD-build (number_at d) 0 16 i (omega arith) in
+    let of-eight : get_or c.numbers-number.result c.loop-i.i 0 < 8 = rw is_number_lem (small_number c.args.d.now c.loop-i.i (omega arith)) in
+    omega (arith, of-eight)
 
 pub offset_bounds-colours-number : goal.offset_bounds-colours-number
-offset_bounds-colours-number c = omega (arith, of-eight c)
+offset_bounds-colours-number c =
+    let is_number_lem : get_or c.numbers-number.result c.loop-i.i 0 ≡ number_at c.args.d.now c.loop-i.i = let d = c.args.d.now in
+    let i = c.loop-i.i in
+    ap (λ (l : List ℕ). get_or l i 0) c.numbers-number.ensures ∙ getD-build (number_at d) 0 16 i (omega arith) in
+    let of-eight : get_or c.numbers-number.result c.loop-i.i 0 < 8 = rw is_number_lem (small_number c.args.d.now c.loop-i.i (omega arith)) in
+    omega (arith, of-eight)
 
 pub bounds-colours-number : goal.bounds-colours-number
-bounds-colours-number c = of-eight c
+bounds-colours-number c =
+    let is_number_lem : get_or c.numbers-number.result c.loop-i.i 0 ≡ number_at c.args.d.now c.loop-i.i = let d = c.args.d.now in
+    let i = c.loop-i.i in
+    ap (λ (l : List ℕ). get_or l i 0) c.numbers-number.ensures ∙ getD-build (number_at d) 0 16 i (omega arith) in
+    let of-eight : get_or c.numbers-number.result c.loop-i.i 0 < 8 = rw is_number_lem (small_number c.args.d.now c.loop-i.i (omega arith)) in
+    of-eight
 
 pub offset_bounds-out-i : goal.offset_bounds-out-i
 offset_bounds-out-i c = omega arith
@@ -51,9 +55,12 @@ loop-i-smaller c = omega arith
 pub loop-i-preserved : goal.loop-i-preserved
 unfolding taken
 loop-i-preserved c =
+    let is_number_lem : get_or c.numbers-number.result c.loop-i.i 0 ≡ number_at c.args.d.now c.loop-i.i = let d = c.args.d.now in
+    let i = c.loop-i.i in
+    ap (λ (l : List ℕ). get_or l i 0) c.numbers-number.ensures ∙ getD-build (number_at d) 0 16 i (omega arith) in
     let l = c.loop-i in
     let colours = c.args.colours in
-    stored_next _ 0 16 l.out l.i l.invariant _ (omega arith) (ap (λ (n : ℕ). get_or colours n 0) (is_number_lem c))
+    stored_next _ 0 16 l.out l.i l.invariant _ (omega arith) (ap (λ (n : ℕ). get_or colours n 0) is_number_lem)
 
 pub returns : goal.returns
 returns c =

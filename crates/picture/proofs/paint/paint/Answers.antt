@@ -17,38 +17,6 @@ use Rattle.blocks.proofs.Beside.{go_on, left_over}
 use borrow.Author.Rules.{rules}
 use Rattle.picture.proofs.paint.paint.Goals as goal
 
--- what is known where the function begins
-abbrev start_of : tie.In-loop invariant-loop decreases-loop → tie.Start invariant-loop decreases-loop
-start_of c = c.before.before.before.before.before.before.before
-
--- where the block stands, in rows of as many blocks as lie along the picture
-at : (c : tie.In-loop invariant-loop decreases-loop) → Stands (across (start_of c).args.pic.width) c.before.loop.b c.before.loop.spot.bx c.before.loop.spot.by
-at c = rw c.before.before.before.before.across.ensures at c.before.loop.invariant.2
-
--- the row of the block is one of the picture
-low : (c : tie.In-loop invariant-loop decreases-loop) → c.before.loop.spot.by < 0x10000
-low c =
-    let s = start_of c in
-    let l = c.before.loop in
-    omega (arith, high (across s.args.pic.width) (across s.args.pic.height) l.b l.spot.bx l.spot.by (at c) (omega (arith, c.loop-test.true, s.pre.0.3)), s.pre.0.1)
-
--- the bytes before the block, and those of the blocks from it on
-before : (c : tie.In-loop invariant-loop decreases-loop)
-    → (c.before.loop.b - (start_of c).args.first) * c.before.before.size.result ≡ (c.before.loop.b - (start_of c).args.first) * size_of (start_of c).args.f
-before c = ap (λ (z : ℕ). (c.before.loop.b - (start_of c).args.first) * z) c.before.before.size.ensures.0
-
-left : (c : tie.In-loop invariant-loop decreases-loop)
-    → ((c.before.loop.b - (start_of c).args.first) * size_of (start_of c).args.f ≤ length (start_of c).args.«data».now)
-    × (((start_of c).args.last - c.before.loop.b) * size_of (start_of c).args.f
-    ≤ length (start_of c).args.«data».now - (c.before.loop.b - (start_of c).args.first) * size_of (start_of c).args.f)
-left c =
-    let s = start_of c in
-    let a = s.args in
-    let b = c.before.loop.b in
-    let both : b - a.first + (a.last - b) ≡ a.last - a.first = omega (arith, c.before.loop.invariant.0, c.loop-test.true) in
-    let all = rw (sym both) at s.pre.1.1 in
-    (omega (arith, add-mul (b - a.first) (a.last - b) (size_of a.f), all), left_over (size_of a.f) (b - a.first) (a.last - b) (length a.«data».now) all)
-
 pub returns-then-row-eq0 : goal.returns-then-row-eq0
 returns-then-row-eq0 c =
     let a = c.args in
@@ -64,43 +32,80 @@ loop-b-init c =
     )
 
 pub overflow_mul-from : goal.overflow_mul-from
-overflow_mul-from c = omega (arith, before c, (left c).0)
+overflow_mul-from c =
+    let before : (c.loop-b.b - c.args.first) * c.size-s.result ≡ (c.loop-b.b - c.args.first) * size_of c.args.f = ap (λ (z : ℕ). (c.loop-b.b - c.args.first) * z) c.size-s.ensures.0 in
+    let at : Stands (across c.args.pic.width) c.loop-b.b c.loop-b.spot.bx c.loop-b.spot.by = rw c.across-row.ensures at.loop-b.invariant.2 in
+    let left : ((c.loop-b.b - c.args.first) * size_of c.args.f ≤ length c.args.«data».now) × ((c.args.last - c.loop-b.b) * size_of c.args.f ≤ length c.args.«data».now - (c.loop-b.b - c.args.first) * size_of c.args.f) = let a = c.args in
+    let b = c.loop-b.b in
+    let both : b - a.first + (a.last - b) ≡ a.last - a.first = omega (arith, c.loop-b.invariant.0, c.loop-b-test.true) in
+    let all = rw (sym both) at.pre.1.1 in
+    (omega (arith, add-mul (b - a.first) (a.last - b) (size_of a.f), all), left_over (size_of a.f) (b - a.first) (a.last - b) (length a.«data».now) all) in
+    omega (arith, before, left.0)
 
 pub slice_bounds-paint_some-count : goal.slice_bounds-paint_some-count
-slice_bounds-paint_some-count c = omega (arith, before c, (left c).0)
+slice_bounds-paint_some-count c =
+    let before : (c.loop-b.b - c.args.first) * c.size-s.result ≡ (c.loop-b.b - c.args.first) * size_of c.args.f = ap (λ (z : ℕ). (c.loop-b.b - c.args.first) * z) c.size-s.ensures.0 in
+    let at : Stands (across c.args.pic.width) c.loop-b.b c.loop-b.spot.bx c.loop-b.spot.by = rw c.across-row.ensures at.loop-b.invariant.2 in
+    let left : ((c.loop-b.b - c.args.first) * size_of c.args.f ≤ length c.args.«data».now) × ((c.args.last - c.loop-b.b) * size_of c.args.f ≤ length c.args.«data».now - (c.loop-b.b - c.args.first) * size_of c.args.f) = let a = c.args in
+    let b = c.loop-b.b in
+    let both : b - a.first + (a.last - b) ≡ a.last - a.first = omega (arith, c.loop-b.invariant.0, c.loop-b-test.true) in
+    let all = rw (sym both) at.pre.1.1 in
+    (omega (arith, add-mul (b - a.first) (a.last - b) (size_of a.f), all), left_over (size_of a.f) (b - a.first) (a.last - b) (length a.«data».now) all) in
+    omega (arith, before, left.0)
 
 pub slice_bounds-paint_some-start : goal.slice_bounds-paint_some-start
-slice_bounds-paint_some-start c = omega (arith, before c, (left c).0)
+slice_bounds-paint_some-start c =
+    let before : (c.loop-b.b - c.args.first) * c.size-s.result ≡ (c.loop-b.b - c.args.first) * size_of c.args.f = ap (λ (z : ℕ). (c.loop-b.b - c.args.first) * z) c.size-s.ensures.0 in
+    let at : Stands (across c.args.pic.width) c.loop-b.b c.loop-b.spot.bx c.loop-b.spot.by = rw c.across-row.ensures at.loop-b.invariant.2 in
+    let left : ((c.loop-b.b - c.args.first) * size_of c.args.f ≤ length c.args.«data».now) × ((c.args.last - c.loop-b.b) * size_of c.args.f ≤ length c.args.«data».now - (c.loop-b.b - c.args.first) * size_of c.args.f) = let a = c.args in
+    let b = c.loop-b.b in
+    let both : b - a.first + (a.last - b) ≡ a.last - a.first = omega (arith, c.loop-b.invariant.0, c.loop-b-test.true) in
+    let all = rw (sym both) at.pre.1.1 in
+    (omega (arith, add-mul (b - a.first) (a.last - b) (size_of a.f), all), left_over (size_of a.f) (b - a.first) (a.last - b) (length a.«data».now) all) in
+    omega (arith, before, left.0)
 
 pub paint_some-n-requires : goal.paint_some-n-requires
 paint_some-n-requires c =
-    let s = start_of c in
+    let at : Stands (across c.args.pic.width) c.loop-b.b c.loop-b.spot.bx c.loop-b.spot.by = rw c.across-row.ensures at.loop-b.invariant.2 in
+    let low : c.loop-b.spot.by < 0x10000 = let l = c.loop-b in
+    omega (arith, high (across c.args.pic.width) (across c.args.pic.height) l.b l.spot.bx l.spot.by at (omega (arith, c.loop-b-test.true, c.pre.0.3)), c.pre.0.1) in
+    let before : (c.loop-b.b - c.args.first) * c.size-s.result ≡ (c.loop-b.b - c.args.first) * size_of c.args.f = ap (λ (z : ℕ). (c.loop-b.b - c.args.first) * z) c.size-s.ensures.0 in
+    let left : ((c.loop-b.b - c.args.first) * size_of c.args.f ≤ length c.args.«data».now) × ((c.args.last - c.loop-b.b) * size_of c.args.f ≤ length c.args.«data».now - (c.loop-b.b - c.args.first) * size_of c.args.f) = let a = c.args in
+    let b = c.loop-b.b in
+    let both : b - a.first + (a.last - b) ≡ a.last - a.first = omega (arith, c.loop-b.invariant.0, c.loop-b-test.true) in
+    let all = rw (sym both) at.pre.1.1 in
+    (omega (arith, add-mul (b - a.first) (a.last - b) (size_of a.f), all), left_over (size_of a.f) (b - a.first) (a.last - b) (length a.«data».now) all) in
     let l = c.loop-b in (
       (
         omega (arith, c.loop-b-test.true),
-        simp (length-take, length-drop) (omega (arith, before c, (left c).1)),
-        s.pre.0.0,
-        kept s.args.pic _ _ s.pre.1.0 l.invariant.3.same,
+        simp (length-take, length-drop) (omega (arith, before, left.1)),
+        c.pre.0.0,
+        kept c.args.pic _ _ c.pre.1.0 l.invariant.3.same,
       ),
-      ((at c).short, low c),
+      (at.short, low),
     )
 
 pub after-spot-requires : goal.after-spot-requires
 after-spot-requires c =
+    let at : Stands (across c.args.pic.width) c.loop-b.b c.loop-b.spot.bx c.loop-b.spot.by = rw c.across-row.ensures at.loop-b.invariant.2 in
+    let low : c.loop-b.spot.by < 0x10000 = let l = c.loop-b in
+    omega (arith, high (across c.args.pic.width) (across c.args.pic.height) l.b l.spot.bx l.spot.by at (omega (arith, c.loop-b-test.true, c.pre.0.3)), c.pre.0.1) in
     let e = c.across-row.ensures in
-    (omega (arith, e, c.paint_some-n.ensures.2), omega (arith, e, (start_of c).requires.0.0), low c)
+    (omega (arith, e, c.paint_some-n.ensures.2), omega (arith, e, c.requires.0.0), low)
 
 pub loop-b-preserved : goal.loop-b-preserved
 loop-b-preserved c =
-    let a = (start_of c).args in
+    let at : Stands (across c.args.pic.width) c.loop-b.b c.loop-b.spot.bx c.loop-b.spot.by = rw c.across-row.ensures at.loop-b.invariant.2 in
+    let before : (c.loop-b.b - c.args.first) * c.size-s.result ≡ (c.loop-b.b - c.args.first) * size_of c.args.f = ap (λ (z : ℕ). (c.loop-b.b - c.args.first) * z) c.size-s.ensures.0 in
+    let a = c.args in
     let l = c.loop-b in
     let d = a.«data».now in (
       omega (arith, l.invariant.0),
       omega (arith, c.loop-b-test.true, c.paint_some-n.ensures.1),
       c.after-spot.ensures l.b l.invariant.2,
       go_on (shows_of a.f) (size_of a.f) d a.pic a.first l.b l.spot.bx l.spot.by c.paint_some-n.result _ a.image-1.now l.image-1 _
-          l.invariant.0 (at c)
-          (rest ((l.b - a.first) * c.size-s.result) d ∙ ap (λ (z : ℕ). drop z d) (before c))
+          l.invariant.0 at
+          (rest ((l.b - a.first) * c.size-s.result) d ∙ ap (λ (z : ℕ). drop z d) before)
           l.invariant.3
           c.paint_some-n.ensures.3,
     )
@@ -110,5 +115,6 @@ shape_of-image c = c.loop-b.invariant.3.same
 
 pub returns : goal.returns
 returns c =
+    let at : Stands (across c.args.pic.width) c.loop-b.b c.loop-b.spot.bx c.loop-b.spot.by = rw c.across-row.ensures at.loop-b.invariant.2 in
     let e : c.loop-b.b ≡ c.args.last = omega arith in
-    rw e at c.loop-b.invariant.3
+    rw e at.loop-b.invariant.3

@@ -17,68 +17,57 @@ use Rattle.pieces.proofs.kept.Numbers.{peel, one_block}
 use borrow.Author.Rules.{rules}
 use Rattle.pieces.proofs.joined.paint_joined.Goals as goal
 
-abbrev start_of : tie.After-size → tie.Start
-start_of z = z.before.before.before.before.before
-
-fifteen : (c : tie.Start) → length c.args.kept ≡ 15
-fifteen c = search rules
-
--- all bytes at hand
-abbrev hand : tie.Start → List ℕ
-hand s = take s.args.held s.args.kept ++ s.args.bytes.now
-
--- there is a block to paint
-some : (z : tie.After-size) → (start_of z).args.first < (start_of z).args.last
-some z = omega (arith, z.before.before.if1.false, (start_of z).requires.0.2)
-
--- the bytes of all blocks to paint are those of the first and of the others
-parted : (z : tie.After-size)
-    → ((start_of z).args.last - ((start_of z).args.first + 1)) * size_of (start_of z).args.f + size_of (start_of z).args.f ≤ (start_of z).args.held + length (start_of z).args.bytes.now
-parted z = let s = start_of z in omega (arith, peel s.args.first s.args.last (size_of s.args.f) (some z), s.pre.1.1)
-
 pub returns-then-held-eq0 : goal.returns-then-held-eq0
 returns-then-held-eq0 c = rw c.if-held-eq0.true c.paint.ensures
 
 pub paint-requires-2 : goal.paint-requires-2
 paint-requires-2 c =
-    let s = start_of c in
+    let some : c.args.first < c.args.last = omega (arith, c.if-first-last.false, c.requires.0.2) in
     let l : length c.first_block-joint.result ≡ 16 = ap length c.first_block-joint.ensures in (
-      (s.pre.0.0, s.pre.0.1, omega arith, omega (arith, some c, s.pre.0.3)),
-      (s.pre.0.4, omega (arith, one_block s.args.first (size_of s.args.f), c.size.ensures.0)),
+      (c.pre.0.0, c.pre.0.1, omega arith, omega (arith, some, c.pre.0.3)),
+      (c.pre.0.4, omega (arith, one_block c.args.first (size_of c.args.f), c.size.ensures.0)),
     )
 
 pub slice_bounds-paint-count : goal.slice_bounds-paint-count
-slice_bounds-paint-count c = omega (arith, parted c, c.size.ensures.0)
+slice_bounds-paint-count c =
+    let some : c.args.first < c.args.last = omega (arith, c.if-first-last.false, c.requires.0.2) in
+    let parted : (c.args.last - (c.args.first + 1)) * size_of c.args.f + size_of c.args.f ≤ c.args.held + length c.args.bytes.now = omega (arith, peel c.args.first c.args.last (size_of c.args.f) some, c.pre.1.1) in
+    omega (arith, parted, c.size.ensures.0)
 
 pub slice_bounds-paint-start : goal.slice_bounds-paint-start
 slice_bounds-paint-start c = sub-paint c
 
 pub paint-requires-3 : goal.paint-requires-3
 paint-requires-3 c =
-    let s = start_of c in (
-      (s.pre.0.0, s.pre.0.1, omega (arith, some c), s.pre.0.3),
+    let some : c.args.first < c.args.last = omega (arith, c.if-first-last.false, c.requires.0.2) in
+    let parted : (c.args.last - (c.args.first + 1)) * size_of c.args.f + size_of c.args.f ≤ c.args.held + length c.args.bytes.now = omega (arith, peel c.args.first c.args.last (size_of c.args.f) some, c.pre.1.1) in
+    (
+      (c.pre.0.0, c.pre.0.1, omega (arith, some), c.pre.0.3),
       (
-        kept s.args.pic _ _ s.pre.0.4 c.paint-2.ensures.same,
-        omega (arith, parted c, c.size.ensures.0, ap length (rest (c.size.result - s.args.held) s.args.bytes.now), length-drop (c.size.result - s.args.held) s.args.bytes.now),
+        kept c.args.pic _ _ c.pre.0.4 c.paint-2.ensures.same,
+        omega (arith, parted, c.size.ensures.0, ap length (rest (c.size.result - c.args.held) c.args.bytes.now), length-drop (c.size.result - c.args.held) c.args.bytes.now),
       ),
     )
 
 pub returns : goal.returns
 returns c =
-    let s = start_of c in
-    let a = s.args in
+    let fifteen : length c.args.kept ≡ 15 = search rules in
+    let hand : List ℕ = take c.args.held c.args.kept ++ c.args.bytes.now in
+    let some : c.args.first < c.args.last = omega (arith, c.if-first-last.false, c.requires.0.2) in
+    let parted : (c.args.last - (c.args.first + 1)) * size_of c.args.f + size_of c.args.f ≤ c.args.held + length c.args.bytes.now = omega (arith, peel c.args.first c.args.last (size_of c.args.f) some, c.pre.1.1) in
+    let a = c.args in
     let w = size_of a.f in
     let e = c.size.ensures in
-    let long : a.held ≤ length a.kept = omega (arith, fifteen s, e.0) in
-    let size : length (hand s) ≡ a.held + length a.bytes.now =
+    let long : a.held ≤ length a.kept = omega (arith, fifteen, e.0) in
+    let size : length hand ≡ a.held + length a.bytes.now =
     length-append (take a.held a.kept) a.bytes.now ∙ ap (λ (x : ℕ). x + length a.bytes.now) (length-take-le a.held a.kept long) in
-    two_runs a.pic a.first (a.first + 1) a.last _ a.image-1.now _ _ (omega arith) (omega (arith, some c))
-    (other-bytes a.pic (shows_of a.f) a.first (a.first + 1) _ (bytes_from w a.first (hand s)) a.image-1.now _
-    (λ n i j. ap (λ (l : List ℕ). bytes_of w l (n - a.first)) c.first_block-joint.ensures ∙ joint_block w (n - a.first) (hand s) (omega (arith, e.0)) (omega (arith, size, parted c)) (omega arith))
+    two_runs a.pic a.first (a.first + 1) a.last _ a.image-1.now _ _ (omega arith) (omega (arith, some))
+    (other-bytes a.pic (shows_of a.f) a.first (a.first + 1) _ (bytes_from w a.first hand) a.image-1.now _
+    (λ n i j. ap (λ (l : List ℕ). bytes_of w l (n - a.first)) c.first_block-joint.ensures ∙ joint_block w (n - a.first) hand (omega (arith, e.0)) (omega (arith, size, parted)) (omega arith))
     c.paint-2.ensures)
-    (other-bytes a.pic (shows_of a.f) (a.first + 1) a.last _ (bytes_from w a.first (hand s)) _ _
+    (other-bytes a.pic (shows_of a.f) (a.first + 1) a.last _ (bytes_from w a.first hand) _ _
     (λ n i j.
     ap (λ (l : List ℕ). bytes_of w l (n - (a.first + 1))) (rest (c.size.result - a.held) a.bytes.now ∙ ap (λ (x : ℕ). drop (x - a.held) a.bytes.now) e.0)
-    ∙ later_block w (n - (a.first + 1)) (n - a.first) a.held a.kept a.bytes.now (omega (arith, s.pre.1.0)) long (omega arith)
-    (room w (a.last - a.first) (n - a.first) _ (omega (arith, some c)) s.pre.1.1))
+    ∙ later_block w (n - (a.first + 1)) (n - a.first) a.held a.kept a.bytes.now (omega (arith, c.pre.1.0)) long (omega arith)
+    (room w (a.last - a.first) (n - a.first) _ (omega (arith, some)) c.pre.1.1))
     c.paint-3.ensures)

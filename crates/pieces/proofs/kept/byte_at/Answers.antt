@@ -7,20 +7,20 @@ use Rattle.pieces.proofs.kept.Joined.{low, high, past}
 use borrow.Author.Rules.{rules}
 use Rattle.pieces.proofs.kept.byte_at.Goals as goal
 
-fifteen : (c : tie.Start) → length c.args.t1 ≡ 15
-fifteen c = search rules
-
 pub returns-then-i-held : goal.returns-then-i-held
 returns-then-i-held c =
+    let fifteen : length c.args.kept ≡ 15 = search rules in
     let a = c.args in
-    low a.t1 a.bytes.now a.held (omega (arith, fifteen c)) a.i c.if-i-held.true
+    low a.t1 a.bytes.now a.held (omega (arith, fifteen)) a.i c.if-i-held.true
 
 pub returns-then-j-bytes : goal.returns-then-j-bytes
 returns-then-j-bytes c =
+    let fifteen : length c.args.kept ≡ 15 = search rules in
     let a = c.args in
-    high a.t1 a.bytes.now a.held (omega (arith, fifteen c)) a.i c.if-i-held.false
+    high a.t1 a.bytes.now a.held (omega (arith, fifteen)) a.i c.if-i-held.false
 
 pub returns : goal.returns
 returns c =
+    let fifteen : length c.args.kept ≡ 15 = search rules in
     let a = c.args in
-    past a.t1 a.bytes.now a.held (omega (arith, fifteen c)) a.i c.if-i-held.false c.if-j-bytes.false
+    past a.t1 a.bytes.now a.held (omega (arith, fifteen)) a.i c.if-i-held.false c.if-j-bytes.false

@@ -12,46 +12,59 @@ use Rattle.sheet.proofs.first.Heads.{nothing, wrong-kind, wrong-length, wrong-fo
 use borrow.Author.Rules.{rules}
 use Rattle.sheet.proofs.first.first_record.Goals as goal
 
--- the record that was met
-turn : (c : tie.After-known-told)
-    → Turn all c.before.before.before.before.before.args.d.now 0 c.before.met.given.0.0 c.before.met.given.0.1.0 c.before.met.given.0.1.1.0
-turn c = turn_of all _ 0 c.before.before.before.record-at.result c.before.met.given.1 c.before.before.before.record-at.ensures
-
 pub returns-in_default : goal.returns-in_default
 returns-in_default c = nothing _ c.record_at-met.result c.record_at-met.ensures c.in-Whole.keys2
 
 pub returns-then-kind-ne1 : goal.returns-then-kind-ne1
-returns-then-kind-ne1 c = wrong-kind _ _ _ _ (turn c) c.if-kind-ne1.true
+returns-then-kind-ne1 c =
+    let turn : Turn all c.args.d.now 0 c.in-Whole.kind c.in-Whole.start c.in-Whole.len = turn_of all _ 0 c.record_at-met.result c.in-Whole.is c.record_at-met.ensures in
+    wrong-kind _ _ _ _ turn c.if-kind-ne1.true
 
 pub returns-then-len-ne9 : goal.returns-then-len-ne9
-returns-then-len-ne9 c = wrong-length _ _ _ _ (turn c) c.if-kind-ne1.false c.if-len-ne9.true
+returns-then-len-ne9 c =
+    let turn : Turn all c.args.d.now 0 c.in-Whole.kind c.in-Whole.start c.in-Whole.len = turn_of all _ 0 c.record_at-met.result c.in-Whole.is c.record_at-met.ensures in
+    wrong-length _ _ _ _ turn c.if-kind-ne1.false c.if-len-ne9.true
 
 pub bounds-d-start : goal.bounds-d-start
-bounds-d-start c = let t = turn c in omega (arith, t.within)
+bounds-d-start c =
+    let turn : Turn all c.args.d.now 0 c.in-Whole.kind c.in-Whole.start c.in-Whole.len = turn_of all _ 0 c.record_at-met.result c.in-Whole.is c.record_at-met.ensures in
+    let t = turn in omega (arith, t.within)
 
 pub returns-then-format-gt7 : goal.returns-then-format-gt7
 returns-then-format-gt7 c =
-    wrong-format _ _ _ _ (turn c) c.if-kind-ne1.false c.if-len-ne9.false _ c.wide-format.ensures.0 (omega (arith, c.if-format-gt7.true))
+    let turn : Turn all c.args.d.now 0 c.in-Whole.kind c.in-Whole.start c.in-Whole.len = turn_of all _ 0 c.record_at-met.result c.in-Whole.is c.record_at-met.ensures in
+    wrong-format _ _ _ _ turn c.if-kind-ne1.false c.if-len-ne9.false _ c.wide-format.ensures.0 (omega (arith, c.if-format-gt7.true))
 
 pub overflow_add-start : goal.overflow_add-start
-overflow_add-start c = let t = turn c in omega (arith, t.within)
+overflow_add-start c =
+    let turn : Turn all c.args.d.now 0 c.in-Whole.kind c.in-Whole.start c.in-Whole.len = turn_of all _ 0 c.record_at-met.result c.in-Whole.is c.record_at-met.ensures in
+    let t = turn in omega (arith, t.within)
 
 pub little4-width-requires : goal.little4-width-requires
-little4-width-requires c = let t = turn c in omega (arith, t.within)
+little4-width-requires c =
+    let turn : Turn all c.args.d.now 0 c.in-Whole.kind c.in-Whole.start c.in-Whole.len = turn_of all _ 0 c.record_at-met.result c.in-Whole.is c.record_at-met.ensures in
+    let t = turn in omega (arith, t.within)
 
 pub overflow_add-start-2 : goal.overflow_add-start-2
-overflow_add-start-2 c = let t = turn c in omega (arith, t.within)
+overflow_add-start-2 c =
+    let turn : Turn all c.args.d.now 0 c.in-Whole.kind c.in-Whole.start c.in-Whole.len = turn_of all _ 0 c.record_at-met.result c.in-Whole.is c.record_at-met.ensures in
+    let t = turn in omega (arith, t.within)
 
 pub little4-height-requires : goal.little4-height-requires
-little4-height-requires c = let t = turn c in omega (arith, t.within)
+little4-height-requires c =
+    let turn : Turn all c.args.d.now 0 c.in-Whole.kind c.in-Whole.start c.in-Whole.len = turn_of all _ 0 c.record_at-met.result c.in-Whole.is c.record_at-met.ensures in
+    let t = turn in omega (arith, t.within)
 
 pub returns-then-too_large : goal.returns-then-too_large
 returns-then-too_large c =
-    too_large _ _ _ _ (turn c) c.if-kind-ne1.false c.if-len-ne9.false _ c.wide-format.ensures.0
+    let turn : Turn all c.args.d.now 0 c.in-Whole.kind c.in-Whole.start c.in-Whole.len = turn_of all _ 0 c.record_at-met.result c.in-Whole.is c.record_at-met.ensures in
+    too_large _ _ _ _ turn c.if-kind-ne1.false c.if-len-ne9.false _ c.wide-format.ensures.0
     (omega (arith, c.if-format-gt7.false)) _ _ c.little4-width.ensures.0 c.little4-height.ensures.0 (sym c.too_large.ensures ∙ c.if-too_large.true)
 
 pub overflow_add-behind : goal.overflow_add-behind
-overflow_add-behind c = let t = turn c in omega (arith, t.within)
+overflow_add-behind c =
+    let turn : Turn all c.args.d.now 0 c.in-Whole.kind c.in-Whole.start c.in-Whole.len = turn_of all _ 0 c.record_at-met.result c.in-Whole.is c.record_at-met.ensures in
+    let t = turn in omega (arith, t.within)
 
 pub block_bytes-requires : goal.block_bytes-requires
 block_bytes-requires c =
@@ -60,5 +73,6 @@ block_bytes-requires c =
 
 pub returns : goal.returns
 returns c =
-    headed _ _ _ _ (turn c) c.if-kind-ne1.false c.if-len-ne9.false _ c.wide-format.ensures.0 (omega (arith, c.if-format-gt7.false)) _ _
+    let turn : Turn all c.args.d.now 0 c.in-Whole.kind c.in-Whole.start c.in-Whole.len = turn_of all _ 0 c.record_at-met.result c.in-Whole.is c.record_at-met.ensures in
+    headed _ _ _ _ turn c.if-kind-ne1.false c.if-len-ne9.false _ c.wide-format.ensures.0 (omega (arith, c.if-format-gt7.false)) _ _
     c.little4-width.ensures.0 c.little4-height.ensures.0 (sym c.too_large.ensures ∙ c.if-too_large.false) _ c.block_bytes.ensures.0

@@ -8,16 +8,15 @@ use Rattle.sheet.proofs.later.Follow.{none, cut-behind, second, other-behind}
 use borrow.Author.Rules.{rules}
 use Rattle.sheet.proofs.later.after_blocks.Goals as goal
 
--- the record that was met
-turn : (c : tie.After-known-told)
-    → let a = c.before.before.before.before.before.args in let g = c.before.met.given.0 in Turn kept a.d.now a.at g.0 g.1.0 g.1.1.0
-turn c = turn_of kept _ _ c.before.before.before.next.result c.before.met.given.1 c.before.before.before.next.ensures
-
 pub returns-then-kind-eq2 : goal.returns-then-kind-eq2
-returns-then-kind-eq2 c = second _ _ _ _ _ (turn c) c.if-kind-eq2.true
+returns-then-kind-eq2 c =
+    let turn : let a = c.args in let g = c.met-1.given.0 in Turn kept a.d.now a.at g.0 g.1.0 g.1.1.0 = turn_of kept _ _ c.next-met.result c.in-Whole.is c.next-met.ensures in
+    second _ _ _ _ _ turn c.if-kind-eq2.true
 
 pub returns-else-kind-eq2 : goal.returns-else-kind-eq2
-returns-else-kind-eq2 c = other-behind _ _ _ _ _ (turn c) c.if-kind-eq2.false
+returns-else-kind-eq2 c =
+    let turn : let a = c.args in let g = c.met-1.given.0 in Turn kept a.d.now a.at g.0 g.1.0 g.1.1.0 = turn_of kept _ _ c.next-met.result c.in-Whole.is c.next-met.ensures in
+    other-behind _ _ _ _ _ turn c.if-kind-eq2.false
 
 pub returns-in-End : goal.returns-in-End
 returns-in-End c =

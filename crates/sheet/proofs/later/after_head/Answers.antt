@@ -10,35 +10,39 @@ use Rattle.sheet.proofs.later.Follow.{missing, cut, other, wrong-length, later-r
 use borrow.Author.Rules.{rules}
 use Rattle.sheet.proofs.later.after_head.Goals as goal
 
--- the record that was met
-turn : (c : tie.After-known-told)
-    → let a = c.before.before.before.before.before.args in let g = c.before.met.given.0 in Turn kept a.d.now a.at g.0 g.1.0 g.1.1.0
-turn c = turn_of kept _ _ c.before.before.before.next.result c.before.met.given.1 c.before.before.before.next.ensures
-
 pub returns-then-kind-ne2 : goal.returns-then-kind-ne2
-returns-then-kind-ne2 c = other _ _ _ _ _ _ (turn c) c.if-kind-ne2.true
+returns-then-kind-ne2 c =
+    let turn : let a = c.args in let g = c.met-1.given.0 in Turn kept a.d.now a.at g.0 g.1.0 g.1.1.0 = turn_of kept _ _ c.next-met.result c.in-Whole.is c.next-met.ensures in
+    other _ _ _ _ _ _ turn c.if-kind-ne2.true
 
 pub returns-then-len-n : goal.returns-then-len-n
 returns-then-len-n c =
+    let turn : let a = c.args in let g = c.met-1.given.0 in Turn kept a.d.now a.at g.0 g.1.0 g.1.1.0 = turn_of kept _ _ c.next-met.result c.in-Whole.is c.next-met.ensures in
     let a = c.args in
-    wrong-length a.d.now a.at a.n _ _ _ (turn c) c.if-kind-ne2.false (λ z. omega (arith, c.if-len-n.true, z))
+    wrong-length a.d.now a.at a.n _ _ _ turn c.if-kind-ne2.false (λ z. omega (arith, c.if-len-n.true, z))
 
 pub overflow_add-start : goal.overflow_add-start
-overflow_add-start c = let t = turn c in omega (arith, t.within)
+overflow_add-start c =
+    let turn : let a = c.args in let g = c.met-1.given.0 in Turn kept a.d.now a.at g.0 g.1.0 g.1.1.0 = turn_of kept _ _ c.next-met.result c.in-Whole.is c.next-met.ensures in
+    let t = turn in omega (arith, t.within)
 
 pub after_blocks-answer-requires : goal.after_blocks-answer-requires
-after_blocks-answer-requires c = let t = turn c in omega (arith, t.within)
+after_blocks-answer-requires c =
+    let turn : let a = c.args in let g = c.met-1.given.0 in Turn kept a.d.now a.at g.0 g.1.0 g.1.1.0 = turn_of kept _ _ c.next-met.result c.in-Whole.is c.next-met.ensures in
+    let t = turn in omega (arith, t.within)
 
 pub returns-in_default : goal.returns-in_default
 returns-in_default c =
+    let turn : let a = c.args in let g = c.met-1.given.0 in Turn kept a.d.now a.at g.0 g.1.0 g.1.1.0 = turn_of kept _ _ c.next-met.result c.in-Whole.is c.next-met.ensures in
     let a = c.args in
-    later-refused a.d.now a.at a.n _ _ _ (turn c) c.if-kind-ne2.false (omega (arith, c.if-len-n.false))
+    later-refused a.d.now a.at a.n _ _ _ turn c.if-kind-ne2.false (omega (arith, c.if-len-n.false))
     c.after_blocks-answer.result c.after_blocks-answer.ensures (refusal c.after_blocks-answer.result c.in-Done.keys2)
 
 pub returns-in-Done : goal.returns-in-Done
 returns-in-Done c =
+    let turn : let a = c.args in let g = c.met-1.given.0 in Turn kept a.d.now a.at g.0 g.1.0 g.1.1.0 = turn_of kept _ _ c.next-met.result c.in-Whole.is c.next-met.ensures in
     let a = c.args in
-    blocked a.d.now a.at a.n _ _ _ (turn c) c.if-kind-ne2.false (omega (arith, c.if-len-n.false))
+    blocked a.d.now a.at a.n _ _ _ turn c.if-kind-ne2.false (omega (arith, c.if-len-n.false))
     (rw c.in-Done.is at c.after_blocks-answer.ensures)
 
 pub returns-in-End : goal.returns-in-End

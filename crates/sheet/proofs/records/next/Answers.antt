@@ -11,11 +11,6 @@ use Rattle.sheet.specs.declared.records.Met.TheVariants.{Whole}
 use Rattle.sheet.proofs.records.Turns.{is-end, skips, stays, begins-behind, none_kept, sooner, turn_of}
 use Rattle.sheet.proofs.records.next.Goals as goal
 
--- the record that was met
-turn : (c : tie.After-known-told invariant-loop decreases-loop)
-    → let l = c.before.before.before.before.before in let g = c.before.met.given.0 in Turn all l.before.before.args.d.now l.loop.at g.0 g.1.0 g.1.1.0
-turn c = turn_of all _ _ c.before.before.before.record-at.result c.before.met.given.1 c.before.before.before.record-at.ensures
-
 pub loop-at-init : goal.loop-at-init
 loop-at-init c = (search rules, omega arith, refl, refl)
 
@@ -27,21 +22,27 @@ returns-in_default c =
 
 pub returns-then-kind-lt32768 : goal.returns-then-kind-lt32768
 returns-then-kind-lt32768 c =
+    let turn : let g = c.met-1.given.0 in Turn all c.args.d.now c.loop-at.at g.0 g.1.0 g.1.1.0 = turn_of all _ _ c.record_at-met.result c.in-Whole.is c.record_at-met.ensures in
     let a = c.args in
     sooner a.d.now a.from c.loop-at.at
     (Whole c.in-Whole.kind c.in-Whole.start c.in-Whole.len) c.loop-at.invariant.1 c.loop-at.invariant.2 c.loop-at.invariant.3
-    (stays a.d.now c.loop-at.at _ _ _ (turn c) (omega (arith, c.if-kind-lt32768.true)))
+    (stays a.d.now c.loop-at.at _ _ _ turn (omega (arith, c.if-kind-lt32768.true)))
 
 pub overflow_add-at : goal.overflow_add-at
-overflow_add-at c = let t = turn c in omega (arith, t.within)
+overflow_add-at c =
+    let turn : let g = c.met-1.given.0 in Turn all c.args.d.now c.loop-at.at g.0 g.1.0 g.1.1.0 = turn_of all _ _ c.record_at-met.result c.in-Whole.is c.record_at-met.ensures in
+    let t = turn in omega (arith, t.within)
 
 pub loop-at-smaller : goal.loop-at-smaller
-loop-at-smaller c = let t = turn c in omega (arith, t.within, t.beyond)
+loop-at-smaller c =
+    let turn : let g = c.met-1.given.0 in Turn all c.args.d.now c.loop-at.at g.0 g.1.0 g.1.1.0 = turn_of all _ _ c.record_at-met.result c.in-Whole.is c.record_at-met.ensures in
+    let t = turn in omega (arith, t.within, t.beyond)
 
 pub loop-at-preserved : goal.loop-at-preserved
 loop-at-preserved c =
+    let turn : let g = c.met-1.given.0 in Turn all c.args.d.now c.loop-at.at g.0 g.1.0 g.1.1.0 = turn_of all _ _ c.record_at-met.result c.in-Whole.is c.record_at-met.ensures in
     let a = c.args in
-    let t = turn c in (
+    let t = turn in (
       t.within,
       omega (arith, t.beyond),
       c.loop-at.invariant.2 ∙ skips a.d.now c.loop-at.at _ _ _ t (omega (arith, c.if-kind-lt32768.false)),

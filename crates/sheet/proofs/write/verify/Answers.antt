@@ -10,10 +10,6 @@ use Rattle.sheet.proofs.Checks.{no-format, too_large, wrong-blocks, no_room, acc
 use borrow.Author.Rules.{rules}
 use Rattle.sheet.proofs.write.verify.Goals as goal
 
--- the sides pass
-small : (c : tie.Else2) → too_large_lem sheet_limit c.before.before.before.args.pic ≡ false
-small c = sym c.before.too_large.ensures ∙ c.if2.false
-
 pub returns-then-format-gt7 : goal.returns-then-format-gt7
 returns-then-format-gt7 c =
     let a = c.args in
@@ -26,26 +22,30 @@ returns-then-too_large c =
 
 pub block_bytes-exact-requires : goal.block_bytes-exact-requires
 block_bytes-exact-requires c =
-    let t = within sheet_limit c.args.pic (small c) in
+    let small : too_large_lem sheet_limit c.args.pic ≡ false = sym c.too_large.ensures ∙ c.if-too_large.false in
+    let t = within sheet_limit c.args.pic small in
     (omega (arith, c.if-format-gt7.false), t.0, t.1)
 
 pub returns-then-n-exact : goal.returns-then-n-exact
 returns-then-n-exact c =
+    let small : too_large_lem sheet_limit c.args.pic ≡ false = sym c.too_large.ensures ∙ c.if-too_large.false in
     let a = c.args in
     λ b e.
-    wrong-blocks a.format a.pic b a.room c.if-format-gt7.false (small c)
+    wrong-blocks a.format a.pic b a.room c.if-format-gt7.false small
     (λ z. omega (arith, c.if-n-exact.true, sym e ∙ z ∙ sym c.block_bytes-exact.ensures.0))
 
 pub returns-then-room-n : goal.returns-then-room-n
 returns-then-room-n c =
+    let small : too_large_lem sheet_limit c.args.pic ≡ false = sym c.too_large.ensures ∙ c.if-too_large.false in
     let a = c.args in
     λ b e.
-    no_room a.format a.pic b a.room c.if-format-gt7.false (small c) (omega (arith, e, c.if-n-exact.false, c.block_bytes-exact.ensures.0))
+    no_room a.format a.pic b a.room c.if-format-gt7.false small (omega (arith, e, c.if-n-exact.false, c.block_bytes-exact.ensures.0))
     (omega (arith, e, c.if-room-n.true))
 
 pub returns : goal.returns
 returns c =
+    let small : too_large_lem sheet_limit c.args.pic ≡ false = sym c.too_large.ensures ∙ c.if-too_large.false in
     let a = c.args in
     λ b e.
-    accepted a.format a.pic b a.room c.if-format-gt7.false (small c) (omega (arith, e, c.if-n-exact.false, c.block_bytes-exact.ensures.0))
+    accepted a.format a.pic b a.room c.if-format-gt7.false small (omega (arith, e, c.if-n-exact.false, c.block_bytes-exact.ensures.0))
     (omega (arith, e, c.if-room-n.false))

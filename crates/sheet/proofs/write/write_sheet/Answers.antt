@@ -16,16 +16,6 @@ use Rattle.sheet.proofs.write.Owes.{refuses, writes}
 use borrow.Author.Rules.{rules}
 use Rattle.sheet.proofs.write.write_sheet.Goals as goal
 
--- every check has passed
-done : (c : tie.After-enum-told)
-    → let a = c.before.before.before.before.before.args in said Done ≡ write_verdict a.format (sized a.width a.height) a.blocks.now (length a.out.now)
-done c =
-    let v = c.before.before in
-    rw c.enum_told.given.1 at (v.verify.ensures v.before.before.before.args.blocks.now refl)
-
-good : (c : tie.After-enum-told) → let a = c.before.before.before.before.before.args in Accepted a.format (sized a.width a.height) a.blocks.now (length a.out.now)
-good c = passed _ _ _ _ (done c)
-
 -- LEFT
 -- sub-copy : tie.Need-overflow-sub-copy
 -- sub-copy c = let t = good c.before.before.before.before in omega (arith, t.roomy)
@@ -47,7 +37,9 @@ returns-in_default c =
 
 pub put_front-requires : goal.put_front-requires
 put_front-requires c =
-    let t = good c in
+    let done : let a = c.args in said Done ≡ write_verdict a.format (sized a.width a.height) a.blocks.now (length a.out-1.now) = rw c.in-Done.is at (c.verify-answer.ensures c.args.blocks.now refl) in
+    let good : let a = c.args in Accepted a.format (sized a.width a.height) a.blocks.now (length a.out-1.now) = passed _ _ _ _ done in
+    let t = good in
     let a = c.args in
     let n = bytes a.format (sized a.width a.height) t.narrow t.low in (
       (omega (arith, t.known), omega (arith, t.narrow), omega (arith, t.low)),
@@ -56,10 +48,12 @@ put_front-requires c =
 
 pub returns : goal.returns
 returns c =
+    let done : let a = c.args in said Done ≡ write_verdict a.format (sized a.width a.height) a.blocks.now (length a.out-1.now) = rw c.in-Done.is at (c.verify-answer.ensures c.args.blocks.now refl) in
+    let good : let a = c.args in Accepted a.format (sized a.width a.height) a.blocks.now (length a.out-1.now) = passed _ _ _ _ done in
     let a = c.args in
     let b = a.blocks.now in
     let p = sized a.width a.height in
-    let t = good c in
-    writes a.format p b a.out-1.now _ (done c)
+    let t = good in
+    writes a.format p b a.out-1.now _ done
     (twice 21 (front_of_lem a.format p (length b)) b a.out-1.now _ _ (front_length a.format p (length b)) t.roomy c.put_front.ensures c.copy.ensures.1
     ∙ is_sheet_said a.format p b a.out-1.now)
