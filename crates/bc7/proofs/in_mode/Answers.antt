@@ -60,10 +60,10 @@ returns c =
     let a = c.args in
     let k = c.row-k.result in
     let hd = c.front_of-h.ensures in
-    let en = c.ends_of-c.ensures (whole a.r) a.m hd.rest in
+    let en = c.ends_of-e.ensures (whole a.r) a.m hd.rest in
     c.shade.ensures
-    ∙ pixels-said (whole a.r) a.m k (subst Sane (sym c.row-k.ensures) (sane c.args.m c.requires)) (whole c.ends_of-c.result.rest) c.word_of.result en.rest
-    c.word_of.ensures c.front_of-h.result hd c.ends_of-c.result en
+    ∙ pixels-said (whole a.r) a.m k (subst Sane (sym c.row-k.ensures) (sane c.args.m c.requires)) (whole c.ends_of-e.result.rest) c.word_of.result en.rest
+    c.word_of.ensures c.front_of-h.result hd c.ends_of-e.result en
     c.layout-layout.result c.weights-first.result c.second_weights-second.result c.chosen.result c.chosen-2.result
     (c.layout-layout.ensures ∙ ap (layout_of k.subsets) hd.partition) c.weights-first.ensures c.second_weights-second.ensures c.chosen.ensures c.chosen-2.ensures
     ∙ ap (λ (x : Mode). build 16 (pixel_in (whole a.r) a.m x)) c.row-k.ensures

@@ -13,11 +13,11 @@ use Rattle.block_readers.proofs.read_alpha.Goals as goal
 
 pub returns-in_default : goal.returns-in_default
 returns-in_default c =
-    unchanged _ _ c.args.image-1.now c.verify-answer.result c.verify-answer.ensures (refusal c.verify-answer.result c.in-Done.keys2)
+    unchanged _ _ c.args.image.now c.verify-answer.result c.verify-answer.ensures (refusal c.verify-answer.result c.in_default.keys2)
 
 pub a8_over-requires : goal.a8_over-requires
 a8_over-requires c =
-    let clear : Passed 8 (length c.args.«data».now) (length c.args.image-1.now) = passed _ _ _ _ c.verify-answer.ensures c.in-Done.is in
+    let clear : Passed 8 (length c.args.«data».now) (length c.args.image.now) = passed _ _ _ _ c.verify-answer.ensures c.in-Done.is in
     (clear.enough, clear.room)
 
 pub returns : goal.returns

@@ -14,16 +14,16 @@ use Rattle.block_readers.proofs.read_block.Goals as goal
 
 pub returns-in_default : goal.returns-in_default
 returns-in_default c =
-    unchanged _ _ c.args.image-1.now c.verify-answer.result (rw c.size.ensures.0 at c.verify-answer.ensures) (refusal c.verify-answer.result c.in-Done.keys2)
+    unchanged _ _ c.args.image.now c.verify-answer.result (rw c.size.ensures.0 at c.verify-answer.ensures) (refusal c.verify-answer.result c.in_default.keys2)
 
 pub block_at-requires : goal.block_at-requires
 block_at-requires c =
-    let clear : Passed (size_of c.args.f) (length c.args.«data».now) (length c.args.image-1.now) = passed _ _ _ _ (rw c.size.ensures.0 at c.verify-answer.ensures) c.in-Done.is in
+    let clear : Passed (size_of c.args.f) (length c.args.«data».now) (length c.args.image.now) = passed _ _ _ _ (rw c.size.ensures.0 at c.verify-answer.ensures) c.in-Done.is in
     omega (arith, clear.enough)
 
 pub place_block-requires : goal.place_block-requires
 place_block-requires c =
-    let clear : Passed (size_of c.args.f) (length c.args.«data».now) (length c.args.image-1.now) = passed _ _ _ _ (rw c.size.ensures.0 at c.verify-answer.ensures) c.in-Done.is in
+    let clear : Passed (size_of c.args.f) (length c.args.«data».now) (length c.args.image.now) = passed _ _ _ _ (rw c.size.ensures.0 at c.verify-answer.ensures) c.in-Done.is in
     clear.room
 
 pub returns : goal.returns

@@ -21,26 +21,26 @@ use Rattle.block_readers.proofs.read_channel.Goals as goal
 pub returns-then-channel-gt3 : goal.returns-then-channel-gt3
 returns-then-channel-gt3 c =
     let a = c.args in
-    unchanged _ _ a.image-1.now NoChannel (rw (lt-ltb 3 a.channel c.if-channel-gt3.true)) refl
+    unchanged _ _ a.image.now NoChannel (rw (lt-ltb 3 a.channel c.if-channel-gt3.true)) refl
 
 pub returns-in_default : goal.returns-in_default
 returns-in_default c =
-    let four : block_verdict 8 c.args.«data».now c.args.image-1.now ≡ channel_verdict c.args.channel c.args.«data».now c.args.image-1.now = channel_checked c.args.channel (length c.args.«data».now) (length c.args.image-1.now) c.if-channel-gt3.false in
-    unchanged _ _ c.args.image-1.now c.verify-answer.result (c.verify-answer.ensures ∙ four) (refusal c.verify-answer.result c.in-Done.keys2)
+    let four : block_verdict 8 c.args.«data».now c.args.image.now ≡ channel_verdict c.args.channel c.args.«data».now c.args.image.now = channel_checked c.args.channel (length c.args.«data».now) (length c.args.image.now) c.if-channel-gt3.false in
+    unchanged _ _ c.args.image.now c.verify-answer.result (c.verify-answer.ensures ∙ four) (refusal c.verify-answer.result c.in_default.keys2)
 
 pub first_sixteen-stood-requires : goal.first_sixteen-stood-requires
 first_sixteen-stood-requires c =
-    let clear : Passed 8 (length c.args.«data».now) (length c.args.image-1.now) = passed _ _ _ _ c.verify-answer.ensures c.in-Done.is in
+    let clear : Passed 8 (length c.args.«data».now) (length c.args.image.now) = passed _ _ _ _ c.verify-answer.ensures c.in-Done.is in
     clear.room
 
 pub onto-requires : goal.onto-requires
 onto-requires c =
-    let clear : Passed 8 (length c.args.«data».now) (length c.args.image-1.now) = passed _ _ _ _ c.verify-answer.ensures c.in-Done.is in
+    let clear : Passed 8 (length c.args.«data».now) (length c.args.image.now) = passed _ _ _ _ c.verify-answer.ensures c.in-Done.is in
     (clear.enough, search rules)
 
 pub place_block-requires : goal.place_block-requires
 place_block-requires c =
-    let clear : Passed 8 (length c.args.«data».now) (length c.args.image-1.now) = passed _ _ _ _ c.verify-answer.ensures c.in-Done.is in
+    let clear : Passed 8 (length c.args.«data».now) (length c.args.image.now) = passed _ _ _ _ c.verify-answer.ensures c.in-Done.is in
     clear.room
 
 pub returns : goal.returns

@@ -26,4 +26,4 @@ returns c =
     with-alpha a.plain a.punch a.d.now _ _ c.colour_block-px.ensures a.alpha (not-false a.alpha c.if-not-alpha.false)
     c.colours_from-at.ensures.0 _ c.a8_onto.ensures
     in
-    as_tile a.pic a.bx a.by _ _ a.image-1.now _ e c.place_whole-2.ensures
+    as_tile a.pic a.bx a.by _ _ a.image.now _ e c.place_whole-2.ensures

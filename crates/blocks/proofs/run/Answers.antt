@@ -84,94 +84,94 @@ pub returns-in-Etc2Rgb : goal.returns-in-Etc2Rgb
 unfolding shows_of size_of
 returns-in-Etc2Rgb c =
     let a = c.args in
-    shown a.«data».now a.pic a.bx a.by a.n a.image-1.now _ c.in-Etc2Rgb.is c.run_colour-in-Etc2Rgb.ensures
+    shown a.«data».now a.pic a.bx a.by a.n a.image.now _ c.in-Etc2Rgb.is c.run_colour-in-Etc2Rgb.ensures
 
 pub returns-in-Etc2Rgba1 : goal.returns-in-Etc2Rgba1
 unfolding shows_of size_of
 returns-in-Etc2Rgba1 c =
     let a = c.args in
-    shown a.«data».now a.pic a.bx a.by a.n a.image-1.now _ c.in-Etc2Rgba1.is c.run_colour-in-Etc2Rgba1.ensures
+    shown a.«data».now a.pic a.bx a.by a.n a.image.now _ c.in-Etc2Rgba1.is c.run_colour-in-Etc2Rgba1.ensures
 
 pub returns-in-Etc2Rgba8 : goal.returns-in-Etc2Rgba8
 unfolding shows_of size_of rgba8_pixel
 returns-in-Etc2Rgba8 c =
     let a = c.args in
-    shown a.«data».now a.pic a.bx a.by a.n a.image-1.now _ c.in-Etc2Rgba8.is c.run_colour-in-Etc2Rgba8.ensures
+    shown a.«data».now a.pic a.bx a.by a.n a.image.now _ c.in-Etc2Rgba8.is c.run_colour-in-Etc2Rgba8.ensures
 
 pub returns-in-EacR : goal.returns-in-EacR
 unfolding shows_of size_of
 returns-in-EacR c =
     let a = c.args in
-    shown a.«data».now a.pic a.bx a.by a.n a.image-1.now _ c.in-EacR.is c.run_red.ensures
+    shown a.«data».now a.pic a.bx a.by a.n a.image.now _ c.in-EacR.is c.run_red.ensures
 
 pub returns-in-EacRSigned : goal.returns-in-EacRSigned
 unfolding shows_of size_of
 returns-in-EacRSigned c =
     let a = c.args in
-    shown a.«data».now a.pic a.bx a.by a.n a.image-1.now _ c.in-EacRSigned.is c.run_red-in-EacRSigned.ensures
+    shown a.«data».now a.pic a.bx a.by a.n a.image.now _ c.in-EacRSigned.is c.run_red-in-EacRSigned.ensures
 
 pub returns-in-EacRg : goal.returns-in-EacRg
 unfolding shows_of size_of
 returns-in-EacRg c =
     let a = c.args in
-    shown a.«data».now a.pic a.bx a.by a.n a.image-1.now _ c.in-EacRg.is c.run_red_green.ensures
+    shown a.«data».now a.pic a.bx a.by a.n a.image.now _ c.in-EacRg.is c.run_red_green.ensures
 
 pub returns-in-EacRgSigned : goal.returns-in-EacRgSigned
 unfolding shows_of size_of
 returns-in-EacRgSigned c =
     let a = c.args in
-    shown a.«data».now a.pic a.bx a.by a.n a.image-1.now _ c.in-EacRgSigned.is c.run_red_green-in-EacRgSigned.ensures
+    shown a.«data».now a.pic a.bx a.by a.n a.image.now _ c.in-EacRgSigned.is c.run_red_green-in-EacRgSigned.ensures
 
 pub returns-in-Bc1 : goal.returns-in-Bc1
 unfolding shows_of size_of
 returns-in-Bc1 c =
     let a = c.args in
-    shown a.«data».now a.pic a.bx a.by a.n a.image-1.now _ c.in-Bc1.is c.run_bc1.ensures
+    shown a.«data».now a.pic a.bx a.by a.n a.image.now _ c.in-Bc1.is c.run_bc1.ensures
 
 pub returns-in-Bc1Alpha : goal.returns-in-Bc1Alpha
 unfolding shows_of size_of
 returns-in-Bc1Alpha c =
     let a = c.args in
-    shown a.«data».now a.pic a.bx a.by a.n a.image-1.now _ c.in-Bc1Alpha.is c.run_bc1-in-Bc1Alpha.ensures
+    shown a.«data».now a.pic a.bx a.by a.n a.image.now _ c.in-Bc1Alpha.is c.run_bc1-in-Bc1Alpha.ensures
 
 pub returns-in-Bc3 : goal.returns-in-Bc3
 unfolding shows_of size_of
 returns-in-Bc3 c =
     let a = c.args in
-    shown a.«data».now a.pic a.bx a.by a.n a.image-1.now _ c.in-Bc3.is c.run_bc3.ensures
+    shown a.«data».now a.pic a.bx a.by a.n a.image.now _ c.in-Bc3.is c.run_bc3.ensures
 
 pub returns-in-Bc7 : goal.returns-in-Bc7
 unfolding shows_of size_of
 returns-in-Bc7 c =
     let a = c.args in
-    shown a.«data».now a.pic a.bx a.by a.n a.image-1.now _ c.in-Bc7.is c.run_bc7.ensures
+    shown a.«data».now a.pic a.bx a.by a.n a.image.now _ c.in-Bc7.is c.run_bc7.ensures
 
 pub returns-in-Bc2 : goal.returns-in-Bc2
 unfolding shows_of size_of
 returns-in-Bc2 c =
     let a = c.args in
-    shown a.«data».now a.pic a.bx a.by a.n a.image-1.now _ c.in-Bc2.is c.run_bc2.ensures
+    shown a.«data».now a.pic a.bx a.by a.n a.image.now _ c.in-Bc2.is c.run_bc2.ensures
 
 pub returns-in-Bc4 : goal.returns-in-Bc4
 unfolding shows_of size_of
 returns-in-Bc4 c =
     let a = c.args in
-    shown a.«data».now a.pic a.bx a.by a.n a.image-1.now _ c.in-Bc4.is c.run_bc4.ensures
+    shown a.«data».now a.pic a.bx a.by a.n a.image.now _ c.in-Bc4.is c.run_bc4.ensures
 
 pub returns-in-Bc4Signed : goal.returns-in-Bc4Signed
 unfolding shows_of size_of
 returns-in-Bc4Signed c =
     let a = c.args in
-    shown a.«data».now a.pic a.bx a.by a.n a.image-1.now _ c.in-Bc4Signed.is c.run_bc4-in-Bc4Signed.ensures
+    shown a.«data».now a.pic a.bx a.by a.n a.image.now _ c.in-Bc4Signed.is c.run_bc4-in-Bc4Signed.ensures
 
 pub returns-in-Bc5 : goal.returns-in-Bc5
 unfolding shows_of size_of
 returns-in-Bc5 c =
     let a = c.args in
-    shown a.«data».now a.pic a.bx a.by a.n a.image-1.now _ c.in-Bc5.is c.run_bc5.ensures
+    shown a.«data».now a.pic a.bx a.by a.n a.image.now _ c.in-Bc5.is c.run_bc5.ensures
 
 pub returns-in-Bc5Signed : goal.returns-in-Bc5Signed
 unfolding shows_of size_of
 returns-in-Bc5Signed c =
     let a = c.args in
-    shown a.«data».now a.pic a.bx a.by a.n a.image-1.now _ c.in-Bc5Signed.is c.run_bc5-in-Bc5Signed.ensures
+    shown a.«data».now a.pic a.bx a.by a.n a.image.now _ c.in-Bc5Signed.is c.run_bc5-in-Bc5Signed.ensures

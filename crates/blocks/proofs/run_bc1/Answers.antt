@@ -12,7 +12,7 @@ use Rattle.blocks.proofs.run_bc1.Goals as goal
 pub loop-i-init : goal.loop-i-init
 loop-i-init c =
     let a = c.args in
-    start (bc1_pixel false a.alpha) 8 a.«data».now a.pic a.bx a.by a.n a.image-1.now
+    start (bc1_pixel false a.alpha) 8 a.«data».now a.pic a.bx a.by a.n a.image.now
 
 pub place_whole-requires : goal.place_whole-requires
 place_whole-requires c =
@@ -30,4 +30,4 @@ shape_of-image c = c.loop-i.invariant.1.same
 pub returns : goal.returns
 returns c =
     let a = c.args in
-    ended (bc1_pixel false a.alpha) 8 a.«data».now a.pic a.bx a.by a.n c.loop-i.i a.image-1.now c.loop-i.image-1 c.loop-i-test.false c.loop-i.invariant
+    ended (bc1_pixel false a.alpha) 8 a.«data».now a.pic a.bx a.by a.n c.loop-i.i a.image.now c.loop-i.image c.loop-i-test.false c.loop-i.invariant

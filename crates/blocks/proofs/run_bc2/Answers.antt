@@ -11,7 +11,7 @@ use Rattle.blocks.proofs.run_bc2.Goals as goal
 pub loop-i-init : goal.loop-i-init
 loop-i-init c =
     let a = c.args in
-    start bc2_pixel 16 a.«data».now a.pic a.bx a.by a.n a.image-1.now
+    start bc2_pixel 16 a.«data».now a.pic a.bx a.by a.n a.image.now
 
 pub place_whole-requires : goal.place_whole-requires
 place_whole-requires c =
@@ -29,4 +29,4 @@ shape_of-image c = c.loop-i.invariant.1.same
 pub returns : goal.returns
 returns c =
     let a = c.args in
-    ended bc2_pixel 16 a.«data».now a.pic a.bx a.by a.n c.loop-i.i a.image-1.now c.loop-i.image-1 c.loop-i-test.false c.loop-i.invariant
+    ended bc2_pixel 16 a.«data».now a.pic a.bx a.by a.n c.loop-i.i a.image.now c.loop-i.image c.loop-i-test.false c.loop-i.invariant

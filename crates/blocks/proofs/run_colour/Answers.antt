@@ -12,10 +12,18 @@ use Rattle.blocks.proofs.Beside.{Turned, start, turn, ended}
 use borrow.Author.Rules.{rules}
 use Rattle.blocks.proofs.run_colour.Goals as goal
 
+-- LEFT
+-- part-paint-colour-start : tie.Need-slice-bounds-paint-colour-start invariant-loop decreases-loop
+-- part-paint-colour-start c = omega (arith, enough c)
+
+-- LEFT
+-- part-paint-colour-end : tie.Need-slice-bounds-paint-colour-end invariant-loop decreases-loop
+-- part-paint-colour-end c = omega (arith, enough c)
+
 pub loop-i-init : goal.loop-i-init
 loop-i-init c =
     let a = c.args in
-    start (colour_shows a.plain a.punch a.alpha) c.colour_size-size.result a.«data».now a.pic a.bx a.by a.n a.image-1.now
+    start (colour_shows a.plain a.punch a.alpha) c.colour_size-size.result a.«data».now a.pic a.bx a.by a.n a.image.now
 
 pub overflow_mul-from : goal.overflow_mul-from
 overflow_mul-from c =
@@ -31,18 +39,6 @@ overflow_add-end c =
 
 pub slice_bounds-paint_colour-count : goal.slice_bounds-paint_colour-count
 slice_bounds-paint_colour-count c =
-    let enough : c.loop-i.i * c.colour_size-size.result + c.colour_size-size.result ≤ length c.args.«data».now = room c.colour_size-size.result c.args.n c.loop-i.i (length c.args.«data».now) c.loop-i-test.true
-    (subst (λ (m : ℕ). c.args.n * m ≤ length c.args.«data».now) (sym c.colour_size-size.ensures.0) c.requires.0) in
-    omega (arith, enough)
-
-pub slice_bounds-paint_colour-start : goal.slice_bounds-paint_colour-start
-slice_bounds-paint_colour-start c =
-    let enough : c.loop-i.i * c.colour_size-size.result + c.colour_size-size.result ≤ length c.args.«data».now = room c.colour_size-size.result c.args.n c.loop-i.i (length c.args.«data».now) c.loop-i-test.true
-    (subst (λ (m : ℕ). c.args.n * m ≤ length c.args.«data».now) (sym c.colour_size-size.ensures.0) c.requires.0) in
-    omega (arith, enough)
-
-pub slice_bounds-paint_colour-end : goal.slice_bounds-paint_colour-end
-slice_bounds-paint_colour-end c =
     let enough : c.loop-i.i * c.colour_size-size.result + c.colour_size-size.result ≤ length c.args.«data».now = room c.colour_size-size.result c.args.n c.loop-i.i (length c.args.«data».now) c.loop-i-test.true
     (subst (λ (m : ℕ). c.args.n * m ≤ length c.args.«data».now) (sym c.colour_size-size.ensures.0) c.requires.0) in
     omega (arith, enough)
@@ -70,5 +66,5 @@ pub returns : goal.returns
 returns c =
     let a = c.args in
     let shows = colour_shows a.plain a.punch a.alpha in
-    subst (λ (m : ℕ). PaintsRow shows m a.«data».now a.pic a.bx a.by a.n a.image-1.now c.loop-i.image-1) c.colour_size-size.ensures.0
-    (ended shows c.colour_size-size.result a.«data».now a.pic a.bx a.by a.n c.loop-i.i a.image-1.now c.loop-i.image-1 c.loop-i-test.false c.loop-i.invariant)
+    subst (λ (m : ℕ). PaintsRow shows m a.«data».now a.pic a.bx a.by a.n a.image.now c.loop-i.image) c.colour_size-size.ensures.0
+    (ended shows c.colour_size-size.result a.«data».now a.pic a.bx a.by a.n c.loop-i.i a.image.now c.loop-i.image c.loop-i-test.false c.loop-i.invariant)

@@ -14,7 +14,7 @@ use Rattle.blocks.proofs.run_red.Goals as goal
 pub loop-i-init : goal.loop-i-init
 loop-i-init c =
     let a = c.args in
-    start (red_pixel c.Span-of.result.signed) 8 a.«data».now a.pic a.bx a.by a.n a.image-1.now
+    start (red_pixel c.Span-of.result.signed) 8 a.«data».now a.pic a.bx a.by a.n a.image.now
 
 pub place_whole-requires : goal.place_whole-requires
 place_whole-requires c =
@@ -33,5 +33,5 @@ pub returns : goal.returns
 returns c =
     let z = c.Span-of in
     let a = c.args in
-    subst (λ (t : Bool). PaintsRow (red_pixel t) 8 a.«data».now a.pic a.bx a.by a.n a.image-1.now c.loop-i.image-1) z.ensures.0
-    (ended (red_pixel z.result.signed) 8 a.«data».now a.pic a.bx a.by a.n c.loop-i.i a.image-1.now c.loop-i.image-1 c.loop-i-test.false c.loop-i.invariant)
+    subst (λ (t : Bool). PaintsRow (red_pixel t) 8 a.«data».now a.pic a.bx a.by a.n a.image.now c.loop-i.image) z.ensures.0
+    (ended (red_pixel z.result.signed) 8 a.«data».now a.pic a.bx a.by a.n c.loop-i.i a.image.now c.loop-i.image c.loop-i-test.false c.loop-i.invariant)

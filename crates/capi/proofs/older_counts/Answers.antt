@@ -15,14 +15,14 @@ pub returns-in-TooLarge : goal.returns-in-TooLarge
 returns-in-TooLarge c =
     let a = c.args in
     refused 6 (older_counts_lem (guard_of a.viewer) (sized a.width a.height) a.«data».now (blocks (sized a.width a.height)))
-    a.«data».now (sized a.width a.height) a.counts-1.now
+    a.«data».now (sized a.width a.height) a.counts.now
     TooLarge 1 refl (lit< tt) (sym (ap older_said c.in-TooLarge.is) ∙ c.count.ensures) refl
 
 pub returns-in-ShortData : goal.returns-in-ShortData
 returns-in-ShortData c =
     let a = c.args in
     refused 6 (older_counts_lem (guard_of a.viewer) (sized a.width a.height) a.«data».now (blocks (sized a.width a.height)))
-    a.«data».now (sized a.width a.height) a.counts-1.now
+    a.«data».now (sized a.width a.height) a.counts.now
     ShortData 2 refl (lit< tt) (sym (ap older_said c.in-ShortData.is) ∙ c.count.ensures) refl
 
 pub returns-in-Counted : goal.returns-in-Counted

@@ -17,7 +17,7 @@ returns-in_default c =
       written = w;
       writes = c.write_sheet-wrote.ensures;
       says = c.number.ensures;
-      the-bytes = sym (ap (λ (t : Bool). cond t w.bytes stood) (refusal w.answer c.in-Done.keys2));
+      the-bytes = sym (ap (λ (t : Bool). cond t w.bytes stood) (refusal w.answer c.in_default.keys2));
     }
 
 pub returns : goal.returns

@@ -53,6 +53,6 @@ returns c =
     let d = a.«data».now in
     ap (λ (l : List ℕ). 0 ∷ l)
     (c.rgb_counts.ensures
-    ∙ five (bytes_of 8 d) c.blocks_of-c.result c.tally.result c.tally.ensures
-    ∙ ap (λ (m : ℕ). counts (bytes_of 8 d) m rgb_tests) c.blocks_of-c.ensures.0)
+    ∙ five (bytes_of 8 d) c.blocks_of-n.result c.tally.result c.tally.ensures
+    ∙ ap (λ (m : ℕ). counts (bytes_of 8 d) m rgb_tests) c.blocks_of-n.ensures.0)
     ∙ passes rgb_tests d a.pic small enough

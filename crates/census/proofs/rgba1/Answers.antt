@@ -53,6 +53,6 @@ returns c =
     let d = a.«data».now in
     ap (λ (l : List ℕ). 0 ∷ l)
     (c.rgba1_counts.ensures
-    ∙ all_eight (bytes_of 8 d) c.blocks_of-c.result c.tally.result c.tally.ensures
-    ∙ ap (λ (m : ℕ). counts (bytes_of 8 d) m rgba1_tests) c.blocks_of-c.ensures.0)
+    ∙ all_eight (bytes_of 8 d) c.blocks_of-n.result c.tally.result c.tally.ensures
+    ∙ ap (λ (m : ℕ). counts (bytes_of 8 d) m rgba1_tests) c.blocks_of-n.ensures.0)
     ∙ passes rgba1_tests d a.pic small enough

@@ -33,8 +33,8 @@ eac_bytes-bytes-requires c =
 pub loop-i-init : goal.loop-i-init
 loop-i-init c = begun in_order_lem _ 0 16 _ (search rules)
 
-pub overflow_mul-out : goal.overflow_mul-out
-overflow_mul-out c = omega arith
+pub offset_bounds-px-i : goal.offset_bounds-px-i
+offset_bounds-px-i c = omega arith
 
 pub bounds-px-i : goal.bounds-px-i
 bounds-px-i c = omega arith

@@ -48,4 +48,4 @@ loop-i-preserved c =
     stored_next _ 0 16 l.out-1 l.i l.invariant _ (omega arith) (ap nat_abs byte)
 
 pub returns : goal.returns
-returns c = filled-all _ 0 16 c.loop-i.out-1 c.loop-i.i c.loop-i.invariant (omega arith)
+returns c = filled-all _ 0 16 c.loop-i.out c.loop-i.i c.loop-i.invariant (omega arith)

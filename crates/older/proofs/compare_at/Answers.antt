@@ -78,6 +78,6 @@ returns c =
     let g = guard_of a.viewer in
     alike _ (in_picture a.pic a.b) _ (older_at g d a.b) _ (newer_at g d a.b)
     (λ k l. place.shown a.pic a.b c.pre.0 c.across-row.result c.across-row.ensures k)
-    (λ k l. at_place c.own.result g.own d c.block_at-c.result a.b k c.own.ensures (eight a.viewer) c.block_at-c.ensures l)
-    (λ k l. at_place c.shown.result g.shown d c.block_at-c.result a.b k c.shown.ensures (shown-eight a.viewer) c.block_at-c.ensures l)
+    (λ k l. at_place c.own.result g.own d c.block_at-old.result a.b k c.own.ensures (eight a.viewer) c.block_at-old.ensures l)
+    (λ k l. at_place c.shown.result g.shown d c.block_at-new.result a.b k c.shown.ensures (shown-eight a.viewer) c.block_at-new.ensures l)
     _ c.compare.ensures

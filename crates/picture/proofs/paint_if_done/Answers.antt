@@ -12,8 +12,8 @@ use Rattle.picture.proofs.paint_if_done.Goals as goal
 pub returns-in_default : goal.returns-in_default
 returns-in_default c =
     let a = c.args in
-    let l = a.image-1.now in
-    unchanged (said a.answer) (picture_of a.f a.pic a.«data».now l) l a.answer refl (refusal a.answer c.in-Done.keys2)
+    let l = a.image.now in
+    unchanged (said a.answer) (picture_of a.f a.pic a.«data».now l) l a.answer refl (refusal a.answer c.in_default.keys2)
 
 pub paint_all-requires : goal.paint_all-requires
 paint_all-requires c =

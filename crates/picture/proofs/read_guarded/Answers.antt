@@ -22,8 +22,8 @@ paint_if_done-requires c h =
     let a = c.args in
     let d = a.«data».now in
     let g = guard_of a.viewer in
-    subst (λ (s : ℕ). Passed s a.pic (length d) (length a.image-1.now)) (sym (ap size_of c.own.ensures ∙ eight a.viewer))
-    (passed_by_lem a.viewer a.pic (length d) (length a.image-1.now) (guarded g.number (bad_at g d) (blocks a.pic)) c.guarded_answer-answer.result c.guarded_answer-answer.ensures h)
+    subst (λ (s : ℕ). Passed s a.pic (length d) (length a.image.now)) (sym (ap size_of c.own.ensures ∙ eight a.viewer))
+    (passed_by_lem a.viewer a.pic (length d) (length a.image.now) (guarded g.number (bad_at g d) (blocks a.pic)) c.guarded_answer-answer.result c.guarded_answer-answer.ensures h)
 
 pub returns : goal.returns
 returns c =

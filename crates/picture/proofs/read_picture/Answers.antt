@@ -12,9 +12,9 @@ use Rattle.picture.proofs.read_picture.Goals as goal
 
 pub paint_if_done-requires : goal.paint_if_done-requires
 paint_if_done-requires c =
-    let told : said c.verify-answer.result ≡ picture_verdict c.args.f c.args.pic c.args.«data».now c.args.image-1.now = rw c.size.ensures.0 at c.verify-answer.ensures in
+    let told : said c.verify-answer.result ≡ picture_verdict c.args.f c.args.pic c.args.«data».now c.args.image.now = rw c.size.ensures.0 at c.verify-answer.ensures in
     let a = c.args in
-    passed_by_lem (size_of a.f) a.pic (length a.«data».now) (length a.image-1.now) (0 ∷ []) c.verify-answer.result told
+    passed_by_lem (size_of a.f) a.pic (length a.«data».now) (length a.image.now) (0 ∷ []) c.verify-answer.result told
 
 pub returns : goal.returns
 returns c =

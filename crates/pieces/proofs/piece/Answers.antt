@@ -18,14 +18,14 @@ use Rattle.pieces.proofs.piece.Goals as goal
 pub returns-in_default : goal.returns-in_default
 returns-in_default c =
     let a = c.args in
-    refused a.p a.bytes.now a.image-1.now c.check-answer.result c.check-answer.ensures (refusal c.check-answer.result c.in-Done.keys2)
+    refused a.p a.bytes.now a.image.now c.check-answer.result c.check-answer.ensures (refusal c.check-answer.result c.in_default.keys2)
 
 pub take_piece-requires : goal.take_piece-requires
 take_piece-requires c =
-    let clear : 0 ∷ [] ≡ piece_verdict c.args.p c.args.image-1.now = sym (ap said c.in-Done.is) ∙ c.check-answer.ensures in
+    let clear : 0 ∷ [] ≡ piece_verdict c.args.p c.args.image.now = sym (ap said c.in-Done.is) ∙ c.check-answer.ensures in
     let a = c.args in
     let pic = a.p.picture in
-    let n = length a.image-1.now in
+    let n = length a.image.now in
     let k = passed (start_checks pic n) (0 ∷ []) tt (sym (ap accepts clear)) in
     let w = within_limit pic k.first in
     (w.0, w.1, roomy pic n (ltb-false pic.pitch pic.width k.rest.first) (ltb-false n (needed pic) k.rest.rest.first))

@@ -46,7 +46,7 @@ paint_joined-requires c =
     let some : 0 < s-of = c.size-s.ensures.2 in
     let top : L-of ≤ B-of * s-of = omega (arith, c.least-got.ensures, c.least-used.ensures) in
     let hand : (L-of / s-of - G-of / s-of) * s-of + L-of % s-of ≤ G-of % s-of + length c.args.bytes.now = omega (arith, shared s-of B-of G-of L-of some (omega arith) top, c.least-used.ensures) in
-    let e = c.size-c.ensures.0 in (
+    let e = c.size-s.ensures.0 in (
       (
         c.pre.0,
         c.pre.1,

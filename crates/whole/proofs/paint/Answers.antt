@@ -14,7 +14,7 @@ use Rattle.whole.proofs.paint.Goals as goal
 pub loop-by-init : goal.loop-by-init
 loop-by-init c =
     let a = c.args in
-    top (lanes a.green) c.Span-of.result.signed a.«data».now a.pic a.image-1.now
+    top (lanes a.green) c.Span-of.result.signed a.«data».now a.pic a.image.now
 
 pub paint_row-requires : goal.paint_row-requires
 paint_row-requires c =
@@ -37,6 +37,6 @@ pub returns : goal.returns
 returns c =
     let z = c.Span-of in
     let a = c.args in
-    bottom (lanes a.green) z.result.signed a.«data».now a.pic c.loop-by.by a.image-1.now c.loop-by.image-1
+    bottom (lanes a.green) z.result.signed a.«data».now a.pic c.loop-by.by a.image.now c.loop-by.image
     (omega (arith, c.loop-by-test.false, c.across-rows.ensures)) c.loop-by.invariant
-    ∙ ap (λ (t : Bool). whole_picture t (lanes a.green) a.pic a.«data».now a.image-1.now) z.ensures.0
+    ∙ ap (λ (t : Bool). whole_picture t (lanes a.green) a.pic a.«data».now a.image.now) z.ensures.0

@@ -9,6 +9,14 @@ use Rattle.whole.specs.Lanes.{lanes, Ready}
 use Rattle.whole.proofs.Rows.{Turned, start, turn, from_first, fits, small}
 use Rattle.whole.proofs.paint_whole.Goals as goal
 
+-- LEFT
+-- part-whole-block-start : tie.Need-slice-bounds-whole-block-start invariant-loop decreases-loop
+-- part-whole-block-start c = omega (arith, there c)
+
+-- LEFT
+-- part-whole-block-end : tie.Need-slice-bounds-whole-block-end invariant-loop decreases-loop
+-- part-whole-block-end c = omega (arith, there c)
+
 pub whole_in-n-requires : goal.whole_in-n-requires
 whole_in-n-requires c =
     omega (arith, c.requires.0.1, c.requires.0.2)
@@ -23,7 +31,7 @@ overflow_mul-first c =
 pub loop-bx-init : goal.loop-bx-init
 loop-bx-init c =
     let a = c.args in
-    (omega arith, start (lanes a.green) a.span.signed a.«data».now a.pic a.by 0 a.image-1.now (omega arith))
+    (omega arith, start (lanes a.green) a.span.signed a.«data».now a.pic a.by 0 a.image.now (omega arith))
 
 pub overflow_add-from : goal.overflow_add-from
 overflow_add-from c =
@@ -35,7 +43,7 @@ pub overflow_mul-from : goal.overflow_mul-from
 overflow_mul-from c =
     let size : c.lanes_of-s.result * 8 ≡ lanes c.args.green * 8 = ap (λ (z : ℕ). z * 8) c.lanes_of-s.ensures.0 in
     let in_row : c.loop-bx.bx < c.across.result = omega (arith, c.loop-bx-test.true, c.whole_in.ensures.0, c.across.ensures) in
-    let there : (c.args.by * c.across.result + c.loop-bx.bx) * (c.lanes_of-s.result * 8) + c.lanes_of-s.result * 8 ≤ length c.args.«data».now = fits c.args.pic c.args.by c.loop-bx.bx c.across.result (c.lanes_of-c.result * 8) (lanes c.args.green) _
+    let there : (c.args.by * c.across.result + c.loop-bx.bx) * (c.lanes_of-s.result * 8) + c.lanes_of-s.result * 8 ≤ length c.args.«data».now = fits c.args.pic c.args.by c.loop-bx.bx c.across.result (c.lanes_of-s.result * 8) (lanes c.args.green) _
     c.across.ensures size in_row c.pre.0.1 c.pre.0.0 in
     omega (arith, there)
 
@@ -43,7 +51,7 @@ pub overflow_add-end : goal.overflow_add-end
 overflow_add-end c =
     let size : c.lanes_of-s.result * 8 ≡ lanes c.args.green * 8 = ap (λ (z : ℕ). z * 8) c.lanes_of-s.ensures.0 in
     let in_row : c.loop-bx.bx < c.across.result = omega (arith, c.loop-bx-test.true, c.whole_in.ensures.0, c.across.ensures) in
-    let there : (c.args.by * c.across.result + c.loop-bx.bx) * (c.lanes_of-s.result * 8) + c.lanes_of-s.result * 8 ≤ length c.args.«data».now = fits c.args.pic c.args.by c.loop-bx.bx c.across.result (c.lanes_of-c.result * 8) (lanes c.args.green) _
+    let there : (c.args.by * c.across.result + c.loop-bx.bx) * (c.lanes_of-s.result * 8) + c.lanes_of-s.result * 8 ≤ length c.args.«data».now = fits c.args.pic c.args.by c.loop-bx.bx c.across.result (c.lanes_of-s.result * 8) (lanes c.args.green) _
     c.across.ensures size in_row c.pre.0.1 c.pre.0.0 in
     omega (arith, there)
 
@@ -51,23 +59,7 @@ pub slice_bounds-whole_block-count : goal.slice_bounds-whole_block-count
 slice_bounds-whole_block-count c =
     let size : c.lanes_of-s.result * 8 ≡ lanes c.args.green * 8 = ap (λ (z : ℕ). z * 8) c.lanes_of-s.ensures.0 in
     let in_row : c.loop-bx.bx < c.across.result = omega (arith, c.loop-bx-test.true, c.whole_in.ensures.0, c.across.ensures) in
-    let there : (c.args.by * c.across.result + c.loop-bx.bx) * (c.lanes_of-s.result * 8) + c.lanes_of-s.result * 8 ≤ length c.args.«data».now = fits c.args.pic c.args.by c.loop-bx.bx c.across.result (c.lanes_of-c.result * 8) (lanes c.args.green) _
-    c.across.ensures size in_row c.pre.0.1 c.pre.0.0 in
-    omega (arith, there)
-
-pub slice_bounds-whole_block-start : goal.slice_bounds-whole_block-start
-slice_bounds-whole_block-start c =
-    let size : c.lanes_of-s.result * 8 ≡ lanes c.args.green * 8 = ap (λ (z : ℕ). z * 8) c.lanes_of-s.ensures.0 in
-    let in_row : c.loop-bx.bx < c.across.result = omega (arith, c.loop-bx-test.true, c.whole_in.ensures.0, c.across.ensures) in
-    let there : (c.args.by * c.across.result + c.loop-bx.bx) * (c.lanes_of-s.result * 8) + c.lanes_of-s.result * 8 ≤ length c.args.«data».now = fits c.args.pic c.args.by c.loop-bx.bx c.across.result (c.lanes_of-c.result * 8) (lanes c.args.green) _
-    c.across.ensures size in_row c.pre.0.1 c.pre.0.0 in
-    omega (arith, there)
-
-pub slice_bounds-whole_block-end : goal.slice_bounds-whole_block-end
-slice_bounds-whole_block-end c =
-    let size : c.lanes_of-s.result * 8 ≡ lanes c.args.green * 8 = ap (λ (z : ℕ). z * 8) c.lanes_of-s.ensures.0 in
-    let in_row : c.loop-bx.bx < c.across.result = omega (arith, c.loop-bx-test.true, c.whole_in.ensures.0, c.across.ensures) in
-    let there : (c.args.by * c.across.result + c.loop-bx.bx) * (c.lanes_of-s.result * 8) + c.lanes_of-s.result * 8 ≤ length c.args.«data».now = fits c.args.pic c.args.by c.loop-bx.bx c.across.result (c.lanes_of-c.result * 8) (lanes c.args.green) _
+    let there : (c.args.by * c.across.result + c.loop-bx.bx) * (c.lanes_of-s.result * 8) + c.lanes_of-s.result * 8 ≤ length c.args.«data».now = fits c.args.pic c.args.by c.loop-bx.bx c.across.result (c.lanes_of-s.result * 8) (lanes c.args.green) _
     c.across.ensures size in_row c.pre.0.1 c.pre.0.0 in
     omega (arith, there)
 
@@ -75,7 +67,7 @@ pub whole_block-requires : goal.whole_block-requires
 whole_block-requires c =
     let size : c.lanes_of-s.result * 8 ≡ lanes c.args.green * 8 = ap (λ (z : ℕ). z * 8) c.lanes_of-s.ensures.0 in
     let in_row : c.loop-bx.bx < c.across.result = omega (arith, c.loop-bx-test.true, c.whole_in.ensures.0, c.across.ensures) in
-    let there : (c.args.by * c.across.result + c.loop-bx.bx) * (c.lanes_of-s.result * 8) + c.lanes_of-s.result * 8 ≤ length c.args.«data».now = fits c.args.pic c.args.by c.loop-bx.bx c.across.result (c.lanes_of-c.result * 8) (lanes c.args.green) _
+    let there : (c.args.by * c.across.result + c.loop-bx.bx) * (c.lanes_of-s.result * 8) + c.lanes_of-s.result * 8 ≤ length c.args.«data».now = fits c.args.pic c.args.by c.loop-bx.bx c.across.result (c.lanes_of-s.result * 8) (lanes c.args.green) _
     c.across.ensures size in_row c.pre.0.1 c.pre.0.0 in
     let w = c.whole_in.ensures in (
       (
@@ -105,5 +97,5 @@ pub returns : goal.returns
 returns c =
     let a = c.args in
     let e : c.loop-bx.bx ≡ c.whole_in-n.result = omega (arith, c.loop-bx-test.false, c.loop-bx.invariant.0) in
-    from_first (lanes a.green) a.span.signed a.«data».now a.pic a.by _ a.image-1.now c.loop-bx.image-1
-    (subst (λ (m : ℕ). Turned (lanes a.green) a.span.signed a.«data».now a.pic a.by 0 a.image-1.now c.loop-bx.image-1 m) e c.loop-bx.invariant.1)
+    from_first (lanes a.green) a.span.signed a.«data».now a.pic a.by _ a.image.now c.loop-bx.image
+    (subst (λ (m : ℕ). Turned (lanes a.green) a.span.signed a.«data».now a.pic a.by 0 a.image.now c.loop-bx.image m) e c.loop-bx.invariant.1)

@@ -59,4 +59,4 @@ pub returns : goal.returns
 unfolding paired
 returns c =
     let l = c.loop-i in
-    filled-all _ 0 16 l.out-1 l.i l.invariant (omega arith)
+    filled-all _ 0 16 l.out l.i l.invariant (omega arith)

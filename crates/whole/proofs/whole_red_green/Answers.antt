@@ -29,7 +29,7 @@ overflow_mul-bx c = omega (arith, c.pre.1.0, c.pre.0.2.narrow)
 
 pub place_whole-requires : goal.place_whole-requires
 place_whole-requires c =
-    let wide : Room (twice c.args.pic) (length c.args.image-1.now) = room_twice c.args.pic c.requires.0.2.fits _ c.requires.0.2.roomy in
+    let wide : Room (twice c.args.pic) (length c.args.image.now) = room_twice c.args.pic c.requires.0.2.fits _ c.requires.0.2.roomy in
     rw c.doubled-wide.ensures (omega (arith, c.pre.1.0), c.pre.1.1, wide)
 
 pub overflow_mul-bx-2 : goal.overflow_mul-bx-2
@@ -46,8 +46,8 @@ place_whole-requires-2 c =
 pub returns : goal.returns
 returns c =
     let a = c.args in
-    both-tiles a.pic c.pre.0.2.fits a.span.signed a.d.now c.eac_sixteens-c.result c.eac_sixteens-c.result
-    c.eac_sixteens-c.ensures
-    (c.eac_sixteens-c.ensures ∙ ap (λ (l : List ℕ). build 16 (value_at a.span.signed l)) (rest 8 a.d.now))
+    both-tiles a.pic c.pre.0.2.fits a.span.signed a.d.now c.eac_sixteens-red.result c.eac_sixteens-green.result
+    c.eac_sixteens-red.ensures
+    (c.eac_sixteens-green.ensures ∙ ap (λ (l : List ℕ). build 16 (value_at a.span.signed l)) (rest 8 a.d.now))
     a.bx a.by _ c.pairs.result c.pairs-2.result a.image-1.now _ _ (omega arith)
     c.pairs.ensures c.pairs-2.ensures (rw c.doubled-wide.ensures at c.place_whole.ensures) (rw c.doubled-wide.ensures at c.place_whole-2.ensures)

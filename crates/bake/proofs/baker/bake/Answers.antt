@@ -14,17 +14,17 @@ use Rattle.bake.proofs.baker.bake.Goals as goal
 pub returns-then-above : goal.returns-then-above
 returns-then-above c =
     let a = c.args in
-    no-base a.first a.second a.flip a.tile.now a.block-1.now (bad-first a.first a.second a.flip (sym c.above.ensures ∙ c.if-above.true))
+    no-base a.first a.second a.flip a.tile.now a.block.now (bad-first a.first a.second a.flip (sym c.above.ensures ∙ c.if-above.true))
 
 pub returns-then-above-2 : goal.returns-then-above-2
 returns-then-above-2 c =
     let a = c.args in
-    no-base a.first a.second a.flip a.tile.now a.block-1.now (bad-second a.first a.second a.flip (sym c.above-2.ensures ∙ c.if-above-2.true))
+    no-base a.first a.second a.flip a.tile.now a.block.now (bad-second a.first a.second a.flip (sym c.above-2.ensures ∙ c.if-above-2.true))
 
 pub returns-then-flip-gt1 : goal.returns-then-flip-gt1
 returns-then-flip-gt1 c =
     let a = c.args in
-    no-base a.first a.second a.flip a.tile.now a.block-1.now (bad-flip a.first a.second a.flip c.if-flip-gt1.true)
+    no-base a.first a.second a.flip a.tile.now a.block.now (bad-flip a.first a.second a.flip c.if-flip-gt1.true)
 
 pub returns-then-block-lt8 : goal.returns-then-block-lt8
 returns-then-block-lt8 c =
@@ -32,7 +32,7 @@ returns-then-block-lt8 c =
     let second-good : above c.args.second ≡ false = sym c.above-2.ensures ∙ c.if-above-2.false in
     let all-good : no_base c.args.first c.args.second c.args.flip ≡ false = good c.args.first c.args.second c.args.flip first_good second-good c.if-flip-gt1.false in
     let a = c.args in
-    short-block a.first a.second a.flip a.tile.now a.block-1.now all-good c.if-block-lt8.true
+    short-block a.first a.second a.flip a.tile.now a.block.now all-good c.if-block-lt8.true
 
 pub returns-then-tile-lt16 : goal.returns-then-tile-lt16
 returns-then-tile-lt16 c =
@@ -40,7 +40,7 @@ returns-then-tile-lt16 c =
     let second-good : above c.args.second ≡ false = sym c.above-2.ensures ∙ c.if-above-2.false in
     let all-good : no_base c.args.first c.args.second c.args.flip ≡ false = good c.args.first c.args.second c.args.flip first_good second-good c.if-flip-gt1.false in
     let a = c.args in
-    short-tile a.first a.second a.flip a.tile.now a.block-1.now all-good c.if-block-lt8.false c.if-tile-lt16.true
+    short-tile a.first a.second a.flip a.tile.now a.block.now all-good c.if-block-lt8.false c.if-tile-lt16.true
 
 pub baked-requires : goal.baked-requires
 baked-requires c =

@@ -9,13 +9,13 @@ returns c =
     let a = c.args in
     assembled a.t1 a.t2 a.flip a.tile.now _ _ _ _ _ _ _ _ _ _ _ _
     c.widened-a.ensures
-    c.widened-c.ensures
+    c.widened-b.ensures
     c.best_code-first_code.ensures.0
     c.best_code-second_code.ensures.0
     c.colours.ensures
     c.colours-2.ensures
-    c.index_words-c.ensures.0
-    c.index_words-c.ensures.1
+    c.index_words-w.ensures.0
+    c.index_words-w.ensures.1
     c.nibbles.ensures
     c.nibbles-2.ensures
     c.nibbles-3.ensures

@@ -22,7 +22,7 @@ returns c =
       c.either_lane-2.ensures,
       c.either_lane.ensures,
       c.is_above-sevenths.ensures,
-      c.wide-c.ensures.0,
-      c.wide-c.ensures.0,
+      c.wide-q.ensures.0,
+      c.wide-p.ensures.0,
     ) in
     λ k h. ap (λ (l : List ℕ). get_or l k 0) e ∙ in_order (ltb a.b a.a) a.a a.b (omega arith) (omega arith) k h

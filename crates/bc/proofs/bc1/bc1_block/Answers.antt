@@ -9,4 +9,4 @@ use Rattle.bc.proofs.bc1.bc1_block.Goals as goal
 pub returns : goal.returns
 returns c =
     c.picked.ensures
-    ∙ rw (c.palette_in.ensures, c.half_word-c.ensures) (shown false c.args.alpha c.args.d.now)
+    ∙ rw (c.palette_in.ensures, c.half_word-w.ensures) (shown false c.args.alpha c.args.d.now)

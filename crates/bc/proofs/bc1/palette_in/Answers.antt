@@ -14,5 +14,5 @@ pub returns : goal.returns
 returns c =
     let s = c.args in
     c.words.ensures
-    ∙ rw (c.lanes.ensures, c.clear.ensures, c.above-c.ensures, c.second-c.ensures, c.first-c.ensures)
+    ∙ rw (c.lanes.ensures, c.clear.ensures, c.above-f.ensures, c.second-q.ensures, c.first-p.ensures)
     (listed (ltb (bits 31 16 s.w) (bits 15 0 s.w)) s.alpha (bits 15 0 s.w) (bits 31 16 s.w))

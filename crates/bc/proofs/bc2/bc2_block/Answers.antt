@@ -24,6 +24,6 @@ pub returns : goal.returns
 returns c =
     let d = c.args.d.now in
     c.both.ensures
-    ∙ shown d c.half_word-a.result c.half_word-c.result c.hues_in.result c.half_word-a.ensures
-    (c.half_word-c.ensures ∙ ap half_word_lem (rest 8 d))
+    ∙ shown d c.half_word-a.result c.half_word-w.result c.hues_in.result c.half_word-a.ensures
+    (c.half_word-w.ensures ∙ ap half_word_lem (rest 8 d))
     c.hues_in.ensures

@@ -31,10 +31,10 @@ both-requires c =
 pub returns : goal.returns
 returns c =
     let d = c.args.d.now in
-    let x = c.half_word-c.result in
+    let x = c.half_word-a.result in
     c.both.ensures
-    ∙ shown d x c.half_word-c.result c.tops.result c.hues.result c.half_word-c.ensures
-    (c.half_word-c.ensures ∙ ap half_word_lem (rest 8 d))
+    ∙ shown d x c.half_word-w.result c.tops.result c.hues.result c.half_word-a.ensures
+    (c.half_word-w.ensures ∙ ap half_word_lem (rest 8 d))
     (c.tops.ensures
     ∙ build_same 0 _ _ 8
     (λ k i. byte (get_or c.all_alphas.result k 0) (get_or (alphas_in_lem x) k 0)

@@ -10,8 +10,8 @@ use Rattle.bc.proofs.bc3.tops.Goals as goal
 pub loop-i-init : goal.loop-i-init
 loop-i-init c = begun in_order_lem _ 0 8 _ refl
 
-pub overflow_mul-out : goal.overflow_mul-out
-overflow_mul-out c = omega arith
+pub offset_bounds-a-i : goal.offset_bounds-a-i
+offset_bounds-a-i c = omega arith
 
 pub bounds-a-i : goal.bounds-a-i
 bounds-a-i c = omega arith

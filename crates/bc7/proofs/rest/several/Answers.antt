@@ -38,6 +38,6 @@ returns c =
       λ k h. l.invariant.passed k (omega arith),
       (
         λ k h. l.invariant.others k (omega arith),
-        l.invariant.left ∙ ap (λ (m : ℕ). whole c.args.r / 2 ^ (m * c.args.b)) e,
+        l.invariant.false ∙ ap (λ (m : ℕ). whole c.args.r / 2 ^ (m * c.args.b)) e,
       ),
     )

@@ -60,5 +60,5 @@ loop-i-preserved c =
 pub returns : goal.returns
 returns c =
     let row = c.args.row in
-    filled-all _ (pos 0) 8 c.loop-i.out-1 c.loop-i.i c.loop-i.invariant (omega arith)
+    filled-all _ (pos 0) 8 c.loop-i.out c.loop-i.i c.loop-i.invariant (omega arith)
     ∙ sym (is-build _ (pos 0) 8 (get_or alpha_steps_lem row []) (eight_in_row row c.requires.0) (λ k h. refl))

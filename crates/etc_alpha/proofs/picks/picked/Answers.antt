@@ -75,4 +75,4 @@ loop-i-preserved c =
     )
 
 pub returns : goal.returns
-returns c = filled backwards _ (pos 0) 16 c.loop-i.out-1 c.loop-i.i c.loop-i.invariant.1 (λ k h. omega arith)
+returns c = filled backwards _ (pos 0) 16 c.loop-i.out c.loop-i.i c.loop-i.invariant.1 (λ k h. omega arith)

@@ -67,12 +67,12 @@ loop-k-preserved c =
     let d = c.args.d.now in
     let k = c.loop-k.k in
     let n = k % 4 * 4 + k / 4 in
-    let h : c.second_half-c.result ≡ second_half_lem (flipped d) = rw div-one c.second_half-c.ensures in
+    let h : c.second_half-half.result ≡ second_half_lem (flipped d) = rw div-one c.second_half-half.ensures in
     stored_next _ 0 16 c.loop-k.out k c.loop-k.invariant _ (omega arith)
     (number d k n _ _ _ (omega arith) refl
     (c.where_set.ensures.0 ∙ ap (λ (w : ℕ). bit n w * 4) h)
-    (c.where_set-in-loop-k.ensures.0 ∙ ap (λ (w : ℕ). bit n w * 2) c.two_bytes-c.ensures.0)
-    (c.where_set-in-loop-k-2.ensures.0 ∙ ap (λ (w : ℕ). bit n w * 1) c.two_bytes-c.ensures.0))
+    (c.where_set-in-loop-k.ensures.0 ∙ ap (λ (w : ℕ). bit n w * 2) c.two_bytes-high.ensures.0)
+    (c.where_set-in-loop-k-2.ensures.0 ∙ ap (λ (w : ℕ). bit n w * 1) c.two_bytes-low.ensures.0))
 
 pub returns : goal.returns
 returns c =

@@ -58,8 +58,8 @@ overflow_add-at-in-loop-i-2 c = omega arith
 pub entry_told-told-requires : goal.entry_told-told-requires
 entry_told-told-requires c = omega arith
 
-pub overflow_add-at : goal.overflow_add-at
-overflow_add-at c = omega arith
+pub overflow_add-at-in-loop-i-3 : goal.overflow_add-at-in-loop-i-3
+overflow_add-at-in-loop-i-3 c = omega arith
 
 pub overflow_add-at-in-loop-i-4 : goal.overflow_add-at-in-loop-i-4
 overflow_add-at-in-loop-i-4 c = omega arith

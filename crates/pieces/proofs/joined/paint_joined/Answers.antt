@@ -17,6 +17,10 @@ use Rattle.pieces.proofs.kept.Numbers.{peel, one_block}
 use borrow.Author.Rules.{rules}
 use Rattle.pieces.proofs.joined.paint_joined.Goals as goal
 
+-- LEFT
+-- part-paint-start : tie.Need-slice-bounds-paint-start
+-- part-paint-start c = sub-paint c
+
 pub returns-then-held-eq0 : goal.returns-then-held-eq0
 returns-then-held-eq0 c = rw c.if-held-eq0.true c.paint.ensures
 
@@ -33,9 +37,6 @@ slice_bounds-paint-count c =
     let some : c.args.first < c.args.last = omega (arith, c.if-first-last.false, c.requires.0.2) in
     let parted : (c.args.last - (c.args.first + 1)) * size_of c.args.f + size_of c.args.f ≤ c.args.held + length c.args.bytes.now = omega (arith, peel c.args.first c.args.last (size_of c.args.f) some, c.pre.1.1) in
     omega (arith, parted, c.size.ensures.0)
-
-pub slice_bounds-paint-start : goal.slice_bounds-paint-start
-slice_bounds-paint-start c = sub-paint c
 
 pub paint-requires-3 : goal.paint-requires-3
 paint-requires-3 c =
@@ -61,8 +62,8 @@ returns c =
     let long : a.held ≤ length a.kept = omega (arith, fifteen, e.0) in
     let size : length hand ≡ a.held + length a.bytes.now =
     length-append (take a.held a.kept) a.bytes.now ∙ ap (λ (x : ℕ). x + length a.bytes.now) (length-take-le a.held a.kept long) in
-    two_runs a.pic a.first (a.first + 1) a.last _ a.image-1.now _ _ (omega arith) (omega (arith, some))
-    (other-bytes a.pic (shows_of a.f) a.first (a.first + 1) _ (bytes_from w a.first hand) a.image-1.now _
+    two_runs a.pic a.first (a.first + 1) a.last _ a.image.now _ _ (omega arith) (omega (arith, some))
+    (other-bytes a.pic (shows_of a.f) a.first (a.first + 1) _ (bytes_from w a.first hand) a.image.now _
     (λ n i j. ap (λ (l : List ℕ). bytes_of w l (n - a.first)) c.first_block-joint.ensures ∙ joint_block w (n - a.first) hand (omega (arith, e.0)) (omega (arith, size, parted)) (omega arith))
     c.paint-2.ensures)
     (other-bytes a.pic (shows_of a.f) (a.first + 1) a.last _ (bytes_from w a.first hand) _ _

@@ -6,7 +6,7 @@ use borrow.Author.Rules.{rules}
 use Rattle.pixel.proofs.fill.fill.Given as goal
 
 abbrev pub invariant-loop-k : goal.invariant-loop-k
-invariant-loop-k l = Begun (λ l.k. get_or l.tile (l.from + l.k) 0) l.initial.part l.part l.k
+invariant-loop-k l = Begun (λ k. get_or l.tile (l.from + k) 0) l.initial.part l.part l.k
 
 abbrev pub decreases-loop-k : goal.decreases-loop-k
 decreases-loop-k l = length l.initial.part - l.k

@@ -10,7 +10,7 @@ use Rattle.pixel.proofs.lanes.place_rows.Goals as goal
 pub loop-i-init : goal.loop-i-init
 loop-i-init c =
     let a = c.args in
-    start a.pic a.bx a.by a.m a.tile a.image-1.now
+    start a.pic a.bx a.by a.m a.tile a.image.now
 
 pub overflow_mul-by : goal.overflow_mul-by
 overflow_mul-by c = omega (arith, c.requires.1.1)
@@ -40,4 +40,4 @@ shape_of-image c = c.loop-i.invariant.1.same
 pub returns : goal.returns
 returns c =
     let a = c.args in
-    whole a.pic a.bx a.by c.loop-i.i a.m a.tile a.image-1.now c.loop-i.image-1 c.requires.1.1 c.loop-i-test.false c.loop-i.invariant
+    whole a.pic a.bx a.by c.loop-i.i a.m a.tile a.image.now c.loop-i.image c.requires.1.1 c.loop-i-test.false c.loop-i.invariant

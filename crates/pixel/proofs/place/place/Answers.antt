@@ -7,4 +7,4 @@ use Rattle.pixel.proofs.place.place.Goals as goal
 pub returns-then-pic-bx : goal.returns-then-pic-bx
 returns-then-pic-bx c =
     let a = c.args in
-    nothing a.pic a.bx a.by _ a.image-1.now c.if-pic-bx.true
+    nothing a.pic a.bx a.by _ a.image.now c.if-pic-bx.true

@@ -31,14 +31,14 @@ use Rattle.sheet.proofs.write.write_sheet.Goals as goal
 pub returns-in_default : goal.returns-in_default
 returns-in_default c =
     let a = c.args in
-    refuses a.format (sized a.width a.height) a.blocks.now a.out-1.now c.verify-answer.result
+    refuses a.format (sized a.width a.height) a.blocks.now a.out.now c.verify-answer.result
     (c.verify-answer.ensures a.blocks.now refl)
-    (refusal c.verify-answer.result c.in-Done.keys2)
+    (refusal c.verify-answer.result c.in_default.keys2)
 
 pub put_front-requires : goal.put_front-requires
 put_front-requires c =
-    let done : let a = c.args in said Done ≡ write_verdict a.format (sized a.width a.height) a.blocks.now (length a.out-1.now) = rw c.in-Done.is at (c.verify-answer.ensures c.args.blocks.now refl) in
-    let good : let a = c.args in Accepted a.format (sized a.width a.height) a.blocks.now (length a.out-1.now) = passed _ _ _ _ done in
+    let done : let a = c.args in said Done ≡ write_verdict a.format (sized a.width a.height) a.blocks.now (length a.out.now) = rw c.in-Done.is at (c.verify-answer.ensures c.args.blocks.now refl) in
+    let good : let a = c.args in Accepted a.format (sized a.width a.height) a.blocks.now (length a.out.now) = passed _ _ _ _ done in
     let t = good in
     let a = c.args in
     let n = bytes a.format (sized a.width a.height) t.narrow t.low in (
