@@ -18,8 +18,8 @@ use Rattle.rules.specs.Answers.{first_of}
 use Rattle.rules.specs.declared.Picture.{Picture}
 use Rattle.laws.proofs.Filled.{build_same}
 use Rattle.laws.proofs.First.{first, only, first_alike}
-use Rattle.laws.proofs.Paint.{length_painted, get_d_painted}
-use Rattle.pixel.proofs.place.Grid.{covered, column-in, row_in}
+use Rattle.laws.proofs.Paint.{length_painted, get_or_painted}
+use Rattle.pixel.proofs.place.Grid.{covered, column_in, row_in}
 use Rattle.bands.specs.Bands.{bytes_in, elements_in, top, below, first_bad, first_in_bands}
 
 -- ---- the bytes of a block
@@ -33,8 +33,8 @@ module _ (s : ℕ) where
       omega arith
 
   -- of the first m blocks, block i is block i of all
-  pub in-front : (m i : ℕ) (d : List ℕ) → i < m → bytes_of s (take (m * s) d) i ≡ bytes_of s d i
-  in-front m i d h =
+  pub in_front : (m i : ℕ) (d : List ℕ) → i < m → bytes_of s (take (m * s) d) i ≡ bytes_of s d i
+  in_front m i d h =
       let e : i * s + s ≤ m * s = ends m i h in
       ext_get_or 0 (bytes_of s (take (m * s) d) i) (bytes_of s d i)
       (simp (length-take, length-drop) (omega arith))
@@ -74,18 +74,18 @@ parted t v a old =
     ext_get_or 0 (painted t v old) (front ++ back) (l ∙ sym (length-append front back ∙ omega arith))
     (λ k q.
     let h : k < length old = omega arith in
-    get_d_painted t v old k h
+    get_or_painted t v old k h
     ∙ elim (dec_lt k a) [
       | yes i ↦
           ap (λ (z : ℕ). cond (t k) (v k) z) (sym (get_or-take a old k 0 i))
-          ∙ sym (get_d_painted t v (take a old) k (omega (arith, length-take a old, i)))
+          ∙ sym (get_or_painted t v (take a old) k (omega (arith, length-take a old, i)))
           ∙ sym (get_or-append front back 0 k (omega (arith, i)))
       | no i ↦
           let z : k ≡ a + (k - a) = omega (arith, i) in
           let y : k ≡ length front + (k - a) = omega (arith, i) in
           ap (λ (j : ℕ). cond (t j) (v j) (get_or old j 0)) z
           ∙ ap (λ (x : ℕ). cond (t (a + (k - a))) (v (a + (k - a))) x) (sym (get_or-drop a old (k - a) 0))
-          ∙ sym (get_d_painted (λ k. t (a + k)) (λ k. v (a + k)) (drop a old) (k - a) (omega (arith, length-drop a old, i)))
+          ∙ sym (get_or_painted (λ k. t (a + k)) (λ k. v (a + k)) (drop a old) (k - a) (omega (arith, length-drop a old, i)))
           ∙ sym (get_or-append-add front back (k - a) 0)
           ∙ ap (λ (j : ℕ). get_or (front ++ back) j 0) (sym y)
     ])
@@ -121,8 +121,8 @@ within m n x y h i =
 
 module _ (p : Picture) (n : ℕ) where
   -- an element of the first n rows of blocks is one of the picture exactly when it is one of theirs
-  inside-top : (k : ℕ) → k < elements_in p n → inside p k ≡ inside (top p n) k
-  inside-top k h = elim (dec_lt 0 p.pitch) [
+  inside_top : (k : ℕ) → k < elements_in p n → inside p k ≡ inside (top p n) k
+  inside_top k h = elim (dec_lt 0 p.pitch) [
     | yes q ↦ ap (λ (b : Bool). ltb (column p k) p.width && b) (bounded (row p k) (n * 4) p.height ((div-lt_iff_lt-mul q).1 h))
     | no q ↦
         let z : p.pitch ≡ 0 = omega (arith, q) in
@@ -131,12 +131,12 @@ module _ (p : Picture) (n : ℕ) where
   ]
 
   -- and shows there what it shows in the picture
-  pub pixel-top : (shows : Shows) (s : ℕ) (d : List ℕ) (k : ℕ) → T (inside (top p n) k) → pixel_at shows s (top p n) (take (bytes_in s p n) d) k ≡ pixel_at shows s p d k
-  pixel-top shows s d k t =
-      let x : column p k / 4 < across p.width = covered (column p k) p.width (column-in (top p n) k t) in
+  pub pixel_top : (shows : Shows) (s : ℕ) (d : List ℕ) (k : ℕ) → T (inside (top p n) k) → pixel_at shows s (top p n) (take (bytes_in s p n) d) k ≡ pixel_at shows s p d k
+  pixel_top shows s d k t =
+      let x : column p k / 4 < across p.width = covered (column p k) p.width (column_in (top p n) k t) in
       let y : row p k / 4 < n = omega (arith, row_in (top p n) k t) in
       ap (λ (l : List ℕ). shows l (column p k % 4) (row p k % 4))
-      (in-front s (n * across p.width) (block_at p k) d (within (across p.width) n (column p k / 4) (row p k / 4) x y))
+      (in_front s (n * across p.width) (block_at p k) d (within (across p.width) n (column p k / 4) (row p k / 4) x y))
 
   -- below them, where the picture has a column, an element has its column, and a row that is so much further down
   columns : (k : ℕ) → column p (elements_in p n + k) ≡ column p k
@@ -147,8 +147,8 @@ module _ (p : Picture) (n : ℕ) where
     rows k = mul-add-div_right some (n * 4) k
 
     -- so its block is so many further on
-    block-below : (k : ℕ) → block_at p (elements_in p n + k) ≡ n * across p.width + block_at p k
-    block-below k =
+    block_below : (k : ℕ) → block_at p (elements_in p n + k) ≡ n * across p.width + block_at p k
+    block_below k =
         ap (λ (z : ℕ). row p (elements_in p n + k) / 4 * across p.width + z / 4) (columns k)
         ∙ ap (λ (z : ℕ). z / 4 * across p.width + column p k / 4) (rows k)
         ∙ ap (λ (z : ℕ). z * across p.width + column p k / 4) (fours n (row p k)).0
@@ -156,16 +156,16 @@ module _ (p : Picture) (n : ℕ) where
         ∙ omega arith
 
     -- and it shows what it shows in the picture
-    pub pixel-below : (shows : Shows) (s : ℕ) (d : List ℕ) (k : ℕ) → pixel_at shows s p d (elements_in p n + k) ≡ pixel_at shows s (below p n) (drop (bytes_in s p n) d) k
-    pixel-below shows s d k =
-        ap (λ (z : ℕ). shows (bytes_of s d z) (column p (elements_in p n + k) % 4) (row p (elements_in p n + k) % 4)) (block-below k)
+    pub pixel_below_lem : (shows : Shows) (s : ℕ) (d : List ℕ) (k : ℕ) → pixel_at shows s p d (elements_in p n + k) ≡ pixel_at shows s (below p n) (drop (bytes_in s p n) d) k
+    pixel_below_lem shows s d k =
+        ap (λ (z : ℕ). shows (bytes_of s d z) (column p (elements_in p n + k) % 4) (row p (elements_in p n + k) % 4)) (block_below k)
         ∙ ap (λ (l : List ℕ). shows l (column p (elements_in p n + k) % 4) (row p (elements_in p n + k) % 4)) (sym (behind s (n * across p.width) (block_at p k) d))
         ∙ ap (λ (z : ℕ). shows (bytes_of s (drop (bytes_in s p n) d) (block_at p k)) (z % 4) (row p (elements_in p n + k) % 4)) (columns k)
         ∙ ap (λ (z : ℕ). shows (bytes_of s (drop (bytes_in s p n) d) (block_at p k)) (column p k % 4) z)
         (ap (λ (z : ℕ). z % 4) (rows k) ∙ (fours n (row p k)).1)
 
-    inside-below : (k : ℕ) → inside p (elements_in p n + k) ≡ inside (below p n) k
-    inside-below k =
+    inside_below : (k : ℕ) → inside p (elements_in p n + k) ≡ inside (below p n) k
+    inside_below k =
         ap (λ (z : ℕ). ltb z p.width && ltb (row p (elements_in p n + k)) p.height) (columns k)
         ∙ ap (λ (z : ℕ). ltb (column p k) p.width && ltb z p.height) (rows k)
         ∙ ap (λ (b : Bool). ltb (column p k) p.width && b) (shifted (n * 4) (row p k) p.height)
@@ -181,8 +181,8 @@ module _ (p : Picture) (n : ℕ) where
     is_front : painted (inside p) (pixel_at shows s p d) (take (elements_in p n) image) ≡ front
     is_front =
         painted_alike (inside p) (inside (top p n)) (pixel_at shows s p d) (pixel_at shows s (top p n) (take (bytes_in s p n) d)) (take (elements_in p n) image)
-        (λ k h. inside-top k (omega (arith, length-take (elements_in p n) image, h)))
-        (λ k h t. sym (pixel-top shows s d k t))
+        (λ k h. inside_top k (omega (arith, length-take (elements_in p n) image, h)))
+        (λ k h t. sym (pixel_top shows s d k t))
 
     -- what the picture has behind
     abbrev is_behind : ℕ → Bool
@@ -195,27 +195,27 @@ module _ (p : Picture) (n : ℕ) where
     none : (x : ℕ) (b : Bool) → p.width ≡ 0 → (ltb x p.width && b) ≡ false
     none x b e = ap (λ (t : Bool). t && b) (le-ltb x p.width (omega arith))
 
-    is-back : p.width ≤ p.pitch → painted is_behind pixel_behind (drop (elements_in p n) image) ≡ back
-    is-back fits =
+    is_back : p.width ≤ p.pitch → painted is_behind pixel_behind (drop (elements_in p n) image) ≡ back
+    is_back fits =
         let pixel_below = pixel_at shows s (below p n) (drop (bytes_in s p n) d) in
         elim (dec_lt 0 p.pitch) [
           | yes q ↦
               painted_alike is_behind (inside (below p n)) pixel_behind pixel_below (drop (elements_in p n) image)
-              (λ k h. inside-below q k)
-              (λ k h t. pixel-below q shows s d k)
+              (λ k h. inside_below q k)
+              (λ k h t. pixel_below_lem q shows s d k)
           | no q ↦
               let z : p.width ≡ 0 = omega (arith, q) in
               painted_alike is_behind (inside (below p n)) pixel_behind pixel_below (drop (elements_in p n) image)
               (λ k h. none (column p (elements_in p n + k)) (ltb (row p (elements_in p n + k)) p.height) z ∙ sym (none (column p k) (ltb (row p k) (p.height - n * 4)) z))
-              (λ k h t. absurd (omega (arith, column-in (below p n) k t, z)))
+              (λ k h t. absurd (omega (arith, column_in (below p n) k t, z)))
         ]
 
     -- "cut anywhere between block rows": both together are the picture
-    pub cut-is-whole : p.width ≤ p.pitch → picture_by shows (bytes_of s d) p image ≡ front ++ back
-    cut-is-whole fits =
+    pub cut_is_whole : p.width ≤ p.pitch → picture_by shows (bytes_of s d) p image ≡ front ++ back
+    cut_is_whole fits =
         parted (inside p) (pixel_at shows s p d) (elements_in p n) image
         ∙ ap (λ (l : List ℕ). l ++ painted is_behind pixel_behind (drop (elements_in p n) image)) is_front
-        ∙ ap (λ (l : List ℕ). front ++ l) (is-back fits)
+        ∙ ap (λ (l : List ℕ). front ++ l) (is_back fits)
 
 -- ---- the first block that meets a test
 
@@ -260,8 +260,8 @@ full h n q = omega arith
 
 module _ (p : Picture) (n : ℕ) where
   -- the blocks of the picture are those of both
-  pub blocks-cut : blocks p ≡ blocks (top p n) + blocks (below p n)
-  blocks-cut =
+  pub blocks_cut : blocks p ≡ blocks (top p n) + blocks (below p n)
+  blocks_cut =
       let m = across p.width in
       ap (λ (z : ℕ). m * z) (sides p.height n) ∙ mul-add m (across (min (n * 4) p.height)) (across (p.height - n * 4))
 
@@ -273,8 +273,8 @@ module _ (p : Picture) (n : ℕ) where
       omega (arith, mul_comm m (across (min (n * 4) p.height)))
 
   -- and where a block is below them, exactly n
-  pub all-before : 0 < blocks (below p n) → blocks (top p n) ≡ n * across p.width
-  all-before h =
+  pub all_before : 0 < blocks (below p n) → blocks (top p n) ≡ n * across p.width
+  all_before h =
       let m = across p.width in
       elim (dec_lt 0 (across (p.height - n * 4))) [
         | yes q ↦ ap (λ (z : ℕ). m * z) (full p.height n q) ∙ mul_comm m n
@@ -288,22 +288,22 @@ module _ (p : Picture) (n : ℕ) where
 
 module _ (bad : List ℕ → Bool) (s : ℕ) (p : Picture) (d : List ℕ) (n : ℕ) where
   -- a block of the first n rows, and one below them
-  test-top : (i : ℕ) → i < blocks (top p n) → bad (bytes_of s (take (bytes_in s p n) d) i) ≡ bad (bytes_of s d i)
-  test-top i h = ap bad (in-front s (n * across p.width) i d (omega (arith, few p n)))
+  test_top : (i : ℕ) → i < blocks (top p n) → bad (bytes_of s (take (bytes_in s p n) d) i) ≡ bad (bytes_of s d i)
+  test_top i h = ap bad (in_front s (n * across p.width) i d (omega (arith, few p n)))
 
   test_below : (i : ℕ) → i < blocks (below p n) → bad (bytes_of s (drop (bytes_in s p n) d) i) ≡ bad (bytes_of s d (blocks (top p n) + i))
   test_below i h =
-      ap bad (behind s (n * across p.width) i d ∙ ap (λ (z : ℕ). bytes_of s d (z + i)) (sym (all-before p n (omega arith))))
+      ap bad (behind s (n * across p.width) i d ∙ ap (λ (z : ℕ). bytes_of s d (z + i)) (sym (all_before p n (omega arith))))
 
   abbrev own : ℕ
   own = first_bad bad s (top p n) (take (bytes_in s p n) d)
 
   -- the first of all is that of the first n rows, or of what is below them
-  pub first-cut : first_bad bad s p d ≡ cond (ltb own (blocks (top p n))) own (blocks (top p n) + first_bad bad s (below p n) (drop (bytes_in s p n) d))
-  first-cut =
+  pub first_cut : first_bad bad s p d ≡ cond (ltb own (blocks (top p n))) own (blocks (top p n) + first_bad bad s (below p n) (drop (bytes_in s p n) d))
+  first_cut =
       let test : ℕ → Bool = λ i. bad (bytes_of s d i) in
-      let e : first_of test (blocks (top p n)) ≡ own = sym (first_alike (λ i. bad (bytes_of s (take (bytes_in s p n) d) i)) test (blocks (top p n)) test-top) in
-      ap (first_of test) (blocks-cut p n)
+      let e : first_of test (blocks (top p n)) ≡ own = sym (first_alike (λ i. bad (bytes_of s (take (bytes_in s p n) d) i)) test (blocks (top p n)) test_top) in
+      ap (first_of test) (blocks_cut p n)
       ∙ elim (dec_lt own (blocks (top p n))) [
         | yes h ↦
             sooner test (blocks (top p n)) (blocks (below p n)) (omega (arith, e, h))
@@ -322,4 +322,4 @@ first_in_bands_lem bad s [] p d = refl
 first_in_bands_lem bad s (n ∷ cuts) p d =
     let own = first_bad bad s (top p n) (take (bytes_in s p n) d) in
     ap (λ (z : ℕ). cond (ltb own (blocks (top p n))) own (blocks (top p n) + z)) (first_in_bands_lem bad s cuts (below p n) (drop (bytes_in s p n) d))
-    ∙ sym (first-cut bad s p d n)
+    ∙ sym (first_cut bad s p d n)

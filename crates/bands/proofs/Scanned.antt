@@ -14,7 +14,7 @@ use Rattle.rules.specs.Places.{bytes_of}
 use Rattle.rules.specs.Answers.{first_of, guarded, accepts}
 use Rattle.rules.specs.Guards.{Guard}
 use Rattle.laws.proofs.First.{first, only, first_alike}
-use Rattle.laws.proofs.Guards.{none-bad}
+use Rattle.laws.proofs.Guards.{none_bad}
 use Rattle.bands.specs.Rows.{scanned, first_in, scanned_row}
 use Rattle.bands.proofs.Bytes as bytes
 use Rattle.bands.proofs.Bands.{later}
@@ -42,7 +42,7 @@ module _ (test : ℕ → Bool) where
 
 -- ---- rows of n blocks, read one after another
 
-module _ (g : Guard) (is-refusal : 0 < g.number) (n j : ℕ) (d row : List ℕ) (before : length d ≡ j * (n * 8)) (long : length row ≡ n * 8) where
+module _ (g : Guard) (is_refusal : 0 < g.number) (n j : ℕ) (d row : List ℕ) (before : length d ≡ j * (n * 8)) (long : length row ≡ n * 8) where
   abbrev test : ℕ → Bool
   test i = g.bad (bytes_of 8 (d ++ row) i)
 
@@ -50,7 +50,7 @@ module _ (g : Guard) (is-refusal : 0 < g.number) (n j : ℕ) (d row : List ℕ) 
   place e =
       let l : j * n * 8 ≤ length d = omega (arith, mul_assoc j n 8) in
       later test (j * n) n
-      (λ k h. ap g.bad (bytes.kept 8 k (j * n) d row h l) ∙ none-bad g.number (λ i. g.bad (bytes_of 8 d i)) (j * n) is-refusal e k h)
+      (λ k h. ap g.bad (bytes.kept 8 k (j * n) d row h l) ∙ none_bad g.number (λ i. g.bad (bytes_of 8 d i)) (j * n) is_refusal e k h)
       ∙ ap (λ (z : ℕ). j * n + z)
       (first_alike (λ i. test (j * n + i)) (λ i. g.bad (bytes_of 8 row i)) n
       (λ i h.
@@ -58,9 +58,9 @@ module _ (g : Guard) (is-refusal : 0 < g.number) (n j : ℕ) (d row : List ℕ) 
       (sym (block n 8 i j (d ++ row) h) ∙ ap (λ (l : List ℕ). bytes_of 8 l i) (bytes.read (n * 8) j d row before long))))
 
   -- what is said after a row is what is to be said of all blocks so far
-  pub after-row : scanned g d (j * n) ≡ 0 ∷ [] → scanned_row g n j row ≡ scanned g (d ++ row) (j * n + n)
+  pub after_row : scanned g d (j * n) ≡ 0 ∷ [] → scanned_row g n j row ≡ scanned g (d ++ row) (j * n + n)
   unfolding scanned_row
-  after-row e =
+  after_row e =
       elim (dec_lt (first_in g n row) n) [
         | yes h ↦
             rw (lt-ltb (first_in g n row) n h)

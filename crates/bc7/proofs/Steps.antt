@@ -7,14 +7,14 @@ use native.Mathlib.Omega.{arith}
 use lib.ListN.{get_or, get_or-eq_default}
 use Rattle.rules.specs.Notation.{build}
 use Rattle.rules.specs.Bc7.{rotated}
-use Rattle.laws.proofs.Filled.{length-build, getD-build}
+use Rattle.laws.proofs.Filled.{length_build, get_or_build}
 
 -- what holds of each f k and of 0 holds at each place of the list
 pub each : (P : ℕ → Type 0) (f : ℕ → ℕ) (n : ℕ) → ((k : ℕ) → k < n → P (f k)) → P 0 → (k : ℕ) → P (get_or (build n f) k 0)
 each P f n h z k =
     elim (dec_lt k n) [
-      | yes l ↦ subst P (sym (getD-build f 0 n k l)) (h k l)
-      | no l ↦ subst P (sym (get_or-eq_default (build n f) 0 (subst (λ (m : ℕ). m ≤ k) (sym (length-build f 0 n)) (omega (arith, l))))) z
+      | yes l ↦ subst P (sym (get_or_build f 0 n k l)) (h k l)
+      | no l ↦ subst P (sym (get_or-eq_default (build n f) 0 (subst (λ (m : ℕ). m ≤ k) (sym (length_build f 0 n)) (omega (arith, l))))) z
     ]
 
 pub same_rotated : (t : ℕ) {a a' r r' g g' b b' : ℕ} → a ≡ a' → r ≡ r' → g ≡ g' → b ≡ b' → rotated t a r g b ≡ rotated t a' r' g' b'

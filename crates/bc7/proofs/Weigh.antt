@@ -28,22 +28,22 @@ module _ (n p : ℕ) (h : n < 3) (l : p < 64) where
   abbrev mask_of : ℕ
   mask_of = layout_of (suc n) p / 4294967296
 
-  pub width-said : (b i : ℕ) → i < 16 → width_by b mask_of i ≡ index_bits b (suc n) p i
-  width-said b i j = ap (λ (x : ℕ). b - x) (anchor_said n p i h l j)
+  pub width_said : (b i : ℕ) → i < 16 → width_by b mask_of i ≡ index_bits b (suc n) p i
+  width_said b i j = ap (λ (x : ℕ). b - x) (anchor_said n p i h l j)
 
-  pub passed-said : (b i : ℕ) → i ≤ 16 → passed_by b mask_of i ≡ bits_before b (suc n) p i
+  pub passed_said : (b i : ℕ) → i ≤ 16 → passed_by b mask_of i ≡ bits_before b (suc n) p i
   unfolding passed_by bits_before
-  passed-said b zero j = refl
-  passed-said b (suc i) j =
-      ap (λ (x : ℕ). x + width_by b mask_of i) (passed-said b i (omega arith)) ∙ ap (λ (x : ℕ). bits_before b (suc n) p i + x) (width-said b i (omega arith))
+  passed_said b zero j = refl
+  passed_said b (suc i) j =
+      ap (λ (x : ℕ). x + width_by b mask_of i) (passed_said b i (omega arith)) ∙ ap (λ (x : ℕ). bits_before b (suc n) p i + x) (width_said b i (omega arith))
 
   -- the index of pixel i, of b bits, read from the 64 bits at a place
-  pub index-said : (d place v b i : ℕ) → b ≤ 4 → i < 16 → v ≡ d / 2 ^ place % 2 ^ 64
+  pub index_said : (d place v b i : ℕ) → b ≤ 4 → i < 16 → v ≡ d / 2 ^ place % 2 ^ 64
       → v / 2 ^ passed_by b mask_of i % 2 ^ width_by b mask_of i ≡ field d (place + bits_before b (suc n) p i) (index_bits b (suc n) p i)
-  index-said d place v b i k j e =
+  index_said d place v b i k j e =
       let most-said : passed_by b mask_of i + width_by b mask_of i ≤ 64 = omega (arith, passed_most b mask_of i k) in
       ap (λ (x : ℕ). x / 2 ^ passed_by b mask_of i % 2 ^ width_by b mask_of i) e
       ∙ in_word (d / 2 ^ place) (passed_by b mask_of i) (width_by b mask_of i) most-said
       ∙ ap (λ (x : ℕ). x % 2 ^ width_by b mask_of i) (shr-shr d place (passed_by b mask_of i))
-      ∙ ap (λ (x : ℕ). d / 2 ^ (place + x) % 2 ^ width_by b mask_of i) (passed-said b i (omega arith))
-      ∙ ap (λ (x : ℕ). d / 2 ^ (place + bits_before b (suc n) p i) % 2 ^ x) (width-said b i j)
+      ∙ ap (λ (x : ℕ). d / 2 ^ (place + x) % 2 ^ width_by b mask_of i) (passed_said b i (omega arith))
+      ∙ ap (λ (x : ℕ). d / 2 ^ (place + bits_before b (suc n) p i) % 2 ^ x) (width_said b i j)

@@ -11,7 +11,7 @@ use Rattle.rules.specs.Places.{painted}
 use Rattle.rules.specs.Answers.{said, accepts, verdict, block_checks, channel_checks}
 use Rattle.rules.specs.declared.Answer.{Answer}
 use Rattle.rules.specs.declared.Answer.TheVariants.{Done}
-use Rattle.laws.proofs.Filled.{getD-build}
+use Rattle.laws.proofs.Filled.{get_or_build}
 use Rattle.laws.proofs.Judged as judged-laws
 use Rattle.laws.proofs.Paint.{painted_same}
 
@@ -35,4 +35,4 @@ channel_checked channel bytes elements h = rw (le-ltb 3 channel h)
 pub sixteen : (rule : ℕ → ℕ) (t old : List ℕ) → t ≡ build 16 rule → painted (λ k. ltb k 16) (λ k. get_or t k 0) old ≡ painted (λ k. ltb k 16) rule old
 sixteen rule t old e =
     painted_same (λ k. ltb k 16) (λ k. get_or t k 0) rule old
-    (λ k h. ap (λ (l : List ℕ). get_or l k 0) e ∙ getD-build rule 0 16 k (ltb→lt k 16 h))
+    (λ k h. ap (λ (l : List ℕ). get_or l k 0) e ∙ get_or_build rule 0 16 k (ltb→lt k 16 h))

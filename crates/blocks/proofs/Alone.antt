@@ -16,7 +16,7 @@ use Rattle.rules.specs.Places.{sized, bytes_of, tile, pixel_by, painted}
 use Rattle.laws.proofs.Filled.{build_same}
 use Rattle.laws.proofs.Parts.{part}
 use Rattle.pixel.proofs.place.Grid.{roomy}
-use Rattle.pixel.proofs.place.Plain.{needed-plain, painted-plain}
+use Rattle.pixel.proofs.place.Plain.{needed_plain, painted_plain}
 use Rattle.blocks.specs.Run.{Whole, PaintsRow}
 use Rattle.blocks.proofs.Blocks.{whole}
 
@@ -50,7 +50,7 @@ module _ (shows : Shows) (s n : ℕ) (d : List ℕ) where
   tiled old new h p =
       let v = pixel_by shows (bytes_of s lent) (sized 4 4) in
       whole (sized 4 4) shows s lent old new p
-      ∙ painted-plain 4 4 v old
+      ∙ painted_plain 4 4 v old
       ∙ ap (λ (m : ℕ). build m (λ k. cond (ltb k 16) (v k) (get_or old k 0))) h
       ∙ build_same 0 (λ k. cond (ltb k 16) (v k) (get_or old k 0)) (λ k. shows (bytes_of s d n) (k % 4) (k / 4)) 16
       (λ k l. ap (λ (t : Bool). cond t (v k) (get_or old k 0)) (lt-ltb k 16 l) ∙ pixel k l)
@@ -73,5 +73,5 @@ whole_four =
     record {
       narrow = omega arith;
       low = omega arith;
-      room = roomy (sized 4 4) 16 (omega arith) (omega (arith, needed-plain 4 4));
+      room = roomy (sized 4 4) 16 (omega arith) (omega (arith, needed_plain 4 4));
     }

@@ -16,7 +16,7 @@ use Rattle.laws.proofs.Parts.{part}
 use Rattle.pixel.specs.place.Tile.{InTile, number_in}
 use Rattle.blocks.specs.Run.{InRun, Stands, numbered, PaintsRow}
 use Rattle.blocks.proofs.Blocks.{next, start as first}
-use Rattle.blocks.proofs.Runs.{two_runs, other-bytes}
+use Rattle.blocks.proofs.Runs.{two_runs, other_bytes}
 
 module _ (shows : Shows) (s : ℕ) (d : List ℕ) (pic : Picture) (bx by n : ℕ) where
   -- what holds before turn i of n: so many blocks have been painted, over old
@@ -81,7 +81,7 @@ module _ (shows : Shows) (s : ℕ) (d : List ℕ) (pic : Picture) where
       → Painted (InRun pic first (b + n)) (pixel_by shows (bytes_from s first d) pic) old new
   go_on first b bx by n l old mid new h st e a p =
       two_runs pic first b (b + n) (pixel_by shows (bytes_from s first d) pic) old mid new h (omega arith) a
-      (other-bytes pic shows b (b + n) (bytes_from s b l) (bytes_from s first d) mid new (λ m i j. behind first b m l h i e)
+      (other_bytes pic shows b (b + n) (bytes_from s b l) (bytes_from s first d) mid new (λ m i j. behind first b m l h i e)
       (subst (λ (m : ℕ). Painted (InRun pic m (m + n)) (pixel_by shows (bytes_from s m l) pic) mid new) st.counted p))
 
 -- what is left of the bytes behind a blocks, of a + b

@@ -14,9 +14,9 @@ use Rattle.rules.specs.Places.{column, row, inside, across, blocks, block_at, by
 use Rattle.rules.specs.declared.Picture.{Picture}
 use Rattle.laws.specs.Painted.{Painted}
 use Rattle.laws.proofs.Paint.{none, said, also, is_painted}
-use Rattle.laws.proofs.Filled.{getD-build}
+use Rattle.laws.proofs.Filled.{get_or_build}
 use Rattle.pixel.specs.place.Tile.{InTile, number_in}
-use Rattle.pixel.proofs.place.Grid.{rem_at, div_at, before, covered, column-in, row_in}
+use Rattle.pixel.proofs.place.Grid.{rem_at, div_at, before, covered, column_in, row_in}
 use Rattle.blocks.specs.Run.{InRun, Stands}
 
 -- the place that a number in a tile stands for
@@ -40,7 +40,7 @@ high n h b bx by s i = lt_of_mul-lt-mul_right n (omega (arith, s.counted, mul_co
 module _ (pic : Picture) where
   -- a picture that is no block wide has no pixel
   pub empty : (first last k : ℕ) → across pic.width ≡ 0 → InRun pic first last k → ⊥
-  empty first last k e z = omega (arith, column-in pic k z.within)
+  empty first last k e z = omega (arith, column_in pic k z.within)
 
   module _ (b bx by : ℕ) (st : Stands (across pic.width) b bx by) where
     -- the tile of block b has the pixels whose block is b
@@ -55,7 +55,7 @@ module _ (pic : Picture) where
         let w = across pic.width in
         let x = column pic k / 4 in
         let y = row pic k / 4 in
-        let n : x < w = covered (column pic k) pic.width (column-in pic k i) in
+        let n : x < w = covered (column pic k) pic.width (column_in pic k i) in
         let q : y * w + x ≡ by * w + bx = e ∙ sym st.counted in
         record {
           within = i;
@@ -69,29 +69,29 @@ module _ (pic : Picture) where
       omega (
         arith,
         before (across pic.width) (column pic k / 4) (row pic k / 4) (across pic.height)
-            (covered (column pic k) pic.width (column-in pic k i))
+            (covered (column pic k) pic.width (column_in pic k i))
             (covered (row pic k) pic.height (row_in pic k i)),
         mul_comm (across pic.width) (across pic.height),
       )
 
   -- one tile more, and all of them, of an image whose element k belongs to pixel `at k`: one element to a pixel, or several
   module _ (at : ℕ → ℕ) (v : ℕ → ℕ) where
-    pub next-in : (u : ℕ → ℕ) (first b bx by : ℕ) (old mid new : List ℕ)
+    pub next_in : (u : ℕ → ℕ) (first b bx by : ℕ) (old mid new : List ℕ)
         → first ≤ b
         → Stands (across pic.width) b bx by
         → Painted (λ k. InRun pic first b (at k)) v old mid
         → Painted (λ k. InTile pic bx by (at k)) u mid new
         → ((k : ℕ) → block_at pic (at k) ≡ b → u k ≡ v k)
         → Painted (λ k. InRun pic first (b + 1) (at k)) v old new
-    next-in u first b bx by old mid new h st a r e =
-        let in-it : (k : ℕ) → InTile pic bx by (at k) → block_at pic (at k) ≡ b = λ k z. there b bx by st (at k) z in
+    next_in u first b bx by old mid new h st a r e =
+        let in_it : (k : ℕ) → InTile pic bx by (at k) → block_at pic (at k) ≡ b = λ k z. there b bx by st (at k) z in
         also (λ k. InRun pic first b (at k)) (λ k. InTile pic bx by (at k)) (λ k. InRun pic first (b + 1) (at k)) v old mid new a
-        (said _ _ u v mid new r (λ k z. z) (λ k z. z) (λ k z. e k (in-it k z)))
+        (said _ _ u v mid new r (λ k z. z) (λ k z. z) (λ k z. e k (in_it k z)))
         (λ k z. record { within = z.within; from = z.from; to = omega (arith, z.to) })
-        (λ k z. record { within = z.within; from = omega (arith, in-it k z); to = omega (arith, in-it k z) })
+        (λ k z. record { within = z.within; from = omega (arith, in_it k z); to = omega (arith, in_it k z) })
         (λ k z.
         ⊎_elim (λ q. inr (back b bx by st (at k) z.within q))
-        (λ m. inl (record { within = z.within; from = z.from; to = m }, λ o. omega (arith, in-it k o)))
+        (λ m. inl (record { within = z.within; from = z.from; to = m }, λ o. omega (arith, in_it k o)))
         (eq-or-lt_of_le {n = block_at pic (at k)} {m = b} (omega (arith, z.to))))
 
     pub all_in : (old new : List ℕ) → Painted (λ k. InRun pic 0 (blocks pic) (at k)) v old new → new ≡ painted (λ k. inside pic (at k)) v old
@@ -108,7 +108,7 @@ module _ (pic : Picture) where
         let m = placed (column pic k) (row pic k) in
         let l = g b in
         ap (λ (z : List ℕ). get_or z (number_in pic k) 0) q
-        ∙ getD-build (λ j. shows l (j % 4) (j / 4)) 0 16 (number_in pic k) m.2
+        ∙ get_or_build (λ j. shows l (j % 4) (j / 4)) 0 16 (number_in pic k) m.2
         ∙ ap (λ (z : ℕ). shows l z (number_in pic k / 4)) m.0
         ∙ ap (λ (z : ℕ). shows l (column pic k % 4) z) m.1
         ∙ ap (λ (z : ℕ). shows (g z) (column pic k % 4) (row pic k % 4)) (sym e)
@@ -126,7 +126,7 @@ module _ (pic : Picture) where
         → Painted (InTile pic bx by) (λ k. get_or t (number_in pic k) 0) mid new
         → Painted (InRun pic first (b + 1)) (pixel_by shows g pic) old new
     next first b bx by t old mid new h st a q r =
-        next-in (λ k. k) (pixel_by shows g pic) (λ k. get_or t (number_in pic k) 0) first b bx by old mid new h st a r (λ k e. own b k t q e)
+        next_in (λ k. k) (pixel_by shows g pic) (λ k. get_or t (number_in pic k) 0) first b bx by old mid new h st a r (λ k e. own b k t q e)
 
     -- all blocks are the picture
     pub all : (old new : List ℕ) → Painted (InRun pic 0 (blocks pic)) (pixel_by shows g pic) old new → new ≡ picture_by shows g pic old

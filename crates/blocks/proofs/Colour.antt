@@ -18,18 +18,18 @@ use Rattle.blocks.specs.Colour.{colours_from_lem, colour_shows}
 
 module _ (plain punch : Bool) (d px : List ℕ) (at : ℕ) (p : px ≡ tile (colour_pixel plain punch) (take (length d - at) (drop at d))) where
   -- the pixels are those of the bytes from there on
-  from-there : (n : ℕ) → at ≡ n → px ≡ tile (colour_pixel plain punch) (drop n d)
-  from-there n e = p ∙ ap (tile (colour_pixel plain punch)) (rest at d ∙ ap (λ (n : ℕ). drop n d) e)
+  from_there : (n : ℕ) → at ≡ n → px ≡ tile (colour_pixel plain punch) (drop n d)
+  from_there n e = p ∙ ap (tile (colour_pixel plain punch)) (rest at d ∙ ap (λ (n : ℕ). drop n d) e)
 
   pub without : (alpha : Bool) → alpha ≡ false → at ≡ colours_from_lem alpha → px ≡ tile (colour_shows plain punch alpha) d
-  without false e q = from-there 0 q
+  without false e q = from_there 0 q
   without true e q = absurd (subst T e tt)
 
-  pub with-alpha : (alpha : Bool) → alpha ≡ true → at ≡ colours_from_lem alpha → (t : List ℕ)
+  pub with_alpha_lem : (alpha : Bool) → alpha ≡ true → at ≡ colours_from_lem alpha → (t : List ℕ)
       → t ≡ build 16 (λ k. with_alpha (get_or px k 0) (alpha_byte d (k % 4) (k / 4)))
       → t ≡ tile (colour_shows plain punch alpha) d
-  with-alpha true e q t r = r ∙ ap (λ (l : List ℕ). build 16 (λ k. with_alpha (get_or l k 0) (alpha_byte d (k % 4) (k / 4)))) (from-there 8 q)
-  with-alpha false e q t r = absurd (subst T (sym e) tt)
+  with_alpha_lem true e q t r = r ∙ ap (λ (l : List ℕ). build 16 (λ k. with_alpha (get_or l k 0) (alpha_byte d (k % 4) (k / 4)))) (from_there 8 q)
+  with_alpha_lem false e q t r = absurd (subst T (sym e) tt)
 
 -- a tile that is another, painted
 pub as_tile : (pic : Picture) (bx by : ℕ) (t u old new : List ℕ) → t ≡ u

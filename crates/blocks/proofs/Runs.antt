@@ -15,7 +15,7 @@ use Rattle.rules.specs.Places.{inside, block_at, column, row, pixel_by, painted}
 use Rattle.rules.specs.Pieces.{in_run}
 use Rattle.rules.specs.declared.Picture.{Picture}
 use Rattle.laws.specs.Painted.{Painted}
-use Rattle.laws.proofs.Paint.{said, also, is_painted, length_painted, get_d_painted}
+use Rattle.laws.proofs.Paint.{said, also, is_painted, length_painted, get_or_painted}
 use Rattle.pixel.specs.place.Tile.{Room}
 use Rattle.blocks.specs.Run.{InRun}
 
@@ -57,15 +57,15 @@ module _ (pic : Picture) where
       both (inside pic k) (leb a (block_at pic k) && ltb (block_at pic k) b) r.within
       (both (leb a (block_at pic k)) (ltb (block_at pic k) b) (le→leb a (block_at pic k) r.from) (lt→ltb (block_at pic k) b r.to))
 
-  pub run-painted : (a b : ℕ) (v : ℕ → ℕ) (old new : List ℕ) → Painted (InRun pic a b) v old new → new ≡ painted (in_run pic a b) v old
-  run-painted a b v old new p = is_painted (InRun pic a b) (in_run pic a b) v old new (tested a b) (tests a b) p
+  pub run_painted : (a b : ℕ) (v : ℕ → ℕ) (old new : List ℕ) → Painted (InRun pic a b) v old new → new ≡ painted (in_run pic a b) v old
+  run_painted a b v old new p = is_painted (InRun pic a b) (in_run pic a b) v old new (tested a b) (tests a b) p
 
   -- one run, and then the next, of an image whose element k belongs to pixel `at k`
-  pub two-runs-in : (at : ℕ → ℕ) (a b c : ℕ) (v : ℕ → ℕ) (old mid new : List ℕ) → a ≤ b → b ≤ c
+  pub two_runs_in : (at : ℕ → ℕ) (a b c : ℕ) (v : ℕ → ℕ) (old mid new : List ℕ) → a ≤ b → b ≤ c
       → Painted (λ k. InRun pic a b (at k)) v old mid
       → Painted (λ k. InRun pic b c (at k)) v mid new
       → Painted (λ k. InRun pic a c (at k)) v old new
-  two-runs-in at a b c v old mid new h i p q =
+  two_runs_in at a b c v old mid new h i p q =
       also (λ k. InRun pic a b (at k)) (λ k. InRun pic b c (at k)) (λ k. InRun pic a c (at k)) v old mid new p q
       (λ k z. record { within = z.within; from = z.from; to = omega (arith, z.to) })
       (λ k z. record { within = z.within; from = omega (arith, z.from); to = z.to })
@@ -79,27 +79,27 @@ module _ (pic : Picture) where
       → Painted (InRun pic a b) v old mid
       → Painted (InRun pic b c) v mid new
       → Painted (InRun pic a c) v old new
-  two_runs = two-runs-in (λ k. k)
+  two_runs = two_runs_in (λ k. k)
 
   -- the same, from other bytes that are equal where they are looked at
-  pub other-bytes : (shows : Shows) (a b : ℕ) (g h : ℕ → List ℕ) (old new : List ℕ)
+  pub other_bytes : (shows : Shows) (a b : ℕ) (g h : ℕ → List ℕ) (old new : List ℕ)
       → ((n : ℕ) → a ≤ n → n < b → g n ≡ h n)
       → Painted (InRun pic a b) (pixel_by shows g pic) old new
       → Painted (InRun pic a b) (pixel_by shows h pic) old new
-  other-bytes shows a b g h old new e p =
+  other_bytes shows a b g h old new e p =
       said (InRun pic a b) (InRun pic a b) (pixel_by shows g pic) (pixel_by shows h pic) old new p (λ k z. z) (λ k z. z)
       (λ k z. ap (λ (l : List ℕ). shows l (column pic k % 4) (row pic k % 4)) (e (block_at pic k) z.from z.to))
 
   -- what a list that is painted by the test holds, where it has room for the picture
   module _ (a b : ℕ) (v : ℕ → ℕ) (old new : List ℕ) (room : Room pic (length old)) (e : new ≡ painted (in_run pic a b) v old) where
     at : (k : ℕ) → k < length old → get_or new k 0 ≡ cond (in_run pic a b k) (v k) (get_or old k 0)
-    at k h = ap (λ (l : List ℕ). get_or l k 0) e ∙ get_d_painted (in_run pic a b) v old k h
+    at k h = ap (λ (l : List ℕ). get_or l k 0) e ∙ get_or_painted (in_run pic a b) v old k h
 
     same : length new ≡ length old
     same = ap length e ∙ length_painted (in_run pic a b) v old
 
-    pub was-painted : Painted (InRun pic a b) v old new
-    was-painted =
+    pub was_painted : Painted (InRun pic a b) v old new
+    was_painted =
         record {
           hit = λ k r. at k (room.reach k r.within) ∙ taken (in_run pic a b k) (v k) (get_or old k 0) (tests a b k r);
           miss =

@@ -74,11 +74,11 @@ module _ (n : ℕ) (due d : List ℕ) (p : Picture) (room : List ℕ) where
 
 -- a census counts as often as it has tests
 module _ (tests : List Test) (d : List ℕ) (p : Picture) (room : List ℕ) where
-  abbrev due-of : List ℕ
-  due-of = counts (bytes_of 8 d) (blocks p) tests
+  abbrev due_of : List ℕ
+  due_of = counts (bytes_of 8 d) (blocks p) tests
 
-  pub census-refused : (a : Answer) (number : ℕ) → said a ≡ number ∷ [] → 0 < number → number ∷ [] ≡ census tests d p → accepts (said a) ≡ false → Told (λ b. CountsInto tests d p room b room) number
-  census-refused = refused (length tests) due-of d p room
+  pub census_refused : (a : Answer) (number : ℕ) → said a ≡ number ∷ [] → 0 < number → number ∷ [] ≡ census tests d p → accepts (said a) ≡ false → Told (λ b. CountsInto tests d p room b room) number
+  census_refused = refused (length tests) due_of d p room
 
-  pub census-lays : (l : List ℕ) → 0 ∷ l ≡ census tests d p → (number : ℕ) (new : List ℕ) → Lays l room number new → Told (λ b. CountsInto tests d p room b new) number
-  census-lays = lays (length tests) due-of d p room (length_counts (bytes_of 8 d) (blocks p) tests)
+  pub census_lays : (l : List ℕ) → 0 ∷ l ≡ census tests d p → (number : ℕ) (new : List ℕ) → Lays l room number new → Told (λ b. CountsInto tests d p room b new) number
+  census_lays = lays (length tests) due_of d p room (length_counts (bytes_of 8 d) (blocks p) tests)

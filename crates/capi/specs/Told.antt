@@ -22,16 +22,16 @@ pub record HeadTold (d : List ℕ) (format width height : ℕ) (number format' w
   pub sheet : Sheet
   pub tells : TellsHead d sheet
   pub says : number ≡ get_or (told sheet) 0 0
-  pub the-format : format' ≡ head_or (λ h. h.format) sheet format
+  pub the_format : format' ≡ head_or (λ h. h.format) sheet format
   pub the_width : width' ≡ head_or (λ h. h.width) sheet width
-  pub the-height : height' ≡ head_or (λ h. h.height) sheet height
+  pub the_height : height' ≡ head_or (λ h. h.height) sheet height
 
 -- the writer, with a number for the bytes that it wrote
 pub record WriterTold (f : ℕ) (p : Picture) (b out : List ℕ) (stood number : ℕ) (new : List ℕ) (bytes : ℕ) : Type 0 where
   pub written : Written
   pub writes : WritesSheet f p b out written new
   pub says : number ≡ answer_number written.answer
-  pub the-bytes : bytes ≡ cond (accepts (said written.answer)) written.bytes stood
+  pub the_bytes : bytes ≡ cond (accepts (said written.answer)) written.bytes stood
 
 -- the checker or the baker that promises `Promised answer`, with the answer as its number
 pub record BakingTold (Promised : Baking → Type 0) (number : ℕ) : Type 0 where

@@ -78,14 +78,14 @@ module _ (s : ℕ) (pic : Picture) (bytes elements : ℕ) (then : List ℕ) wher
     clear : judged-laws.Clear (exact_checks s pic bytes elements)
     clear = judged-laws.passed (exact_checks s pic bytes elements) then tt e
 
-    pub passed-exactly : Passed s pic bytes elements
-    passed-exactly = all clear.first clear.rest.first clear.rest.rest.first clear.rest.rest.rest.rest.first
+    pub passed_exactly : Passed s pic bytes elements
+    passed_exactly = all clear.first clear.rest.first clear.rest.rest.first clear.rest.rest.rest.rest.first
 
-    pub exact-length : bytes ≡ blocks pic * s
-    exact-length =
+    pub exact_length : bytes ≡ blocks pic * s
+    exact_length =
         let least = ltb-false bytes (blocks pic * s) clear.rest.rest.first in
         let most = ltb-false (blocks pic * s) bytes clear.rest.rest.rest.first in
         omega arith
 
-  pub passed-exactly-by : (a : Answer) → said a ≡ judged (exact_checks s pic bytes elements) then → accepts (said a) ≡ true → Passed s pic bytes elements
-  passed-exactly-by a e h = passed-exactly (sym (ap accepts e) ∙ h)
+  pub passed_exactly_by : (a : Answer) → said a ≡ judged (exact_checks s pic bytes elements) then → accepts (said a) ≡ true → Passed s pic bytes elements
+  passed_exactly_by a e h = passed_exactly (sym (ap accepts e) ∙ h)

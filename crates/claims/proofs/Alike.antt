@@ -15,7 +15,7 @@ use Rattle.rules.specs.Pixel.{Shows}
 use Rattle.rules.specs.Places.{inside, in_tile, needed, blocks, block_at, bytes_of, column, row, pixel_at, painted, picture_by, Alike, Beside}
 use Rattle.rules.specs.Answers.{refusal, limit_check, pitch_check, data_check, image_check, picture_checks, exact_checks, judged}
 use Rattle.rules.specs.declared.Picture.{Picture}
-use Rattle.laws.proofs.Paint.{length_painted, get_d_painted, painted_same}
+use Rattle.laws.proofs.Paint.{length_painted, get_or_painted, painted_same}
 use Rattle.blocks.proofs.Blocks.{block_in, room}
 
 -- the picture of bytes d over an image
@@ -54,42 +54,42 @@ module _ (s : ℕ) (pic : Picture) (d e : List ℕ) where
   pixel shows k = ap (λ (l : List ℕ). shows l (column pic k % 4) (row pic k % 4))
 
   -- outside the tile of block n an element is no pixel of the picture, or one of another block
-  pub beside-by : (at : ℕ → ℕ) (v w : ℕ → ℕ) (n : ℕ) → Beside s pic n d e
+  pub beside_by : (at : ℕ → ℕ) (v w : ℕ → ℕ) (n : ℕ) → Beside s pic n d e
       → ((k : ℕ) → bytes_of s d (block_at pic (at k)) ≡ bytes_of s e (block_at pic (at k)) → v k ≡ w k)
       → (old : List ℕ)
       → OnlyInTileBy at pic n (painted (λ k. inside pic (at k)) v old) (painted (λ k. inside pic (at k)) w old)
-  beside-by at v w n b same old =
+  beside_by at v w n b same old =
       record {
         as_long = length_painted (λ k. inside pic (at k)) v old ∙ sym (length_painted (λ k. inside pic (at k)) w old);
         outside =
             λ k h out.
             let l : k < length old = omega (arith, length_painted (λ k. inside pic (at k)) v old) in
-            get_d_painted (λ k. inside pic (at k)) v old k l
+            get_or_painted (λ k. inside pic (at k)) v old k l
             ∙ choose (inside pic (at k)) (eqb (block_at pic (at k)) n) (v k) (w k) (get_or old k 0) out
             (λ i z. same k (b (block_at pic (at k)) (block_in pic (at k) i) (λ q. true≢false (sym (eq-eqb (block_at pic (at k)) n q) ∙ z))))
-            ∙ sym (get_d_painted (λ k. inside pic (at k)) w old k l);
+            ∙ sym (get_or_painted (λ k. inside pic (at k)) w old k l);
       }
     where
       choose : (t u : Bool) (v w o : ℕ) → (t && u) ≡ false → (T t → u ≡ false → v ≡ w) → cond t v o ≡ cond t w o
       choose true u v w o h e = e tt h
       choose false u v w o h e = refl
 
-  pub beside-in-tile : (shows : Shows) (n : ℕ) → Beside s pic n d e → (old : List ℕ) → OnlyInTile pic n (over shows s pic old d) (over shows s pic old e)
-  beside-in-tile shows n b old = beside-by (λ k. k) (pixel_at shows s pic d) (pixel_at shows s pic e) n b (pixel shows) old
+  pub beside_in_tile : (shows : Shows) (n : ℕ) → Beside s pic n d e → (old : List ℕ) → OnlyInTile pic n (over shows s pic old d) (over shows s pic old e)
+  beside_in_tile shows n b old = beside_by (λ k. k) (pixel_at shows s pic d) (pixel_at shows s pic e) n b (pixel shows) old
 
   module _ (same : Alike s pic d e) where
     -- the whole picture, and what the checks say
-    pub picture-alike : (shows : Shows) (old : List ℕ) → over shows s pic old d ≡ over shows s pic old e
-    picture-alike shows old =
+    pub picture_alike : (shows : Shows) (old : List ℕ) → over shows s pic old d ≡ over shows s pic old e
+    picture_alike shows old =
         painted_same (inside pic) (pixel_at shows s pic d) (pixel_at shows s pic e) old
         (λ k i. pixel shows k (same (block_at pic k) (block_in pic k i)))
 
-    pub enough-either : 0 < s → ltb (length d) (blocks pic * s) ≡ ltb (length e) (blocks pic * s)
-    enough-either p = enough_alike s d e p (blocks pic) same
+    pub enough_either : 0 < s → ltb (length d) (blocks pic * s) ≡ ltb (length e) (blocks pic * s)
+    enough_either p = enough_alike s d e p (blocks pic) same
 
-    pub verdict-alike : 0 < s → (elements : ℕ) (then then' : List ℕ) → then ≡ then' → judged (picture_checks s pic (length d) elements) then ≡ judged (picture_checks s pic (length e) elements) then'
-    verdict-alike p elements then then' q =
-        ap (λ (t : Bool). judged (limit_check pic ∷ pitch_check pic ∷ refusal 2 t ∷ image_check (needed pic) elements ∷ []) then) (enough-either p)
+    pub verdict_alike : 0 < s → (elements : ℕ) (then then' : List ℕ) → then ≡ then' → judged (picture_checks s pic (length d) elements) then ≡ judged (picture_checks s pic (length e) elements) then'
+    verdict_alike p elements then then' q =
+        ap (λ (t : Bool). judged (limit_check pic ∷ pitch_check pic ∷ refusal 2 t ∷ image_check (needed pic) elements ∷ []) then) (enough_either p)
         ∙ ap (judged (picture_checks s pic (length e) elements)) q
 
 -- where nothing is left over, a reader that wants an exact length says what any other does

@@ -28,8 +28,8 @@ use Rattle.rules.specs.Sheets.{head_verdict, head_record, block_record, sheet_of
 use Rattle.sheet.specs.Shown.{Passes, walk, Shown}
 use Rattle.sheet.proofs.Sizes.{bytes}
 use Rattle.sheet.proofs.Checks.{Accepted, passed}
-use Rattle.sheet.proofs.Shown.{tells, reads-room, plainly}
-use Rattle.claims.proofs.Determined.{picture-determined}
+use Rattle.sheet.proofs.Shown.{tells, reads_room, plainly}
+use Rattle.claims.proofs.Determined.{picture_determined}
 use Rattle.claims.proofs.Encoded.{Fits, one}
 use Rattle.claims.proofs.Sheets.{head_determined}
 
@@ -44,20 +44,20 @@ module _ (f w h : ℕ) (b : List ℕ) (room : ℕ) (s : Accepted f (sized w h) b
   abbrev head : Record
   head = head_record f p
 
-  head-fits : Fits head
+  head_fits : Fits head
   unfolding in_bytes
-  head-fits = record { kind = omega arith; payload = omega arith }
+  head_fits = record { kind = omega arith; payload = omega arith }
 
-  blocks-fit : Fits (block_record b)
-  blocks-fit = record { kind = omega arith; payload = omega (arith, bytes f p s.narrow s.low, s.exact) }
+  blocks_fit : Fits (block_record b)
+  blocks_fit = record { kind = omega arith; payload = omega (arith, bytes f p s.narrow s.low, s.exact) }
 
   -- the walk meets the head, the blocks, and the end
   meets : records_of sheet ≡ more head (more (block_record b) ended)
   unfolding sheet_of
   meets =
-      one head head-fits (encoded (block_record b))
+      one head head_fits (encoded (block_record b))
       ∙ ap (λ (z : List ℕ). more head (records_of z)) (sym (append-nil (encoded (block_record b))))
-      ∙ ap (more head) (one (block_record b) blocks-fit [] ∙ ap (more (block_record b)) (at_the_end [] refl))
+      ∙ ap (more head) (one (block_record b) blocks_fit [] ∙ ap (more (block_record b)) (at_the_end [] refl))
 
   kept-is : kept (more (block_record b) ended) ≡ more (block_record b) ended
   unfolding kept
@@ -83,9 +83,9 @@ module _ (f w h : ℕ) (b : List ℕ) (room : ℕ) (s : Accepted f (sized w h) b
   size =
       ap (λ (z : ℕ). sized z (little 4 5 head.payload)) wide_is ∙ ap (λ (z : ℕ). sized w z) high_is
 
-  is-head : is_head head ≡ true
+  is_head_lem : is_head head ≡ true
   unfolding in_bytes
-  is-head = rw (lt-ltb f 8 (omega (arith, s.known)))
+  is_head_lem = rw (lt-ltb f 8 (omega (arith, s.known)))
 
   fits : too_large_lem sheet_limit p ≡ false
   fits = rw (le-ltb sheet_limit p.width s.narrow, le-ltb sheet_limit p.height s.low)
@@ -101,16 +101,16 @@ module _ (f w h : ℕ) (b : List ℕ) (room : ℕ) (s : Accepted f (sized w h) b
   passes then =
       ap (walk_verdict then) meets
       ∙ ap (from_head head then) kept-is
-      ∙ ap (λ (t : Bool). by t (too_large_lem sheet_limit (size_in head)) (size_in head) (more (block_record b) ended) then) is-head
+      ∙ ap (λ (t : Bool). by t (too_large_lem sheet_limit (size_in head)) (size_in head) (more (block_record b) ended) then) is_head_lem
       ∙ ap (λ (q : Picture). by true (too_large_lem sheet_limit q) q (more (block_record b) ended) then) size
       ∙ ap (λ (t : Bool). by true t p (more (block_record b) ended) then) fits
       ∙ exactly then
 
-  abbrev written-head : Head
-  written-head = record { format = f; width = p.width; height = p.height }
+  abbrev written_head : Head
+  written_head = record { format = f; width = p.width; height = p.height }
 
-  pub written-sheet : Shown sheet written-head b
-  written-sheet =
+  pub written_sheet : Shown sheet written_head b
+  written_sheet =
       record {
         passes = passes;
         begins =
@@ -132,8 +132,8 @@ module _ (f w h : ℕ) (b out new : List ℕ) (n : ℕ) (x : WritesSheet f (size
   abbrev there : List ℕ
   there = take n new
 
-  whole : Shown (sheet_of f pic b) (written-head f w h b (length out) (passed f pic b (length out) x.outcome.says)) b
-  whole = written-sheet f w h b (length out) (passed f pic b (length out) x.outcome.says)
+  whole : Shown (sheet_of f pic b) (written_head f w h b (length out) (passed f pic b (length out) x.outcome.says)) b
+  whole = written_sheet f w h b (length out) (passed f pic b (length out) x.outcome.says)
 
   long : n ≡ length (sheet_of f pic b)
   long = x.bytes ∙ ap (λ (v : List ℕ). cond (accepts v) (length (sheet_of f pic b)) 0) (sym x.outcome.says)
@@ -143,19 +143,19 @@ module _ (f w h : ℕ) (b out new : List ℕ) (n : ℕ) (x : WritesSheet f (size
       ap (take n) (x.outcome.leaves ∙ sym (ap (λ (v : List ℕ). left v (sheet_over f pic b out) out) x.outcome.says))
       ∙ take_at (sheet_of f pic b) (drop (length (sheet_of f pic b)) out) n (sym long)
 
-  pub head-reads-back : (told : Sheet) → TellsHead there told → told ≡ Holds (record { format = f; width = w; height = h })
-  head-reads-back told q =
+  pub head_reads_back : (told : Sheet) → TellsHead there told → told ≡ Holds (record { format = f; width = w; height = h })
+  head_reads_back told q =
       head_determined (sheet_of f pic b) told _ (q ∙ ap head_verdict stands) (tells (sheet_of f pic b) _ b whole)
 
   module _ (image image' : List ℕ) (a : Answer) (q : ReadsSheet there image a image') where
     again : ReadsSheet (sheet_of f pic b) image a image'
     again = subst (λ (d : List ℕ). ReadsSheet d image a image') stands q
 
-    pub reads-back-alike : (plain : List ℕ) (c : Answer) → ReadsPicture (format_of f) b pic image c plain → (a ≡ c) × (image' ≡ plain)
-    reads-back-alike plain c o =
-        picture-determined b image a c image' plain (format_of f) pic (plainly (sheet_of f pic b) _ b whole image image' a again) o
+    pub reads_back_alike : (plain : List ℕ) (c : Answer) → ReadsPicture (format_of f) b pic image c plain → (a ≡ c) × (image' ≡ plain)
+    reads_back_alike plain c o =
+        picture_determined b image a c image' plain (format_of f) pic (plainly (sheet_of f pic b) _ b whole image image' a again) o
 
-    pub reads-back : needed pic ≤ length image → a ≡ Done
-    reads-back r =
+    pub reads_back : needed pic ≤ length image → a ≡ Done
+    reads_back r =
         answer a Done
-        (again.says ∙ reads-room (sheet_of f pic b) _ b whole image ∙ ap (λ (t : Bool). cond t (3 ∷ []) (0 ∷ [])) (le-ltb (length image) (needed pic) r))
+        (again.says ∙ reads_room (sheet_of f pic b) _ b whole image ∙ ap (λ (t : Bool). cond t (3 ∷ []) (0 ∷ [])) (le-ltb (length image) (needed pic) r))

@@ -17,9 +17,9 @@ use Rattle.rules.specs.declared.Baking.{Baking}
 use Rattle.rules.specs.declared.Baking.TheVariants.{Done, ShortBlock, ShortTile, NoBase, NotAccepted}
 use Rattle.bake.specs.baking.Four.{Four}
 use Rattle.bake.proofs.baking.Bases.{none, four}
-use Rattle.bake.proofs.baking.Block.{Legal, Reads, reads-back, small_half}
-use Rattle.claims.proofs.Least.{codes_of, indices_of, baked-reads, baked-in-range, least-of-all, lower-code, lower-index}
-use Rattle.claims.proofs.Checker.{nonzero, from-the-largest-on}
+use Rattle.bake.proofs.baking.Block.{Legal, Reads, reads_back, small_half}
+use Rattle.claims.proofs.Least.{codes_of, indices_of, baked_reads, baked_in_range, least_of_all, lower_code, lower_index}
+use Rattle.claims.proofs.Checker.{nonzero, from_the_largest_on}
 
 sorted : (a b c : Bool) → ◌≡◌ {A = List ℕ} (0 ∷ []) (cond a (16 ∷ []) (cond b (2 ∷ []) (cond c (3 ∷ []) (0 ∷ [])))) → (a ≡ false) × (b ≡ false) × (c ≡ false)
 sorted true b c e = absurd (nonzero 15 e)
@@ -80,56 +80,56 @@ module _ (first second : List ℕ) (flip : ℕ) (t old new : List ℕ) (p : Bake
   the_block = ap (take 8) written ∙ take_at (baked_block first second flip t) (drop 8 old) 8 refl
 
   -- "it writes 8 bytes only"
-  pub eight-bytes-only : drop 8 new ≡ drop 8 old
+  pub eight_bytes_only : drop 8 new ≡ drop 8 old
   unfolding block_with
-  eight-bytes-only = ap (drop 8) written ∙ drop_at (baked_block first second flip t) (drop 8 old) 8 refl
+  eight_bytes_only = ap (drop 8) written ∙ drop_at (baked_block first second flip t) (drop 8 old) 8 refl
 
   -- it is individual, of these bases and this flip, and in range
-  pub it-is-allowed : Allowed first second flip block
-  it-is-allowed =
-      let r = baked-reads first second flip t a b f in
+  pub it_is_allowed : Allowed first second flip block
+  it_is_allowed =
+      let r = baked_reads first second flip t a b f in
       subst (Allowed first second flip) (sym the_block) (record { alone = r.alone; flips = r.flips; bases = r.bases })
 
-  pub it-is-in-range : out_of_range_lem block ≡ false
-  it-is-in-range = ap out_of_range_lem the_block ∙ baked-in-range first second flip t a b f
+  pub it_is_in_range : out_of_range_lem block ≡ false
+  it_is_in_range = ap out_of_range_lem the_block ∙ baked_in_range first second flip t a b f
 
   -- its codes and indices are the chosen ones
-  pub its-codes : (h : ℕ) → h < 2 → code block h ≡ codes_of first second flip t h
-  its-codes h m = ap (λ (l : List ℕ). code l h) the_block ∙ (baked-reads first second flip t a b f).coded h m
+  pub its_codes : (h : ℕ) → h < 2 → code block h ≡ codes_of first second flip t h
+  its_codes h m = ap (λ (l : List ℕ). code l h) the_block ∙ (baked_reads first second flip t a b f).coded h m
 
-  pub its-indices : (k : ℕ) → k < 16 → index_of block k ≡ indices_of first second flip t k
-  its-indices k m = ap (λ (l : List ℕ). index_of l k) the_block ∙ (baked-reads first second flip t a b f).indexed k m
+  pub its_indices : (k : ℕ) → k < 16 → index_of block k ≡ indices_of first second flip t k
+  its_indices k m = ap (λ (l : List ℕ). index_of l k) the_block ∙ (baked_reads first second flip t a b f).indexed k m
 
   sum : cost block t ≡ cost (baked_block first second flip t) t
   sum = ap (λ (l : List ℕ). cost l t) the_block
 
   -- no individual block of these bases and this flip has a lesser sum
   module _ (d : List ℕ) (q : Allowed first second flip d) where
-    pub no-lesser-block : cost block t ≤ cost d t
-    no-lesser-block = omega (arith, sum, least-of-all first second flip t a b f (code d) (index_of d) (own_legal d) d (own_reads q))
+    pub no_lesser_block : cost block t ≤ cost d t
+    no_lesser_block = omega (arith, sum, least_of_all first second flip t a b f (code d) (index_of d) (own_legal d) d (own_reads q))
 
     -- and of one with the same sum, no code is lower, and where a half's code is the same, no index of it
     module _ (tie : cost d t ≡ cost block t) where
       even : cost d t ≤ cost (baked_block first second flip t) t
       even = omega (arith, tie, sum)
 
-      pub no-lower-code : (h : ℕ) → h < 2 → code block h ≤ code d h
-      no-lower-code h m = omega (arith, its-codes h m, lower-code first second flip t a b f (code d) (index_of d) (own_legal d) d (own_reads q) even h m)
+      pub no_lower_code : (h : ℕ) → h < 2 → code block h ≤ code d h
+      no_lower_code h m = omega (arith, its_codes h m, lower_code first second flip t a b f (code d) (index_of d) (own_legal d) d (own_reads q) even h m)
 
-      pub no-lower-index : (k : ℕ) → k < 16 → code d (half_of flip k) ≡ code block (half_of flip k) → index_of block k ≤ index_of d k
-      no-lower-index k m e =
-          omega (arith, its-indices k m, lower-index first second flip t a b f (code d) (index_of d) (own_legal d) d (own_reads q) even k m (e ∙ its-codes (half_of flip k) (small_half flip k m)))
+      pub no_lower_index : (k : ℕ) → k < 16 → code d (half_of flip k) ≡ code block (half_of flip k) → index_of block k ≤ index_of d k
+      no_lower_index k m e =
+          omega (arith, its_indices k m, lower_index first second flip t a b f (code d) (index_of d) (own_legal d) d (own_reads q) even k m (e ∙ its_codes (half_of flip k) (small_half flip k m)))
 
   -- the same over every choice of codes and indices
-  pub no-lesser-choice : (codes indices : ℕ → ℕ) → Legal codes indices → cost block t ≤ cost (block_with first second flip codes indices) t
-  no-lesser-choice codes indices l =
-      omega (arith, sum, least-of-all first second flip t a b f codes indices l (block_with first second flip codes indices) (reads-back first second flip codes indices a b f l))
+  pub no_lesser_choice : (codes indices : ℕ → ℕ) → Legal codes indices → cost block t ≤ cost (block_with first second flip codes indices) t
+  no_lesser_choice codes indices l =
+      omega (arith, sum, least_of_all first second flip t a b f codes indices l (block_with first second flip codes indices) (reads_back first second flip codes indices a b f l))
 
   -- the checker accepts it exactly for tolerances from the largest difference of its channels on
-  pub accepted-from-the-largest-on : (tolerance : ℕ) → check_verdict tolerance block t ≡ cond (leb (largest block t) tolerance) (0 ∷ []) (18 ∷ [])
+  pub accepted_from_the_largest_on : (tolerance : ℕ) → check_verdict tolerance block t ≡ cond (leb (largest block t) tolerance) (0 ∷ []) (18 ∷ [])
   unfolding block_with
-  accepted-from-the-largest-on tolerance =
-      from-the-largest-on tolerance block t (omega (arith, ap length the_block)) whole it-is-in-range
+  accepted_from_the_largest_on tolerance =
+      from_the_largest_on tolerance block t (omega (arith, ap length the_block)) whole it_is_in_range
 
 -- the answer that says a number
 answers : List Baking

@@ -21,9 +21,9 @@ use Rattle.rules.specs.declared.Answer.{Answer}
 use Rattle.rules.specs.declared.Format.{Format}
 use Rattle.blocks.proofs.Alone.{small}
 use Rattle.laws.proofs.Paint.{painted_same}
-use Rattle.pixel.proofs.place.Plain.{painted-plain}
+use Rattle.pixel.proofs.place.Plain.{painted_plain}
 use Rattle.laws.proofs.Reach.{reads_its_block, alpha_reads_eight, channel_reads_eight, bc3_alpha_reads_eight, some_bytes}
-use Rattle.claims.proofs.Outcomes.{Same, same_outcome, the-length-stays, the-rest-stays}
+use Rattle.claims.proofs.Outcomes.{Same, same_outcome, the_length_stays, the_rest_stays}
 use Rattle.claims.proofs.Alike.{ends_alike}
 
 -- "A block reader writes elements 0 to 15 only": the length stays, and so does every element from 16 on
@@ -94,12 +94,12 @@ module _ (r : Reader) (d image : List ℕ) (a : Answer) (new : List ℕ) (p : Re
   sixteen : FirstSixteen image new
   sixteen =
       record {
-        as_long = the-length-stays (λ k. ltb k 16) _ _ image new a p;
-        rest = λ k h o. the-rest-stays (λ k. ltb k 16) _ _ image new a p k h (le-ltb k 16 o);
+        as_long = the_length_stays (λ k. ltb k 16) _ _ image new a p;
+        rest = λ k h o. the_rest_stays (λ k. ltb k 16) _ _ image new a p k h (le-ltb k 16 o);
       }
 
-  not-read : (e : List ℕ) (b : Answer) (new' : List ℕ) → take r.size d ≡ take r.size e → Reads r e image b new' → Same a b new new'
-  not-read e b new' same q =
+  not_read : (e : List ℕ) (b : Answer) (new' : List ℕ) → take r.size d ≡ take r.size e → Reads r e image b new' → Same a b new new'
+  not_read e b new' same q =
       let lengths : min r.size (length d - 0) ≡ min r.size (length e - 0) = omega (arith, simp length-take at (ap length same)) in
       let pixel : (x y : ℕ) → r.rule d x y ≡ r.rule e x y =
       λ x y. r.own d x y ∙ ap (λ (l : List ℕ). r.rule l x y) same ∙ sym (r.own e x y) in
@@ -113,33 +113,33 @@ module _ (r : Reader) (d image : List ℕ) (a : Answer) (new : List ℕ) (p : Re
 -- For a user: of each block reader.
 module _ (d image : List ℕ) (a : Answer) (new : List ℕ) where
   -- it writes elements 0 to 15 only
-  pub a-block-reader-writes-sixteen : (f : Format) → ReadsBlock f d image a new → FirstSixteen image new
-  a-block-reader-writes-sixteen f = sixteen (block f) d image a new
+  pub a_block_reader_writes_sixteen : (f : Format) → ReadsBlock f d image a new → FirstSixteen image new
+  a_block_reader_writes_sixteen f = sixteen (block f) d image a new
 
-  pub the-alpha-reader-writes-sixteen : ReadsAlpha d image a new → FirstSixteen image new
-  the-alpha-reader-writes-sixteen = sixteen alpha d image a new
+  pub the_alpha_reader_writes_sixteen : ReadsAlpha d image a new → FirstSixteen image new
+  the_alpha_reader_writes_sixteen = sixteen alpha d image a new
 
-  pub a-channel-reader-writes-sixteen : (signed : Bool) (channel : ℕ) → ReadsChannel signed d channel image a new → FirstSixteen image new
-  a-channel-reader-writes-sixteen signed channel = sixteen (single signed channel) d image a new
+  pub a_channel_reader_writes_sixteen : (signed : Bool) (channel : ℕ) → ReadsChannel signed d channel image a new → FirstSixteen image new
+  a_channel_reader_writes_sixteen signed channel = sixteen (single signed channel) d image a new
 
   -- "ours stops after element 15" (M-106)
-  pub the-replacing-reader-writes-sixteen : (channel : ℕ) → ReplacesChannel d channel image a new → FirstSixteen image new
-  the-replacing-reader-writes-sixteen channel = sixteen (replacing channel) d image a new
+  pub the_replacing_reader_writes_sixteen : (channel : ℕ) → ReplacesChannel d channel image a new → FirstSixteen image new
+  the_replacing_reader_writes_sixteen channel = sixteen (replacing channel) d image a new
 
   -- inputs that agree on the bytes of the block have one outcome
   module _ (e : List ℕ) (b : Answer) (new' : List ℕ) where
-    pub bytes-behind-a-block-are-not-read : (f : Format) → take (size_of f) d ≡ take (size_of f) e → ReadsBlock f d image a new → ReadsBlock f e image b new' → Same a b new new'
-    bytes-behind-a-block-are-not-read f same p = not-read (block f) d image a new p e b new' same
+    pub bytes_behind_a_block_are_not_read : (f : Format) → take (size_of f) d ≡ take (size_of f) e → ReadsBlock f d image a new → ReadsBlock f e image b new' → Same a b new new'
+    bytes_behind_a_block_are_not_read f same p = not_read (block f) d image a new p e b new' same
 
-    pub bytes-behind-an-alpha-half-are-not-read : take 8 d ≡ take 8 e → ReadsAlpha d image a new → ReadsAlpha e image b new' → Same a b new new'
-    bytes-behind-an-alpha-half-are-not-read same p = not-read alpha d image a new p e b new' same
+    pub bytes_behind_an_alpha_half_are_not_read : take 8 d ≡ take 8 e → ReadsAlpha d image a new → ReadsAlpha e image b new' → Same a b new new'
+    bytes_behind_an_alpha_half_are_not_read same p = not_read alpha d image a new p e b new' same
 
     module _ (signed : Bool) (channel : ℕ) where
-      pub bytes-behind-a-channel-are-not-read : take 8 d ≡ take 8 e → ReadsChannel signed d channel image a new → ReadsChannel signed e channel image b new' → Same a b new new'
-      bytes-behind-a-channel-are-not-read same p = not-read (single signed channel) d image a new p e b new' same
+      pub bytes_behind_a_channel_are_not_read : take 8 d ≡ take 8 e → ReadsChannel signed d channel image a new → ReadsChannel signed e channel image b new' → Same a b new new'
+      bytes_behind_a_channel_are_not_read same p = not_read (single signed channel) d image a new p e b new' same
 
-    pub bytes-behind-a-replacing-half-are-not-read : (channel : ℕ) → take 8 d ≡ take 8 e → ReplacesChannel d channel image a new → ReplacesChannel e channel image b new' → Same a b new new'
-    bytes-behind-a-replacing-half-are-not-read channel same p = not-read (replacing channel) d image a new p e b new' same
+    pub bytes_behind_a_replacing_half_are_not_read : (channel : ℕ) → take 8 d ≡ take 8 e → ReplacesChannel d channel image a new → ReplacesChannel e channel image b new' → Same a b new new'
+    bytes_behind_a_replacing_half_are_not_read channel same p = not_read (replacing channel) d image a new p e b new' same
 
 -- a block reader is the picture reader of its format at 4 by 4: one answer and one image, for all bytes and every image
 module _ (f : Format) (d image : List ℕ) (a b : Answer) (new new' : List ℕ) where
@@ -152,9 +152,9 @@ module _ (f : Format) (d image : List ℕ) (a b : Answer) (new new' : List ℕ) 
       ∙ ap (λ (x : ℕ). shows_of f (bytes_of (size_of f) d (k / 4 / 4 * 1 + k % 4 / 4)) x (k / 4)) (sym n.1)
       ∙ ap (λ (y : ℕ). shows_of f (bytes_of (size_of f) d (k / 4 / 4 * 1 + k % 4 / 4)) (k % 4 % 4) y) (sym n.2)
 
-  pub a-block-is-a-picture-of-4-by-4 : ReadsBlock f d image a new → ReadsPicture f d (sized 4 4) image b new' → Same a b new new'
+  pub a_block_is_a_picture_of_4_by_4 : ReadsBlock f d image a new → ReadsPicture f d (sized 4 4) image b new' → Same a b new new'
   unfolding needed
-  a-block-is-a-picture-of-4-by-4 =
+  a_block_is_a_picture_of_4_by_4 =
       same_outcome _ _ _ _ image a b new new'
       (ap (λ (bytes : ℕ). verdict (block_checks bytes (length d) (length image))) (sym (one-mul (size_of f))))
-      (painted_same (λ k. ltb k 16) _ (pixel_at (shows_of f) (size_of f) (sized 4 4) d) image pixel ∙ sym (painted-plain 4 4 (pixel_at (shows_of f) (size_of f) (sized 4 4) d) image))
+      (painted_same (λ k. ltb k 16) _ (pixel_at (shows_of f) (size_of f) (sized 4 4) d) image pixel ∙ sym (painted_plain 4 4 (pixel_at (shows_of f) (size_of f) (sized 4 4) d) image))

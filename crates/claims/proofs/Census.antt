@@ -30,12 +30,12 @@ use Rattle.rules.specs.declared.RgbCensus.TheVariants as rgb
 use Rattle.rules.specs.declared.Rgba1Census.{Rgba1Census}
 use Rattle.rules.specs.declared.Rgba1Census.TheVariants as rgba1
 use Rattle.laws.specs.Sorted.{met, holding, total, eight}
-use Rattle.laws.proofs.Counts.{same_below, first_then_counted, counted_then_first, joined, adds-up, only_one}
-use Rattle.laws.proofs.Guards.{finds, finds-none}
+use Rattle.laws.proofs.Counts.{same_below, first_then_counted, counted_then_first, joined, adds_up, only_one}
+use Rattle.laws.proofs.Guards.{finds, finds_none}
 use Rattle.laws.proofs.Judged.{all_pass, passed, goes_on}
 use Rattle.laws.proofs.Sorted.{sorts}
 use Rattle.checks.proofs.Checks.{neither}
-use Rattle.claims.proofs.Alike.{enough-either, behind}
+use Rattle.claims.proofs.Alike.{enough_either, behind}
 use Rattle.claims.proofs.Strict.{bad}
 
 -- the counts of four kinds together
@@ -51,23 +51,23 @@ module _ (d : List ℕ) (p : Picture) where
       ap (drop 1) (e ∙ all_pass checks then (passed checks then tt (sym (ap accepts e))))
 
   -- "Each count has its own definition, none is got by subtraction"
-  pub each-rgb-count : (c : RgbCounts) → CountsRgb d p (rgb.Counted c) → rgb_values c ≡ counts (bytes_of 8 d) (blocks p) rgb_tests
-  each-rgb-count c e = counted_of rgb_tests (rgb_values c) e
+  pub each_rgb_count : (c : RgbCounts) → CountsRgb d p (rgb.Counted c) → rgb_values c ≡ counts (bytes_of 8 d) (blocks p) rgb_tests
+  each_rgb_count c e = counted_of rgb_tests (rgb_values c) e
 
-  pub each-rgba1-count : (c : Rgba1Counts) → CountsRgba1 d p (rgba1.Counted c) → rgba1_values c ≡ counts (bytes_of 8 d) (blocks p) rgba1_tests
-  each-rgba1-count c e = counted_of rgba1_tests (rgba1_values c) e
+  pub each_rgba1_count : (c : Rgba1Counts) → CountsRgba1 d p (rgba1.Counted c) → rgba1_values c ≡ counts (bytes_of 8 d) (blocks p) rgba1_tests
+  each_rgba1_count c e = counted_of rgba1_tests (rgba1_values c) e
 
   -- "and together they make the number of blocks": of each list of tests, a block meets exactly one
   exact : (split : Bool) (b : List ℕ) → holding (met (eight split) b) ≡ 1
   exact split b = only_one (met (eight split) b) _ (sorts split b (differs b) _ refl refl)
 
-  pub rgb-counts-add-up : (c : RgbCounts) → CountsRgb d p (rgb.Counted c) → c.individual + c.differential + c.t + c.h + c.planar ≡ blocks p
-  rgb-counts-add-up c e =
-      omega (arith, ap total (each-rgb-count c e), adds-up (bytes_of 8 d) rgb_tests (λ k. exact false (bytes_of 8 d k)) (blocks p))
+  pub rgb_counts_add_up : (c : RgbCounts) → CountsRgb d p (rgb.Counted c) → c.individual + c.differential + c.t + c.h + c.planar ≡ blocks p
+  rgb_counts_add_up c e =
+      omega (arith, ap total (each_rgb_count c e), adds_up (bytes_of 8 d) rgb_tests (λ k. exact false (bytes_of 8 d k)) (blocks p))
 
-  pub rgba1-counts-add-up : (c : Rgba1Counts) → CountsRgba1 d p (rgba1.Counted c) → together c.opaque + together c.clear ≡ blocks p
-  rgba1-counts-add-up c e =
-      omega (arith, ap total (each-rgba1-count c e), adds-up (bytes_of 8 d) rgba1_tests (λ k. exact true (bytes_of 8 d k)) (blocks p))
+  pub rgba1_counts_add_up : (c : Rgba1Counts) → CountsRgba1 d p (rgba1.Counted c) → together c.opaque + together c.clear ≡ blocks p
+  rgba1_counts_add_up c e =
+      omega (arith, ap total (each_rgba1_count c e), adds_up (bytes_of 8 d) rgba1_tests (λ k. exact true (bytes_of 8 d k)) (blocks p))
 
 -- no second answer: what is said has one answer that says it
 rgb_of : List ℕ → RgbCensus
@@ -155,7 +155,7 @@ same_counts f g n h (test ∷ tests) =
 
 pub only_blocks_are_counted : (tests : List Test) (d e : List ℕ) (p : Picture) → Alike 8 p d e → census tests d p ≡ census tests e p
 only_blocks_are_counted tests d e p same =
-    rw (enough-either 8 p d e same (omega arith), same_counts (bytes_of 8 d) (bytes_of 8 e) (blocks p) same tests)
+    rw (enough_either 8 p d e same (omega arith), same_counts (bytes_of 8 d) (bytes_of 8 e) (blocks p) same tests)
 
 -- so bytes behind the last block are not counted
 pub leftover_bytes_are_not_counted : (tests : List Test) (d rest : List ℕ) (p : Picture) → blocks p * 8 ≤ length d → census tests (d ++ rest) p ≡ census tests d p
@@ -189,8 +189,8 @@ the_census_takes_no_pitch tests d p = refl
 -- "include that check 12 passes", and M-107 "an exact data length"
 module _ (d : List ℕ) (p : Picture) (old : List ℕ) (ok : 0 ∷ [] ≡ verdict (strict_checks p d old)) where
   -- there the census counts
-  pub the-census-counts-there : (r : RgbCensus) → CountsRgb d p r → accepts (rgb_said r) ≡ true
-  the-census-counts-there r q =
+  pub the_census_counts_there : (r : RgbCensus) → CountsRgb d p r → accepts (rgb_said r) ≡ true
+  the_census_counts_there r q =
       let k = passed (strict_checks p d old) (0 ∷ []) tt (sym (ap accepts ok)) in
       let sides = (neither (too_large_lem limit p) (ltb limit p.pitch) k.first).0 in
       ap accepts (q ∙ all_pass (census_checks p (length d)) _ (record { first = sides; rest = record { first = k.rest.rest.first; rest = record {} } }))
@@ -204,9 +204,9 @@ module _ (d : List ℕ) (p : Picture) (old : List ℕ) (ok : 0 ∷ [] ≡ verdic
     unfolding size_of
     left = reads.says ∙ goes_on (strict_checks p d old) (guarded 4 (bad d) n) tt ok
 
-    three-counts : c.t + c.h + c.planar ≡ count_of (bad d) n
-    three-counts =
-        let e = each-rgb-count d p c q in
+    three_counts : c.t + c.h + c.planar ≡ count_of (bad d) n
+    three_counts =
+        let e = each_rgb_count d p c q in
         omega (
           arith,
           ap (λ (l : List ℕ). get_or l 2 0) e,
@@ -215,18 +215,18 @@ module _ (d : List ℕ) (p : Picture) (old : List ℕ) (ok : 0 ∷ [] ≡ verdic
           out_of_range_counts (bytes_of 8 d) n,
         )
 
-    pub strict-answers-4-only-then : get_or (said a) 0 0 ≡ 4 → AllZero c → ⊥
-    strict-answers-4-only-then e z =
+    pub strict_answers_4_only_then : get_or (said a) 0 0 ≡ 4 → AllZero c → ⊥
+    strict_answers_4_only_then e z =
         elim (dec_lt (first_of (bad d) n) n) [
-          | yes h ↦ omega (arith, three-counts, first_then_counted (bad d) n h, z.0, z.1, z.2)
-          | no h ↦ omega (arith, e, ap (λ (l : List ℕ). get_or l 0 0) (left ∙ finds-none 4 (bad d) n (omega (arith, h))))
+          | yes h ↦ omega (arith, three_counts, first_then_counted (bad d) n h, z.0, z.1, z.2)
+          | no h ↦ omega (arith, e, ap (λ (l : List ℕ). get_or l 0 0) (left ∙ finds_none 4 (bad d) n (omega (arith, h))))
         ]
 
-    pub strict-answers-4-then : (AllZero c → ⊥) → get_or (said a) 0 0 ≡ 4
-    strict-answers-4-then z =
+    pub strict_answers_4_then : (AllZero c → ⊥) → get_or (said a) 0 0 ≡ 4
+    strict_answers_4_then z =
         elim (dec_lt 0 (c.t + c.h + c.planar)) [
           | yes h ↦
               ap (λ (l : List ℕ). get_or l 0 0)
-              (left ∙ finds 4 (bad d) n (counted_then_first (bad d) n (omega (arith, three-counts, h))))
+              (left ∙ finds 4 (bad d) n (counted_then_first (bad d) n (omega (arith, three_counts, h))))
           | no h ↦ absurd (z (omega (arith, h), omega (arith, h), omega (arith, h)))
         ]

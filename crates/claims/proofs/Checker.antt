@@ -21,9 +21,9 @@ nonzero n p = omega (arith, ap (λ (l : List ℕ). get_or l 0 0) p)
 
 -- two pixels, channel by channel
 pub record Near (t a b : ℕ) : Type 0 where
-  pub by-red : apart (red_of a) (red_of b) ≤ t
-  pub by-green : apart (green_of a) (green_of b) ≤ t
-  pub by-blue : apart (blue_of a) (blue_of b) ≤ t
+  pub by_red : apart (red_of a) (red_of b) ≤ t
+  pub by_green : apart (green_of a) (green_of b) ≤ t
+  pub by_blue : apart (blue_of a) (blue_of b) ≤ t
 
 most : (r g b t : ℕ) → max r (max g b) ≤ t → (r ≤ t) × (g ≤ t) × (b ≤ t)
 most r g b t h = (omega arith, omega arith, omega arith)
@@ -35,7 +35,7 @@ pub near_means : (t a b : ℕ) → near t a b ≡ true → Near t a b
 unfolding farthest
 near_means t a b e =
     let m = most _ _ _ t (leb-true (farthest a b) t (sym (near_farthest t a b) ∙ e)) in
-    record { by-red = m.0; by-green = m.1; by-blue = m.2 }
+    record { by_red = m.0; by_green = m.1; by_blue = m.2 }
 
 pub means_near : (t a b : ℕ) → Near t a b → near t a b ≡ true
 unfolding farthest
@@ -69,9 +69,9 @@ accepts_only t d tile e =
 
 module _ (t : ℕ) (d tile : List ℕ) (h : 8 ≤ length d) (i : 16 ≤ length tile) (e : out_of_range_lem d ≡ false) where
   -- of a block that is in range: exactly from the largest difference on
-  pub from-the-largest-on : check_verdict t d tile ≡ cond (leb (largest d tile) t) (0 ∷ []) (18 ∷ [])
+  pub from_the_largest_on : check_verdict t d tile ≡ cond (leb (largest d tile) t) (0 ∷ []) (18 ∷ [])
   unfolding check_verdict
-  from-the-largest-on =
+  from_the_largest_on =
       rw (le-ltb (length d) 8 h, le-ltb (length tile) 16 i, e) (ap (λ (b : Bool). cond b (0 ∷ []) (18 ∷ [])) (like_largest t d tile))
 
 -- and it accepts then

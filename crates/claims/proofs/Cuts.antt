@@ -26,12 +26,12 @@ use Rattle.rules.specs.declared.Started.{Started}
 use Rattle.rules.specs.declared.Taken.{Taken}
 use Rattle.laws.proofs.Filled.{build_same}
 use Rattle.laws.proofs.Judged.{passed}
-use Rattle.laws.proofs.Paint.{none, get_d_painted}
+use Rattle.laws.proofs.Paint.{none, get_or_painted}
 use Rattle.laws.proofs.Reach.{some_bytes, few_bytes}
 use Rattle.laws.proofs.Unique.{answer}
 use Rattle.checks.proofs.Checks.{passed as picture-passed}
 use Rattle.blocks.proofs.Blocks.{block_in}
-use Rattle.blocks.proofs.Runs.{taken, left, run-painted, tested, tests}
+use Rattle.blocks.proofs.Runs.{taken, left, run_painted, tested, tests}
 use Rattle.claims.proofs.Arrived.{padded_same}
 use Rattle.claims.proofs.Step.{Stepped, step}
 
@@ -104,25 +104,25 @@ module _ (f : Format) (pic : Picture) where
   make : ℕ → List ℕ → Progress
   make t k = record { format = f; picture = pic; taken = t; kept = k }
 
-  none-used : used f pic [] ≡ 0
-  none-used = omega arith
+  none_used : used f pic [] ≡ 0
+  none_used = omega arith
 
-  no-wholes : wholes f pic [] ≡ 0
-  no-wholes = ap (λ (x : ℕ). x / size_of f) none-used ∙ zero-div (size_of f)
+  no_wholes : wholes f pic [] ≡ 0
+  no_wholes = ap (λ (x : ℕ). x / size_of f) none_used ∙ zero-div (size_of f)
 
   -- a fresh state has read no bytes
-  pub a-fresh-state-has-read-nothing : fresh f pic ≡ state_of f pic []
+  pub a_fresh_state_has_read_nothing : fresh f pic ≡ state_of f pic []
   unfolding make
-  a-fresh-state-has-read-nothing =
-      sym (ap (λ (x : ℕ). make x (padded [] (x / size_of f * size_of f) (x % size_of f))) none-used
+  a_fresh_state_has_read_nothing =
+      sym (ap (λ (x : ℕ). make x (padded [] (x / size_of f * size_of f) (x % size_of f))) none_used
       ∙ ap (λ (x : ℕ). make 0 (padded [] (0 / size_of f * size_of f) x)) (zero-mod (size_of f))
       ∙ ap (make 0) (padded_same [] [] (0 / size_of f * size_of f) 0 0 (λ i h. absurd (omega arith))))
 
   -- and nothing is painted
-  pub nothing-is-painted-yet : (image : List ℕ) → image ≡ so_far f pic [] image
-  nothing-is-painted-yet image =
-      run-painted pic 0 0 (pixel_at (shows_of f) (size_of f) pic []) image image (none _ _ image (λ k z. omega (arith, z.to)))
-      ∙ ap (λ (x : ℕ). painted (in_run pic 0 x) (pixel_at (shows_of f) (size_of f) pic []) image) (sym no-wholes)
+  pub nothing_is_painted_yet : (image : List ℕ) → image ≡ so_far f pic [] image
+  nothing_is_painted_yet image =
+      run_painted pic 0 0 (pixel_at (shows_of f) (size_of f) pic []) image image (none _ _ image (λ k z. omega (arith, z.to)))
+      ∙ ap (λ (x : ℕ). painted (in_run pic 0 x) (pixel_at (shows_of f) (size_of f) pic []) image) (sym no_wholes)
 
 -- ---- a course
 
@@ -166,24 +166,24 @@ module _ (f : Format) (pic : Picture) (image : List ℕ) where
       }
 
   -- from the start: state, image and counts are those of all bytes that have come, in whatever pieces
-  pub from-the-start : (es : List (List ℕ)) (q : Progress) (new : List ℕ) (n u : ℕ) → Course (fresh f pic) image es q new n u → Read f pic (joined es) image q new n u
-  from-the-start es q new n u c =
-      let z = coursed [] (a-fresh-state-has-read-nothing f pic) (nothing-is-painted-yet f pic image) c in
+  pub from_the_start : (es : List (List ℕ)) (q : Progress) (new : List ℕ) (n u : ℕ) → Course (fresh f pic) image es q new n u → Read f pic (joined es) image q new n u
+  from_the_start es q new n u c =
+      let z = coursed [] (a_fresh_state_has_read_nothing f pic) (nothing_is_painted_yet f pic image) c in
       record {
         state = z.state;
         leaves = z.leaves;
-        painted = omega (arith, z.painted, no-wholes f pic);
-        unused = omega (arith, z.unused, none-used f pic);
+        painted = omega (arith, z.painted, no_wholes f pic);
+        unused = omega (arith, z.unused, none_used f pic);
       }
 
   -- "the picture, the final answer and the total painted don't depend on where the cuts fall", nor does the total unused
-  pub cuts-do-not-matter : (es es' : List (List ℕ)) (q q' : Progress) (new new' : List ℕ) (n n' u u' : ℕ) → joined es ≡ joined es'
+  pub cuts_do_not_matter : (es es' : List (List ℕ)) (q q' : Progress) (new new' : List ℕ) (n n' u u' : ℕ) → joined es ≡ joined es'
       → Course (fresh f pic) image es q new n u
       → Course (fresh f pic) image es' q' new' n' u'
       → (new ≡ new') × ((a a' : Answer) → Ends q a → Ends q' a' → a ≡ a') × (n ≡ n') × (u ≡ u')
-  cuts-do-not-matter es es' q q' new new' n n' u u' e c c' =
-      let a = from-the-start es q new n u c in
-      let b = from-the-start es' q' new' n' u' c' in
+  cuts_do_not_matter es es' q q' new new' n n' u u' e c c' =
+      let a = from_the_start es q new n u c in
+      let b = from_the_start es' q' new' n' u' c' in
       let s : q ≡ q' = a.state ∙ ap (state_of f pic) e ∙ sym b.state in
       let v : used f pic (joined es) ≡ used f pic (joined es') = ap (used f pic) e in
       let l : length (joined es) ≡ length (joined es') = ap length e in (
@@ -197,8 +197,8 @@ module _ (f : Format) (pic : Picture) (image : List ℕ) where
 
 module _ (f : Format) (pic : Picture) (d : List ℕ) where
   -- "exactly as many blocks as the kept and new bytes complete, up to the last block"
-  pub how-many-blocks : wholes f pic d ≡ min (length d / size_of f) (blocks pic)
-  how-many-blocks =
+  pub how_many_blocks : wholes f pic d ≡ min (length d / size_of f) (blocks pic)
+  how_many_blocks =
       elim (dec_lt (length d) (blocks pic * size_of f)) [
         | yes q ↦
             let u : used f pic d ≡ length d = omega (arith, q) in
@@ -223,15 +223,15 @@ module _ (f : Format) (pic : Picture) (d : List ℕ) where
 
   module _ (image : List ℕ) (k : ℕ) (h : k < length image) where
     -- "paints each block as soon as it is whole"
-    pub painted-as-soon-as-whole : T (inside pic k) → block_at pic k * size_of f + size_of f ≤ length d → get_or (so_far f pic d image) k 0 ≡ pixel_at (shows_of f) (size_of f) pic d k
-    painted-as-soon-as-whole i e =
-        get_d_painted (in_run pic 0 (wholes f pic d)) (pixel_at (shows_of f) (size_of f) pic d) image k h
+    pub painted_as_soon_as_whole : T (inside pic k) → block_at pic k * size_of f + size_of f ≤ length d → get_or (so_far f pic d image) k 0 ≡ pixel_at (shows_of f) (size_of f) pic d k
+    painted_as_soon_as_whole i e =
+        get_or_painted (in_run pic 0 (wholes f pic d)) (pixel_at (shows_of f) (size_of f) pic d) image k h
         ∙ taken (in_run pic 0 (wholes f pic d) k) _ _ (tests pic 0 (wholes f pic d) k (record { within = i; from = omega arith; to = when_whole (block_at pic k) (block_in pic k i) e }))
 
     -- and not before, nor is any other element changed
-    pub untouched-until-whole : (T (inside pic k) → length d < block_at pic k * size_of f + size_of f) → get_or (so_far f pic d image) k 0 ≡ get_or image k 0
-    untouched-until-whole e =
-        get_d_painted (in_run pic 0 (wholes f pic d)) (pixel_at (shows_of f) (size_of f) pic d) image k h
+    pub untouched_until_whole : (T (inside pic k) → length d < block_at pic k * size_of f + size_of f) → get_or (so_far f pic d image) k 0 ≡ get_or image k 0
+    untouched_until_whole e =
+        get_or_painted (in_run pic 0 (wholes f pic d)) (pixel_at (shows_of f) (size_of f) pic d) image k h
         ∙ left (in_run pic 0 (wholes f pic d) k) _ _
         (λ t.
         let r = tested pic 0 (wholes f pic d) k t in
@@ -251,23 +251,23 @@ absorbed true r e = e tt
 absorbed false r e = refl
 
 module _ (f : Format) (pic : Picture) (d : List ℕ) where
-  all-wholes : blocks pic * size_of f ≤ length d → wholes f pic d ≡ blocks pic
-  all-wholes h =
+  all_wholes : blocks pic * size_of f ≤ length d → wholes f pic d ≡ blocks pic
+  all_wholes h =
       let u : used f pic d ≡ blocks pic * size_of f = omega arith in
       ap (λ (z : ℕ). z / size_of f) u ∙ mul-div_cancel (blocks pic) (some_bytes f)
 
   -- once all bytes are there, the picture is painted
-  pub all-is-painted : blocks pic * size_of f ≤ length d → (image : List ℕ) → so_far f pic d image ≡ picture_of f pic d image
-  all-is-painted h image =
+  pub all_is_painted : blocks pic * size_of f ≤ length d → (image : List ℕ) → so_far f pic d image ≡ picture_of f pic d image
+  all_is_painted h image =
       painted_test (in_run pic 0 (wholes f pic d)) (inside pic) (pixel_at (shows_of f) (size_of f) pic d) image
       (λ k.
-      ap (λ (z : ℕ). in_run pic 0 z k) (all-wholes h)
+      ap (λ (z : ℕ). in_run pic 0 z k) (all_wholes h)
       ∙ absorbed (inside pic k) (leb 0 (block_at pic k) && ltb (block_at pic k) (blocks pic))
       (λ i. ap (λ (t : Bool). t && ltb (block_at pic k) (blocks pic)) (le-leb 0 (block_at pic k) (omega arith)) ∙ lt-ltb (block_at pic k) (blocks pic) (block_in pic k i)))
 
   -- where starting is not refused, the final answer is that of the plain reader of all bytes
-  pub the-plain-answer : (image : List ℕ) → verdict (start_checks pic (length image)) ≡ 0 ∷ [] → verdict (end_checks (state_of f pic d)) ≡ picture_verdict f pic d image
-  the-plain-answer image h =
+  pub the_plain_answer : (image : List ℕ) → verdict (start_checks pic (length image)) ≡ 0 ∷ [] → verdict (end_checks (state_of f pic d)) ≡ picture_verdict f pic d image
+  the_plain_answer image h =
       let n = length d in
       let W = blocks pic * size_of f in
       let k = passed (start_checks pic (length image)) (0 ∷ []) tt (ap accepts h) in
@@ -281,32 +281,32 @@ module _ (f : Format) (pic : Picture) (d : List ℕ) where
 
 module _ (f : Format) (pic : Picture) (image : List ℕ) (es : List (List ℕ)) (q : Progress) (new : List ℕ) (n u : ℕ) (c : Course (fresh f pic) image es q new n u) where
   -- so it is the plain reader's of a course, whose picture is the plain reader's where that is done
-  pub the-final-answer-is-the-plain-one : (a b : Answer) (other : List ℕ) → verdict (start_checks pic (length image)) ≡ 0 ∷ [] → Ends q a → ReadsPicture f (joined es) pic image b other → a ≡ b
-  the-final-answer-is-the-plain-one a b other h e r =
-      let s = from-the-start f pic image es q new n u c in
+  pub the_final_answer_is_the_plain_one : (a b : Answer) (other : List ℕ) → verdict (start_checks pic (length image)) ≡ 0 ∷ [] → Ends q a → ReadsPicture f (joined es) pic image b other → a ≡ b
+  the_final_answer_is_the_plain_one a b other h e r =
+      let s = from_the_start f pic image es q new n u c in
       answer a b
       (e
       ∙ ap (λ (p : Progress). verdict (end_checks p)) s.state
-      ∙ the-plain-answer f pic (joined es) image h
+      ∙ the_plain_answer f pic (joined es) image h
       ∙ sym r.says)
 
   module _ (other : List ℕ) (r : ReadsPicture f (joined es) pic image Done other) where
     enough : blocks pic * size_of f ≤ length (joined es)
     enough = (picture-passed (size_of f) pic (length (joined es)) (length image) (0 ∷ []) (ap accepts (sym r.says))).enough
 
-    pub the-picture-is-the-plain-one : new ≡ other
-    the-picture-is-the-plain-one =
-        (from-the-start f pic image es q new n u c).leaves
-        ∙ all-is-painted f pic (joined es) enough image
+    pub the_picture_is_the_plain_one : new ≡ other
+    the_picture_is_the_plain_one =
+        (from_the_start f pic image es q new n u c).leaves
+        ∙ all_is_painted f pic (joined es) enough image
         ∙ sym (r.leaves ∙ ap (λ (z : List ℕ). cond (accepts z) (picture_of f pic (joined es) image) image) (sym r.says))
 
     -- and the painted counts add up to the blocks
-    pub the-counts-add-up : n ≡ blocks pic
-    the-counts-add-up = (from-the-start f pic image es q new n u c).painted ∙ all-wholes f pic (joined es) enough
+    pub the_counts_add_up : n ≡ blocks pic
+    the_counts_add_up = (from_the_start f pic image es q new n u c).painted ∙ all_wholes f pic (joined es) enough
 
 -- a whole picture in one piece is what the plain reader shows
 pub in_one_piece : (f : Format) (pic : Picture) (d image : List ℕ) (r : Taken) (new other : List ℕ)
     → Takes (fresh f pic) d image r new → accepts (said r.answer) ≡ true → ReadsPicture f d pic image Done other → new ≡ other
 in_one_piece f pic d image r new other t y p =
-    the-picture-is-the-plain-one f pic image (d ∷ []) r.progress new (r.painted + 0) (r.unused + 0) (followed r t y nothing) other
+    the_picture_is_the_plain_one f pic image (d ∷ []) r.progress new (r.painted + 0) (r.unused + 0) (followed r t y nothing) other
     (subst (λ (l : List ℕ). ReadsPicture f l pic image Done other) (sym (append-nil d)) p)

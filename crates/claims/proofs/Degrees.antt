@@ -83,41 +83,41 @@ module _ (legend : Legend) (named shown pixel : ℕ) (measured : Float) where
         subst (λ (l : List ℕ). told (get_or l 0 0) L D M A ≡ true) (sym p.says ∙ ap degrees_said e) (tells L D M A due_bits)
 
     -- "A legend is refused with 13 unless" it is sound: exactly then, whatever else is wrong
-    pub a-legend-is-refused-only-out-of-range : reply ≡ BadLegend → sound legend ≡ false
-    a-legend-is-refused-only-out-of-range e = not-true L (tests BadLegend e)
+    pub a_legend_is_refused_only_out_of_range : reply ≡ BadLegend → sound legend ≡ false
+    a_legend_is_refused_only_out_of_range e = not-true L (tests BadLegend e)
 
-    pub a-legend-out-of-range-is-refused : sound legend ≡ false → reply ≡ BadLegend
-    a-legend-out-of-range-is-refused l = one BadLegend (record { says = rw l; holds = tt })
+    pub a_legend_out_of_range_is_refused : sound legend ≡ false → reply ≡ BadLegend
+    a_legend_out_of_range_is_refused l = one BadLegend (record { says = rw l; holds = tt })
 
     -- "different digits, or one above 4, are refused with 14": exactly then, where the legend is sound
-    pub digits-are-refused-only-where-they-are-not-one : reply ≡ BadDigit → (sound legend ≡ true) × (one_digit_lem named shown ≡ false)
-    digits-are-refused-only-where-they-are-not-one e =
+    pub digits_are_refused_only_where_they_are_not_one : reply ≡ BadDigit → (sound legend ≡ true) × (one_digit_lem named shown ≡ false)
+    digits_are_refused_only_where_they_are_not_one e =
         let t = both L (not D) (tests BadDigit e) in
         (t.0, not-true D t.1)
 
-    pub digits-that-are-not-one-are-refused : sound legend ≡ true → one_digit_lem named shown ≡ false → reply ≡ BadDigit
-    digits-that-are-not-one-are-refused l d = one BadDigit (record { says = rw (l, d); holds = tt })
+    pub digits_that_are_not_one_are_refused : sound legend ≡ true → one_digit_lem named shown ≡ false → reply ≡ BadDigit
+    digits_that_are_not_one_are_refused l d = one BadDigit (record { says = rw (l, d); holds = tt })
 
     -- "a measurement outside -720 to 720, or not a number, with 15": exactly then, where both pass
-    pub a-measurement-is-refused-only-out-of-range : reply ≡ BadMeasurement → (sound legend ≡ true) × (one_digit_lem named shown ≡ true) × (in_degrees_lem measured ≡ false)
-    a-measurement-is-refused-only-out-of-range e =
+    pub a_measurement_is_refused_only_out_of_range : reply ≡ BadMeasurement → (sound legend ≡ true) × (one_digit_lem named shown ≡ true) × (in_degrees_lem measured ≡ false)
+    a_measurement_is_refused_only_out_of_range e =
         let t = both L (D && not M) (tests BadMeasurement e) in
         let u = both D (not M) t.1 in
         (t.0, u.0, not-true M u.1)
 
-    pub a-measurement-out-of-range-is-refused : sound legend ≡ true → one_digit_lem named shown ≡ true → in_degrees_lem measured ≡ false → reply ≡ BadMeasurement
-    a-measurement-out-of-range-is-refused l d m = one BadMeasurement (record { says = rw (l, d, m); holds = tt })
+    pub a_measurement_out_of_range_is_refused : sound legend ≡ true → one_digit_lem named shown ≡ true → in_degrees_lem measured ≡ false → reply ≡ BadMeasurement
+    a_measurement_out_of_range_is_refused l d m = one BadMeasurement (record { says = rw (l, d, m); holds = tt })
 
     -- "then a pixel of alpha 0 answers 'not measured'": exactly then, where all three pass
-    pub only-alpha-0-is-not-measured : reply ≡ NotMeasured → (sound legend ≡ true) × (one_digit_lem named shown ≡ true) × (in_degrees_lem measured ≡ true) × (alpha_of pixel ≡ 0)
-    only-alpha-0-is-not-measured e =
+    pub only_alpha_0_is_not_measured : reply ≡ NotMeasured → (sound legend ≡ true) × (one_digit_lem named shown ≡ true) × (in_degrees_lem measured ≡ true) × (alpha_of pixel ≡ 0)
+    only_alpha_0_is_not_measured e =
         let t = both L (D && (M && A)) (tests NotMeasured e) in
         let u = both D (M && A) t.1 in
         let v = both M A u.1 in
         (t.0, u.0, v.0, eqb-true (alpha_of pixel) 0 v.1)
 
-    pub alpha-0-is-not-measured : sound legend ≡ true → one_digit_lem named shown ≡ true → in_degrees_lem measured ≡ true → alpha_of pixel ≡ 0 → reply ≡ NotMeasured
-    alpha-0-is-not-measured l d m a = one NotMeasured (record { says = rw (l, d, m, eq-eqb (alpha_of pixel) 0 a); holds = tt })
+    pub alpha_0_is_not_measured : sound legend ≡ true → one_digit_lem named shown ≡ true → in_degrees_lem measured ≡ true → alpha_of pixel ≡ 0 → reply ≡ NotMeasured
+    alpha_0_is_not_measured l d m a = one NotMeasured (record { says = rw (l, d, m, eq-eqb (alpha_of pixel) 0 a); holds = tt })
 
   module _ (r : Reading) (p : ReadsDegrees legend named shown pixel measured (Read r)) where
     -- a reading has passed all four
@@ -137,23 +137,23 @@ module _ (legend : Legend) (named shown pixel : ℕ) (measured : Float) where
         ordering : L ≡ true → D ≡ true → M ≡ true → A ≡ false → ordered L D M A due_bits ≡ 0 ∷ due_bits
         ordering l d m a = rw (l, d, m, a)
 
-    pub predicted-by-bits : float_bits r.predicted ≡ float_bits (predicted_at legend (red_of pixel))
-    predicted-by-bits = ap (λ (l : List ℕ). get_or l 0 0) bits
+    pub predicted_by_bits : float_bits r.predicted ≡ float_bits (predicted_at legend (red_of pixel))
+    predicted_by_bits = ap (λ (l : List ℕ). get_or l 0 0) bits
 
-    pub measured-by-bits : float_bits r.measured ≡ float_bits measured
-    measured-by-bits = ap (λ (l : List ℕ). get_or l 1 0) bits
+    pub measured_by_bits : float_bits r.measured ≡ float_bits measured
+    measured_by_bits = ap (λ (l : List ℕ). get_or l 1 0) bits
 
-    pub difference-by-bits : float_bits r.difference ≡ float_bits (less (predicted_at legend (red_of pixel)) measured)
-    difference-by-bits = ap (λ (l : List ℕ). get_or l 2 0) bits
+    pub difference_by_bits : float_bits r.difference ≡ float_bits (less (predicted_at legend (red_of pixel)) measured)
+    difference_by_bits = ap (λ (l : List ℕ). get_or l 2 0) bits
 
     -- "Our first quarrel": what is read is of one digit, thumb to little
-    pub a-reading-is-of-one-digit : (named ≡ shown) × (named ≤ 4)
-    a-reading-is-of-one-digit =
+    pub a_reading_is_of_one_digit : (named ≡ shown) × (named ≤ 4)
+    a_reading_is_of_one_digit =
         let t = both (eqb named shown) (leb named 4) passes.1 in
         (eqb-true named shown t.0, leb-true named 4 t.1)
 
-    pub different-digits-never-give-a-reading : (named ≡ shown → ⊥) → ⊥
-    different-digits-never-give-a-reading n = n a-reading-is-of-one-digit.0
+    pub different_digits_never_give_a_reading : (named ≡ shown → ⊥) → ⊥
+    different_digits_never_give_a_reading n = n a_reading_is_of_one_digit.0
 
 -- readings that predict the same bits predict the same
 same_predicted : (r s : Reading) → T (in_numbers (Read r)) → T (in_numbers (Read s)) → float_bits r.predicted ≡ float_bits s.predicted → r.predicted ≡ s.predicted
@@ -172,12 +172,12 @@ pub predicted_depends_on_red_alone :
     → r.predicted ≡ s.predicted
 predicted_depends_on_red_alone legend n m k l p q x y r s a b e =
     same_predicted r s a.holds b.holds
-    (predicted-by-bits legend n m p x r a ∙ ap (λ (z : ℕ). float_bits (predicted_at legend z)) e ∙ sym (predicted-by-bits legend k l q y s b))
+    (predicted_by_bits legend n m p x r a ∙ ap (λ (z : ℕ). float_bits (predicted_at legend z)) e ∙ sym (predicted_by_bits legend k l q y s b))
 
 -- and that of a level not even on red
 pub a_level_ignores_red : (v : Float) (n m k l p q : ℕ) (x y : Float) (r s : Reading) → ReadsDegrees (Level v) n m p x (Read r) → ReadsDegrees (Level v) k l q y (Read s) → r.predicted ≡ s.predicted
 a_level_ignores_red v n m k l p q x y r s a b =
-    same_predicted r s a.holds b.holds (predicted-by-bits (Level v) n m p x r a ∙ sym (predicted-by-bits (Level v) k l q y s b))
+    same_predicted r s a.holds b.holds (predicted_by_bits (Level v) n m p x r a ∙ sym (predicted_by_bits (Level v) k l q y s b))
 
 -- "a line up to red 128": up to there a bend is its line, and so at 128, where it goes on from the line's degrees
 pub a_bend_is_its_line_up_to_128 : (low step second : Float) (red : ℕ) → red ≤ 128 → predicted_at (Bend low step second) red ≡ predicted_at (Line low step) red
@@ -241,41 +241,41 @@ module _ (legend : Legend) (named shown pixel : ℕ) (measured : Float) (r : Rea
   numbers : T (is_number r.measured && is_number r.difference)
   numbers = and_r (is_number r.predicted) (is_number r.measured && is_number r.difference) p.holds
 
-  predicted-range : T (within 2760 predicted)
-  predicted-range = what_is_predicted_has_a_range legend (red_of pixel) (below_256 pixel) (passes legend named shown pixel measured r p).0
+  predicted_range : T (within 2760 predicted)
+  predicted_range = what_is_predicted_has_a_range legend (red_of pixel) (below_256 pixel) (passes legend named shown pixel measured r p).0
 
-  measured-range : T (within 720 measured)
-  measured-range = subst T (sym (passes legend named shown pixel measured r p).2) tt
+  measured_range : T (within 720 measured)
+  measured_range = subst T (sym (passes legend named shown pixel measured r p).2) tt
 
-  difference-range : T (within 3480 (less predicted measured))
-  difference-range = less_within 2760 720 predicted measured (lit≤ tt) predicted-range measured-range
+  difference_range : T (within 3480 (less predicted measured))
+  difference_range = less_within 2760 720 predicted measured (lit≤ tt) predicted_range measured_range
 
-  pub a-reading-predicts-what-is-due : r.predicted ≡ predicted_at legend (red_of pixel)
-  a-reading-predicts-what-is-due =
+  pub a_reading_predicts_what_is_due : r.predicted ≡ predicted_at legend (red_of pixel)
+  a_reading_predicts_what_is_due =
       same_bits 2760 r.predicted predicted (and_l (is_number r.predicted) (is_number r.measured && is_number r.difference) p.holds)
-      (predicted-by-bits legend named shown pixel measured r p)
+      (predicted_by_bits legend named shown pixel measured r p)
       (predicted_fits legend (red_of pixel) f)
-      predicted-range
+      predicted_range
 
-  pub a-reading-holds-the-measurement : r.measured ≡ measured
-  a-reading-holds-the-measurement =
+  pub a_reading_holds_the_measurement : r.measured ≡ measured
+  a_reading_holds_the_measurement =
       same_bits 720 r.measured measured (and_l (is_number r.measured) (is_number r.difference) numbers)
-      (measured-by-bits legend named shown pixel measured r p)
+      (measured_by_bits legend named shown pixel measured r p)
       g
-      measured-range
+      measured_range
 
-  pub a-reading-holds-the-difference : r.difference ≡ less (predicted_at legend (red_of pixel)) measured
-  a-reading-holds-the-difference =
+  pub a_reading_holds_the_difference : r.difference ≡ less (predicted_at legend (red_of pixel)) measured
+  a_reading_holds_the_difference =
       same_bits 3480 r.difference (less predicted measured) (and_r (is_number r.measured) (is_number r.difference) numbers)
-      (difference-by-bits legend named shown pixel measured r p)
+      (difference_by_bits legend named shown pixel measured r p)
       (sub-fits binary32 predicted measured)
-      difference-range
+      difference_range
 
-  pub the-predicted-value-is-finite : T (within 2760 r.predicted)
-  the-predicted-value-is-finite = subst (λ (x : Float). T (within 2760 x)) (sym a-reading-predicts-what-is-due) predicted-range
+  pub the_predicted_value_is_finite : T (within 2760 r.predicted)
+  the_predicted_value_is_finite = subst (λ (x : Float). T (within 2760 x)) (sym a_reading_predicts_what_is_due) predicted_range
 
-  pub the-measured-value-is-finite : T (within 720 r.measured)
-  the-measured-value-is-finite = subst (λ (x : Float). T (within 720 x)) (sym a-reading-holds-the-measurement) measured-range
+  pub the_measured_value_is_finite : T (within 720 r.measured)
+  the_measured_value_is_finite = subst (λ (x : Float). T (within 720 x)) (sym a_reading_holds_the_measurement) measured_range
 
-  pub the-difference-is-finite : T (within 3480 r.difference)
-  the-difference-is-finite = subst (λ (x : Float). T (within 3480 x)) (sym a-reading-holds-the-difference) difference-range
+  pub the_difference_is_finite : T (within 3480 r.difference)
+  the_difference_is_finite = subst (λ (x : Float). T (within 3480 x)) (sym a_reading_holds_the_difference) difference_range

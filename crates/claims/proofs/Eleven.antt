@@ -21,16 +21,16 @@ use Rattle.rules.specs.Whole.{between, middle, byte_from, sixteen, eac_whole_lem
 use Rattle.rules.specs.declared.Answer.{Answer}
 use Rattle.rules.specs.declared.Answer.TheVariants.{Done}
 use Rattle.rules.specs.declared.Picture.{Picture}
-use Rattle.laws.proofs.Paint.{get_d_painted}
+use Rattle.laws.proofs.Paint.{get_or_painted}
 use Rattle.laws.proofs.Signed.{neg}
 use Rattle.laws.proofs.Unique.{no_second_outcome}
-use Rattle.pixel.proofs.place.Grid.{rem_at, div_at, inside-at, within, beyond, in-gap}
+use Rattle.pixel.proofs.place.Grid.{rem_at, div_at, inside_at, within, beyond, in_gap}
 use Rattle.checks.proofs.Checks.{passed_by_lem}
 use Rattle.eac.proofs.values.Whole.{bytes_stay}
 use Rattle.whole.specs.Lanes.{lanes}
-use Rattle.whole.proofs.Checked.{same-verdict, ready}
-use Rattle.claims.proofs.Outcomes.{Same, an_acceptance_paints, the-rest-stays}
-use Rattle.claims.proofs.Alike.{OnlyInTileBy, beside-by}
+use Rattle.whole.proofs.Checked.{same_verdict, ready}
+use Rattle.claims.proofs.Outcomes.{Same, an_acceptance_paints, the_rest_stays}
+use Rattle.claims.proofs.Alike.{OnlyInTileBy, beside_by}
 use Rattle.claims.proofs.Pictures.{holds, pixel_of_lem}
 
 -- "The byte readers then take it divided by 8, the signed one after adding 1023, rounded down; their bytes don't change.": the byte that
@@ -96,7 +96,7 @@ sixteen_bits_say_the_value false d x y =
 -- reader's, of blocks of eight bytes, or sixteen, over an image with as many elements, or half of them
 pub the_refusals_are_a_pictures : (green : Bool) (pic : Picture) (bytes elements : ℕ)
     → verdict (whole_checks (lanes green) pic bytes elements) ≡ verdict (picture_checks (lanes green * 8) pic bytes (elements / lanes green))
-the_refusals_are_a_pictures green pic bytes elements = sym (same-verdict green pic bytes elements)
+the_refusals_are_a_pictures green pic bytes elements = sym (same_verdict green pic bytes elements)
 
 -- No second outcome satisfies the promise.
 pub whole_determined : (signed : Bool) (n : ℕ) (d : List ℕ) (pic : Picture) (image : List ℕ) (a b : Answer) (new new' : List ℕ)
@@ -113,11 +113,11 @@ module _ (green : Bool) (pic : Picture) (x y c : ℕ) (h : c < lanes green) wher
   turned : place green pic x y c ≡ element pic x y * lanes green + c
   turned = ap (λ (z : ℕ). z + c) (mul_comm (lanes green) (element pic x y))
 
-  pub its-pixel : place green pic x y c / lanes green ≡ element pic x y
-  its-pixel = ap (λ (z : ℕ). z / lanes green) turned ∙ div_at (lanes green) c (element pic x y) h
+  pub its_pixel : place green pic x y c / lanes green ≡ element pic x y
+  its_pixel = ap (λ (z : ℕ). z / lanes green) turned ∙ div_at (lanes green) c (element pic x y) h
 
-  pub its-number : place green pic x y c % lanes green ≡ c
-  its-number = ap (λ (z : ℕ). z % lanes green) turned ∙ rem_at (lanes green) c (element pic x y) h
+  pub its_number : place green pic x y c % lanes green ≡ c
+  its_number = ap (λ (z : ℕ). z % lanes green) turned ∙ rem_at (lanes green) c (element pic x y) h
 
 behind_all : (green : Bool) (m k : ℕ) → lanes green * m ≤ k → m ≤ k / lanes green
 behind_all true m k h = omega arith
@@ -129,47 +129,47 @@ before_end false e m n c h i j = omega arith
 
 module _ (green signed : Bool) (d : List ℕ) (pic : Picture) (image : List ℕ) where
   -- each number that a reader has put is the whole value of its own block and place
-  pub every-number-of-a-picture : (new : List ℕ) → ReadsWhole signed (lanes green) d pic image Done new
+  pub every_number_of_a_picture : (new : List ℕ) → ReadsWhole signed (lanes green) d pic image Done new
       → (x y c : ℕ) → x < pic.width → y < pic.height → c < lanes green
       → get_or new (place green pic x y c) 0 ≡ whole_pixel signed c (bytes_of (lanes green * 8) d (block_of pic x y)) (x % 4) (y % 4)
-  every-number-of-a-picture new p x y c i j h =
+  every_number_of_a_picture new p x y c i j h =
       let n = lanes green in
       let k = place green pic x y c in
       let passed = passed_by_lem (n * 8) pic (length d) (length image / n) (0 ∷ []) Done (p.says ∙ the_refusals_are_a_pictures green pic (length d) (length image)) refl in
       let fits = ready green pic (n * 8) (length d) (length image) passed in
-      let own = inside-at pic fits.fits x y i j in
-      let at = its-pixel green pic x y c h in
+      let own = inside_at pic fits.fits x y i j in
+      let at = its_pixel green pic x y c h in
       let there : k < length image = before_end green (element pic x y) (needed pic) (length image) c (within pic (element pic x y) own) h fits.roomy in
       ap (λ (l : List ℕ). get_or l k 0) (an_acceptance_paints _ (whole_picture signed n pic d image) image new Done p refl)
-      ∙ get_d_painted (λ k. inside pic (k / n)) (whole_at signed n pic d) image k there
+      ∙ get_or_painted (λ k. inside pic (k / n)) (whole_at signed n pic d) image k there
       ∙ ap (λ (t : Bool). cond t (whole_at signed n pic d k) (get_or image k 0)) (holds (inside pic (k / n)) (subst (λ (m : ℕ). T (inside pic m)) (sym at) own))
       ∙ ap (λ (m : ℕ). whole_pixel signed (k % n) (bytes_of (n * 8) d (block_at pic m)) (column pic m % 4) (row pic m % 4)) at
       ∙ pixel_of_lem (whole_pixel signed (k % n)) (n * 8) pic d x y (omega (arith, fits.fits))
-      ∙ ap (λ (m : ℕ). whole_pixel signed m (bytes_of (n * 8) d (block_of pic x y)) (x % 4) (y % 4)) (its-number green pic x y c h)
+      ∙ ap (λ (m : ℕ). whole_pixel signed m (bytes_of (n * 8) d (block_of pic x y)) (x % 4) (y % 4)) (its_number green pic x y c h)
 
   -- one block changes the numbers of its own tile alone
-  pub one-block-changes-its-own-numbers : (e new new' : List ℕ) (n : ℕ) → Beside (lanes green * 8) pic n d e
+  pub one_block_changes_its_own_numbers : (e new new' : List ℕ) (n : ℕ) → Beside (lanes green * 8) pic n d e
       → ReadsWhole signed (lanes green) d pic image Done new
       → ReadsWhole signed (lanes green) e pic image Done new'
       → OnlyInTileBy (λ k. k / lanes green) pic n new new'
-  one-block-changes-its-own-numbers e new new' n z p q =
+  one_block_changes_its_own_numbers e new new' n z p q =
       let m = lanes green in
       subst (λ (l : List ℕ). OnlyInTileBy (λ k. k / m) pic n l new') (sym (an_acceptance_paints _ (whole_picture signed m pic d image) image new Done p refl))
       (subst (λ (l : List ℕ). OnlyInTileBy (λ k. k / m) pic n (whole_picture signed m pic d image) l)
       (sym (an_acceptance_paints _ (whole_picture signed m pic e image) image new' Done q refl))
-      (beside-by (m * 8) pic d e (λ k. k / m) (whole_at signed m pic d) (whole_at signed m pic e) n z
+      (beside_by (m * 8) pic d e (λ k. k / m) (whole_at signed m pic d) (whole_at signed m pic e) n z
       (λ k z. ap (λ (l : List ℕ). whole_pixel signed (k % m) l (column pic (k / m) % 4) (row pic (k / m) % 4)) z)
       image))
 
   module _ (new : List ℕ) (a : Answer) (p : ReadsWhole signed (lanes green) d pic image a new) where
     -- no element behind the picture has changed, nor any in the gap of a row, accepted or refused
-    pub no-number-behind-it-changes : (k : ℕ) → k < length image → lanes green * needed pic ≤ k → get_or new k 0 ≡ get_or image k 0
-    no-number-behind-it-changes k h o =
-        the-rest-stays (λ k. inside pic (k / lanes green)) (whole_at signed (lanes green) pic d) _ image new a p k h
+    pub no_number_behind_it_changes : (k : ℕ) → k < length image → lanes green * needed pic ≤ k → get_or new k 0 ≡ get_or image k 0
+    no_number_behind_it_changes k h o =
+        the_rest_stays (λ k. inside pic (k / lanes green)) (whole_at signed (lanes green) pic d) _ image new a p k h
         (beyond pic (k / lanes green) (behind_all green (needed pic) k o))
 
-    pub the-gaps-keep-their-numbers : (x y c : ℕ) → pic.width ≤ x → x < pic.pitch → c < lanes green → place green pic x y c < length image
+    pub the_gaps_keep_their_numbers : (x y c : ℕ) → pic.width ≤ x → x < pic.pitch → c < lanes green → place green pic x y c < length image
         → get_or new (place green pic x y c) 0 ≡ get_or image (place green pic x y c) 0
-    the-gaps-keep-their-numbers x y c i j g h =
-        the-rest-stays (λ k. inside pic (k / lanes green)) (whole_at signed (lanes green) pic d) _ image new a p (place green pic x y c) h
-        (ap (inside pic) (its-pixel green pic x y c g) ∙ in-gap pic x y i j)
+    the_gaps_keep_their_numbers x y c i j g h =
+        the_rest_stays (λ k. inside pic (k / lanes green)) (whole_at signed (lanes green) pic d) _ image new a p (place green pic x y c) h
+        (ap (inside pic) (its_pixel green pic x y c g) ∙ in_gap pic x y i j)

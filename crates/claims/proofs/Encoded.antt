@@ -26,40 +26,40 @@ module _ (r : Record) (f : Fits r) (d : List ℕ) where
   flat : encoded r ++ d ≡ long
   flat = simp append_assoc
 
-  length-is : length_in long ≡ n
-  length-is = back 4 n (in_bytes 2 r.kind ++ (r.payload ++ d)) f.payload
+  length_is : length_in long ≡ n
+  length_is = back 4 n (in_bytes 2 r.kind ++ (r.payload ++ d)) f.payload
 
   four : (x : ℕ) → length (in_bytes 4 x) ≡ 4
   unfolding in_bytes
   four x = refl
 
-  kind-is : little 2 4 long ≡ r.kind
-  kind-is =
+  kind_is : little 2 4 long ≡ r.kind
+  kind_is =
       past 2 (in_bytes 4 n) (in_bytes 2 r.kind ++ (r.payload ++ d)) 4 (four n) ∙ back 2 r.kind (r.payload ++ d) f.kind
 
   six : drop 6 long ≡ r.payload ++ d
   unfolding in_bytes
   six = refl
 
-  payload-is : take (length_in long) (drop 6 long) ≡ r.payload
-  payload-is =
-      ap (λ (z : ℕ). take z (drop 6 long)) length-is ∙ ap (take n) six ∙ take_at r.payload d n refl
+  payload_is : take (length_in long) (drop 6 long) ≡ r.payload
+  payload_is =
+      ap (λ (z : ℕ). take z (drop 6 long)) length_is ∙ ap (take n) six ∙ take_at r.payload d n refl
 
-  behind-is : behind long ≡ d
-  behind-is =
-      ap (λ (z : ℕ). drop (6 + z) long) length-is ∙ sym (drop-drop n 6 long) ∙ ap (drop n) six ∙ drop_at r.payload d n refl
+  behind_is : behind long ≡ d
+  behind_is =
+      ap (λ (z : ℕ). drop (6 + z) long) length_is ∙ sym (drop-drop n 6 long) ∙ ap (drop n) six ∙ drop_at r.payload d n refl
 
   enough : 6 + length_in long ≤ length long
   unfolding in_bytes
-  enough = omega (arith, length-is, length-append r.payload d)
+  enough = omega (arith, length_is, length-append r.payload d)
 
   pub one : records_of (encoded r ++ d) ≡ more r (records_of d)
   one =
       ap records_of flat
       ∙ whole long enough
-      ∙ ap (λ (z : ℕ). more (record { kind = z; payload = take (length_in long) (drop 6 long) }) (records_of (behind long))) kind-is
-      ∙ ap (λ (z : List ℕ). more (record { kind = r.kind; payload = z }) (records_of (behind long))) payload-is
-      ∙ ap (λ (z : List ℕ). more r (records_of z)) behind-is
+      ∙ ap (λ (z : ℕ). more (record { kind = z; payload = take (length_in long) (drop 6 long) }) (records_of (behind long))) kind_is
+      ∙ ap (λ (z : List ℕ). more (record { kind = r.kind; payload = z }) (records_of (behind long))) payload_is
+      ∙ ap (λ (z : List ℕ). more r (records_of z)) behind_is
 
 -- records one after another
 abbrev pub all_encoded : List Record → List ℕ

@@ -19,9 +19,9 @@ use Rattle.rules.specs.declared.Answer.{Answer}
 use Rattle.rules.specs.declared.Answer.TheVariants.{Done}
 use Rattle.rules.specs.declared.Picture.{Picture}
 use Rattle.laws.proofs.First.{first, first_alike}
-use Rattle.laws.proofs.Guards.{Sound, finds, finds-none}
+use Rattle.laws.proofs.Guards.{Sound, finds, finds_none}
 use Rattle.laws.proofs.Judged.{numbered, goes_on}
-use Rattle.laws.proofs.Paint.{get_d_painted}
+use Rattle.laws.proofs.Paint.{get_or_painted}
 use Rattle.laws.proofs.Unique.{answer}
 use Rattle.picture.proofs.Guard.{agree}
 use Rattle.claims.proofs.Outcomes.{a_refusal_alters_nothing, an_acceptance_paints}
@@ -47,15 +47,15 @@ module _ (g : Guard) (sound : Sound g) (name : ℕ → Answer) (spoken : (n : �
     pub block : ℕ
     pub names : a ≡ name block
     pub within : block < blocks pic
-    pub is-bad : bad_at g d block ≡ true
-    pub is-first : (k : ℕ) → k < block → bad_at g d k ≡ false
+    pub is_bad : bad_at g d block ≡ true
+    pub is_first : (k : ℕ) → k < block → bad_at g d k ≡ false
     pub unchanged : new ≡ image
 
   -- the picture was painted by the rule that is shown, which is then its own rule too
   pub record Accepted : Type 0 where
     pub accepted : a ≡ Done
     pub shows : new ≡ picture_of g.shown pic d image
-    pub shows-own : new ≡ picture_of g.own pic d image
+    pub shows_own : new ≡ picture_of g.own pic d image
 
   -- "For sizes and lengths that pass the checks"
   module _ (checks : List Check) (numbers : T (numbered checks)) (p : ReadsGuarded g checks d pic image a new) (ok : 0 ∷ [] ≡ verdict checks) where
@@ -64,8 +64,8 @@ module _ (g : Guard) (sound : Sound g) (name : ℕ → Answer) (spoken : (n : �
     left = p.says ∙ goes_on checks (guarded g.number (bad_at g d) (blocks pic)) numbers ok
 
     -- "refuses exactly when some block ..": where there is one, it refuses, "and it names the first such block"
-    pub refuses-and-names-the-first : (n : ℕ) → n < blocks pic → bad_at g d n ≡ true → Refused
-    refuses-and-names-the-first n h b =
+    pub refuses_and_names_the_first : (n : ℕ) → n < blocks pic → bad_at g d n ≡ true → Refused
+    refuses_and_names_the_first n h b =
         let l = some (bad_at g d) (blocks pic) n h b in
         let f = first (bad_at g d) (blocks pic) in
         let told : said a ≡ g.number ∷ first_of (bad_at g d) (blocks pic) ∷ [] = left ∙ finds g.number (bad_at g d) (blocks pic) l in
@@ -73,31 +73,31 @@ module _ (g : Guard) (sound : Sound g) (name : ℕ → Answer) (spoken : (n : �
           block = first_of (bad_at g d) (blocks pic);
           names = answer a (name (first_of (bad_at g d) (blocks pic))) (told ∙ sym (spoken (first_of (bad_at g d) (blocks pic))));
           within = l;
-          is-bad = f.found l;
-          is-first = f.none;
+          is_bad = f.found l;
+          is_first = f.none;
           unchanged =
               a_refusal_alters_nothing _ _ image new a p
               (ap accepts told ∙ ne_eqb g.number 0 (λ z. omega (arith, z, sound.is-refusal)));
         }
 
     -- ".. exactly": where there is none, it accepts, and each pixel is as the rule that is shown gives it
-    pub accepts-otherwise : ((n : ℕ) → n < blocks pic → bad_at g d n ≡ false) → Accepted
-    accepts-otherwise f =
+    pub accepts_otherwise : ((n : ℕ) → n < blocks pic → bad_at g d n ≡ false) → Accepted
+    accepts_otherwise f =
         let l = none (bad_at g d) (blocks pic) f in
-        let e : a ≡ Done = answer a Done (left ∙ finds-none g.number (bad_at g d) (blocks pic) l) in
+        let e : a ≡ Done = answer a Done (left ∙ finds_none g.number (bad_at g d) (blocks pic) l) in
         let painted = an_acceptance_paints _ _ image new a p (ap (λ (x : Answer). accepts (said x)) e) in
-        record { accepted = e; shows = painted; shows-own = painted ∙ sym (agree g sound pic d image l) }
+        record { accepted = e; shows = painted; shows_own = painted ∙ sym (agree g sound pic d image l) }
 
 -- What an older reader shows, that has no guard.
 module _ (g : Guard) (sound : Sound g) (d : List ℕ) (pic : Picture) where
   -- at a pixel it is what the newer one shows, unless the pixel's own block is one that must not be there
-  pub differs-only-there : (k : ℕ) → bad_at g d (block_at pic k) ≡ false → pixel_at (shows_of g.own) (size_of g.own) pic d k ≡ pixel_at (shows_of g.shown) (size_of g.shown) pic d k
-  differs-only-there k e =
+  pub differs_only_there : (k : ℕ) → bad_at g d (block_at pic k) ≡ false → pixel_at (shows_of g.own) (size_of g.own) pic d k ≡ pixel_at (shows_of g.shown) (size_of g.shown) pic d k
+  differs_only_there k e =
       sound.agree (bytes_of (size_of g.own) d (block_at pic k)) (column pic k % 4) (row pic k % 4) e
       ∙ ap (λ (s : ℕ). pixel_at (shows_of g.shown) s pic d k) sound.one_size
 
   -- so of pictures of the same bytes that both accept over one image, every element is the same outside the tiles of such blocks
-  pub older-reader-differs-only-there : (image old new : List ℕ) (a b : Answer)
+  pub older_reader_differs_only_there : (image old new : List ℕ) (a b : Answer)
       → ReadsPicture g.own d pic image a old
       → ReadsPicture g.shown d pic image b new
       → accepts (said a) ≡ true
@@ -106,11 +106,11 @@ module _ (g : Guard) (sound : Sound g) (d : List ℕ) (pic : Picture) where
       → k < length image
       → bad_at g d (block_at pic k) ≡ false
       → get_or old k 0 ≡ get_or new k 0
-  older-reader-differs-only-there image old new a b p q r t k l e =
+  older_reader_differs_only_there image old new a b p q r t k l e =
       ap (λ (l : List ℕ). get_or l k 0) (an_acceptance_paints _ _ image old a p r)
-      ∙ get_d_painted (inside pic) (pixel_at (shows_of g.own) (size_of g.own) pic d) image k l
-      ∙ ap (λ (v : ℕ). cond (inside pic k) v (get_or image k 0)) (differs-only-there k e)
-      ∙ sym (get_d_painted (inside pic) (pixel_at (shows_of g.shown) (size_of g.shown) pic d) image k l)
+      ∙ get_or_painted (inside pic) (pixel_at (shows_of g.own) (size_of g.own) pic d) image k l
+      ∙ ap (λ (v : ℕ). cond (inside pic k) v (get_or image k 0)) (differs_only_there k e)
+      ∙ sym (get_or_painted (inside pic) (pixel_at (shows_of g.shown) (size_of g.shown) pic d) image k l)
       ∙ sym (ap (λ (l : List ℕ). get_or l k 0) (an_acceptance_paints _ _ image new b q t))
 
 -- what a guard says of inputs that agree on the blocks of a picture

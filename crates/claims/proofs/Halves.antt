@@ -40,8 +40,8 @@ module _ (flip : ℕ) where
   pub own_below : (h j : ℕ) → h < 2 → j < 8 → own flip h j < 16
   own_below h j p q = within (eqb flip 1) h j p q
 
-  pub own-half : (h j : ℕ) → h < 2 → j < 8 → half_of flip (own flip h j) ≡ h
-  own-half h j p q = back (eqb flip 1) h j p q
+  pub own_half : (h j : ℕ) → h < 2 → j < 8 → half_of flip (own flip h j) ≡ h
+  own_half h j p q = back (eqb flip 1) h j p q
 
   pub own_turn : (k : ℕ) → k < 16 → (turn flip k < 8) × (own flip (half_of flip k) (turn flip k) ≡ k)
   own_turn k h = found (eqb flip 1) k h
@@ -64,4 +64,4 @@ by_halves {first} {second} {flip} {codes} {indices} {d} t p =
     (λ j n.
     let o = own flip h j in
     ap (λ (v : ℕ). differ v (get_or t o 0)) (shows p o (own_below flip h j m n))
-    ∙ ap (λ (x : ℕ). differ (shown (bases_of_lem first second x) (codes x) (indices o)) (get_or t o 0)) (own-half flip h j m n)))
+    ∙ ap (λ (x : ℕ). differ (shown (bases_of_lem first second x) (codes x) (indices o)) (get_or t o 0)) (own_half flip h j m n)))

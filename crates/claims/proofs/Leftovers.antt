@@ -20,14 +20,14 @@ use Rattle.rules.specs.declared.Answer.{Answer}
 use Rattle.rules.specs.declared.Answer.TheVariants.{Done, LongData}
 use Rattle.rules.specs.declared.Format.{Format}
 use Rattle.rules.specs.declared.Picture.{Picture}
-use Rattle.laws.proofs.Guards.{finds, finds-none}
+use Rattle.laws.proofs.Guards.{finds, finds_none}
 use Rattle.laws.proofs.Unique.{answer}
 use Rattle.checks.specs.Passed.{Passed}
-use Rattle.checks.proofs.Checks.{passed_by_lem, exact-length}
+use Rattle.checks.proofs.Checks.{passed_by_lem, exact_length}
 use Rattle.claims.proofs.Outcomes.{Same, a_refusal_alters_nothing}
 use Rattle.claims.proofs.Alike.{none_left}
 use Rattle.claims.proofs.Pictures.{Empty, no_blocks}
-use Rattle.claims.proofs.Strict.{strict-changes-nothing-of-an-empty-picture}
+use Rattle.claims.proofs.Strict.{strict_changes_nothing_of_an_empty_picture}
 
 -- 2 and 6 are never both due, so that nobody can see which of them is tested first
 pub never_both_due : (most bytes : ℕ) → (data_check most bytes).fails ≡ true → (leftover_check most bytes).fails ≡ false
@@ -36,7 +36,7 @@ never_both_due most bytes e = le-ltb most bytes (omega (arith, ltb-true bytes mo
 -- "Demand 3's premise, and M-100's sentence about strict, then include an exact data length."
 pub the_checks_pass_only_at_the_exact_length : (d : List ℕ) (pic : Picture) (image : List ℕ) → 0 ∷ [] ≡ verdict (strict_checks pic d image) → length d ≡ blocks pic * 8
 the_checks_pass_only_at_the_exact_length d pic image ok =
-    exact-length 8 pic (length d) (length image) (0 ∷ []) (sym (ap accepts ok))
+    exact_length 8 pic (length d) (length image) (0 ∷ []) (sym (ap accepts ok))
 
 -- the verdict where 6 is the first check that fails
 sixth : (sides pitch short long : Bool) (rest : List ℕ) → sides ≡ false → pitch ≡ false → short ≡ false → long ≡ true
@@ -56,7 +56,7 @@ guard_not_six : (test : ℕ → Bool) (n : ℕ) → get_or (guarded 4 test n) 0 
 guard_not_six test n e =
     elim (dec_lt (first_of test n) n) [
       | yes h ↦ omega (arith, e, ap (λ (l : List ℕ). get_or l 0 0) (finds 4 test n h))
-      | no h ↦ omega (arith, e, ap (λ (l : List ℕ). get_or l 0 0) (finds-none 4 test n (omega (arith, h))))
+      | no h ↦ omega (arith, e, ap (λ (l : List ℕ). get_or l 0 0) (finds_none 4 test n (omega (arith, h))))
     ]
 
 -- sixteen bytes a block are more than eight, unless there is no block
@@ -69,13 +69,13 @@ module _ (d : List ℕ) (pic : Picture) (image : List ℕ) (a : Answer) (new : L
   then = guarded 4 (bad_at in_range d) (blocks pic)
 
   -- an accepted picture has as many bytes as its blocks need
-  pub strict-accepts-only-the-exact-length : a ≡ Done → length d ≡ blocks pic * 8
-  strict-accepts-only-the-exact-length e =
-      exact-length 8 pic (length d) (length image) then (sym (ap accepts p.says) ∙ ap (λ (x : Answer). accepts (said x)) e)
+  pub strict_accepts_only_the_exact_length : a ≡ Done → length d ≡ blocks pic * 8
+  strict_accepts_only_the_exact_length e =
+      exact_length 8 pic (length d) (length image) then (sym (ap accepts p.says) ∙ ap (λ (x : Answer). accepts (said x)) e)
 
   -- "the strict reader refuses with 6 when there are more bytes than the blocks need", where 1 and 12 are not due; nothing changes
-  pub strict-refuses-leftovers : over_limit_lem pic ≡ false → pic.width ≤ pic.pitch → blocks pic * 8 < length d → Same a LongData new image
-  strict-refuses-leftovers t i l =
+  pub strict_refuses_leftovers : over_limit_lem pic ≡ false → pic.width ≤ pic.pitch → blocks pic * 8 < length d → Same a LongData new image
+  strict_refuses_leftovers t i l =
       let told : said a ≡ 6 ∷ [] =
       p.says
       ∙ sixth (over_limit_lem pic) (ltb pic.pitch pic.width) (ltb (length d) (blocks pic * 8)) (ltb (blocks pic * 8) (length d)) _ t
@@ -83,8 +83,8 @@ module _ (d : List ℕ) (pic : Picture) (image : List ℕ) (a : Answer) (new : L
       (answer a LongData told, a_refusal_alters_nothing _ _ image new a p (ap accepts told))
 
   -- and with 6 only then
-  pub strict-answers-6-only-then : a ≡ LongData → blocks pic * 8 < length d
-  strict-answers-6-only-then e =
+  pub strict_answers_6_only_then : a ≡ LongData → blocks pic * 8 < length d
+  strict_answers_6_only_then e =
       elim (dec_lt (blocks pic * 8) (length d)) [
         | yes h ↦ h
         | no h ↦
@@ -103,21 +103,21 @@ module _ (d : List ℕ) (pic : Picture) (image : List ℕ) (a : Answer) (new : L
     longer : blocks pic * size_of f ≤ length d → 0 < blocks pic → blocks pic * 8 < length d
     longer enough some = more_than_eight (blocks pic) (length d) (rw sixteen at enough) some
 
-    pub a-file-of-16-byte-blocks-is-never-accepted : length d ≡ blocks pic * size_of f → 0 < blocks pic → a ≡ Done → ⊥
-    a-file-of-16-byte-blocks-is-never-accepted long some e =
-        omega (arith, longer (omega (arith, long)) some, strict-accepts-only-the-exact-length e)
+    pub a_file_of_16_byte_blocks_is_never_accepted : length d ≡ blocks pic * size_of f → 0 < blocks pic → a ≡ Done → ⊥
+    a_file_of_16_byte_blocks_is_never_accepted long some e =
+        omega (arith, longer (omega (arith, long)) some, strict_accepts_only_the_exact_length e)
 
     -- it is refused with 6, where the size is none to refuse
-    pub a-file-of-16-byte-blocks-gets-6 : length d ≡ blocks pic * size_of f → 0 < blocks pic → over_limit_lem pic ≡ false → pic.width ≤ pic.pitch → Same a LongData new image
-    a-file-of-16-byte-blocks-gets-6 long some t i = strict-refuses-leftovers t i (longer (omega (arith, long)) some)
+    pub a_file_of_16_byte_blocks_gets_6 : length d ≡ blocks pic * size_of f → 0 < blocks pic → over_limit_lem pic ≡ false → pic.width ≤ pic.pitch → Same a LongData new image
+    a_file_of_16_byte_blocks_gets_6 long some t i = strict_refuses_leftovers t i (longer (omega (arith, long)) some)
 
     -- a file without blocks is the one exception: it has no bytes under either name
-    pub unless-it-has-no-blocks : Empty pic → length d ≡ blocks pic * size_of f → over_limit_lem pic ≡ false → pic.width ≤ pic.pitch → Same a Done new image
-    unless-it-has-no-blocks e long t i =
-        strict-changes-nothing-of-an-empty-picture d pic image a new p e t i (long ∙ rw (no_blocks pic e) (zero-mul (size_of f)))
+    pub unless_it_has_no_blocks : Empty pic → length d ≡ blocks pic * size_of f → over_limit_lem pic ≡ false → pic.width ≤ pic.pitch → Same a Done new image
+    unless_it_has_no_blocks e long t i =
+        strict_changes_nothing_of_an_empty_picture d pic image a new p e t i (long ∙ rw (no_blocks pic e) (zero-mul (size_of f)))
 
     -- so no bytes of a picture with blocks are accepted both by a reader of 16-byte blocks and by strict ETC1, whatever the images
-    pub no-file-passes-both : (old new' : List ℕ) → ReadsPicture f d pic old Done new' → 0 < blocks pic → a ≡ Done → ⊥
-    no-file-passes-both old new' q some e =
+    pub no_file_passes_both : (old new' : List ℕ) → ReadsPicture f d pic old Done new' → 0 < blocks pic → a ≡ Done → ⊥
+    no_file_passes_both old new' q some e =
         let k : Passed (size_of f) pic (length d) (length old) = passed_by_lem (size_of f) pic (length d) (length old) (0 ∷ []) Done q.says refl in
-        omega (arith, longer k.enough some, strict-accepts-only-the-exact-length e)
+        omega (arith, longer k.enough some, strict_accepts_only_the_exact_length e)

@@ -47,7 +47,7 @@ pub record Wrong (old new : Shows) (d : List ℕ) : Type 0 where
   pub same_head : (k : ℕ) → k < 4 → byte block k ≡ byte d k
   pub column : ℕ
   pub row : ℕ
-  pub in-column : column < 4
+  pub in_column : column < 4
   pub in_row : row < 4
   pub differ : old block column row ≡ new block column row → ⊥
 
@@ -140,57 +140,57 @@ far b i j h p q =
 -- ---- what the rules show in those blocks
 
 module _ (d : List ℕ) where
-  one-kind : (l : List ℕ) → kind_by_sums_lem (headed d l) ≡ kind_by_sums_lem d
+  one_kind : (l : List ℕ) → kind_by_sums_lem (headed d l) ≡ kind_by_sums_lem d
   unfolding kind_by_sums_lem
-  one-kind l = refl
+  one_kind l = refl
 
   -- the older rules
-  etc1-zeros : differs d ≡ true → etc1_pixel (zeros d) 0 0 ≡ shaded (rgb (λ b. five (base b)) d) (pos (lesser (code d 0)))
+  etc1_zeros : differs d ≡ true → etc1_pixel (zeros d) 0 0 ≡ shaded (rgb (λ b. five (base b)) d) (pos (lesser (code d 0)))
   unfolding etc1_pixel
-  etc1-zeros t = rw (one_way (flipped d) 0, t)
+  etc1_zeros t = rw (one_way (flipped d) 0, t)
 
-  etc1-twos : differs d ≡ true → etc1_pixel (twos_of d) 0 0 ≡ shaded (rgb (λ b. five (base b)) d) (minus (lesser (code d 0)))
+  etc1_twos : differs d ≡ true → etc1_pixel (twos_of d) 0 0 ≡ shaded (rgb (λ b. five (base b)) d) (minus (lesser (code d 0)))
   unfolding etc1_pixel
-  etc1-twos t = rw (one_way (flipped d) 0, t)
+  etc1_twos t = rw (one_way (flipped d) 0, t)
 
-  etc1-last : differs d ≡ true → etc1_pixel (twos_of d) 3 3 ≡ shaded (rgb (λ b. five (wrapped b)) d) (minus (lesser (code d 1)))
+  etc1_last : differs d ≡ true → etc1_pixel (twos_of d) 3 3 ≡ shaded (rgb (λ b. five (wrapped b)) d) (minus (lesser (code d 1)))
   unfolding etc1_pixel
-  etc1-last t = rw (one_way (flipped d) 1, t)
+  etc1_last t = rw (one_way (flipped d) 1, t)
 
-  rgb-zeros : differs d ≡ false → rgb_pixel (zeros d) 0 0 ≡ shaded (rgb (λ b. bits 7 4 b * 17) d) (pos (lesser (code d 0)))
+  rgb_zeros : differs d ≡ false → rgb_pixel (zeros d) 0 0 ≡ shaded (rgb (λ b. bits 7 4 b * 17) d) (pos (lesser (code d 0)))
   unfolding rgb_pixel indexed
-  rgb-zeros t = rw (t, one_way (flipped d) 0)
+  rgb_zeros t = rw (t, one_way (flipped d) 0)
 
-  rgb-twos : differs d ≡ false → rgb_pixel (twos_of d) 0 0 ≡ shaded (rgb (λ b. bits 7 4 b * 17) d) (minus (lesser (code d 0)))
+  rgb_twos : differs d ≡ false → rgb_pixel (twos_of d) 0 0 ≡ shaded (rgb (λ b. bits 7 4 b * 17) d) (minus (lesser (code d 0)))
   unfolding rgb_pixel indexed
-  rgb-twos t = rw (t, one_way (flipped d) 0)
+  rgb_twos t = rw (t, one_way (flipped d) 0)
 
   -- planar, in both
-  one-corner : planar_pixel_lem (planar_bases_lem (zeros d)) 0 0 ≡ planar_pixel_lem (planar_bases_lem (twos_of d)) 0 0
+  one_corner : planar_pixel_lem (planar_bases_lem (zeros d)) 0 0 ≡ planar_pixel_lem (planar_bases_lem (twos_of d)) 0 0
   unfolding planar_bases_lem
-  one-corner = one_word _ _ _ _ _ _ (corner _ _ _ _ _) (corner _ _ _ _ _) (corner _ _ _ _ _)
+  one_corner = one_word _ _ _ _ _ _ (corner _ _ _ _ _) (corner _ _ _ _ _) (corner _ _ _ _ _)
 
-  rgb-planar : (l : List ℕ) → differs d ≡ true → kind_by_sums_lem d ≡ Planar → rgb_pixel (headed d l) 0 0 ≡ planar_pixel_lem (planar_bases_lem (headed d l)) 0 0
+  rgb_planar : (l : List ℕ) → differs d ≡ true → kind_by_sums_lem d ≡ Planar → rgb_pixel (headed d l) 0 0 ≡ planar_pixel_lem (planar_bases_lem (headed d l)) 0 0
   unfolding rgb_pixel
-  rgb-planar l t k = rw (t, one-kind l, k)
+  rgb_planar l t k = rw (t, one_kind l, k)
 
-  rgba1-planar : (l : List ℕ) → kind_by_sums_lem d ≡ Planar → rgba1_pixel (headed d l) 0 0 ≡ planar_pixel_lem (planar_bases_lem (headed d l)) 0 0
+  rgba1_planar : (l : List ℕ) → kind_by_sums_lem d ≡ Planar → rgba1_pixel (headed d l) 0 0 ≡ planar_pixel_lem (planar_bases_lem (headed d l)) 0 0
   unfolding rgba1_pixel
-  rgba1-planar l k = rw (one-kind l, k)
+  rgba1_planar l k = rw (one_kind l, k)
 
   -- T and H: where all indices are one, one colour everywhere
-  t-alike : differs d ≡ true → kind_by_sums_lem d ≡ T → rgb_pixel (twos_of d) 0 0 ≡ rgb_pixel (twos_of d) 3 3
+  t_alike : differs d ≡ true → kind_by_sums_lem d ≡ T → rgb_pixel (twos_of d) 0 0 ≡ rgb_pixel (twos_of d) 3 3
   unfolding rgb_pixel indexed
-  t-alike t k = rw (t, one-kind (255 ∷ 255 ∷ 0 ∷ 0 ∷ []), k)
+  t_alike t k = rw (t, one_kind (255 ∷ 255 ∷ 0 ∷ 0 ∷ []), k)
 
-  h-alike : differs d ≡ true → kind_by_sums_lem d ≡ H → rgb_pixel (twos_of d) 0 0 ≡ rgb_pixel (twos_of d) 3 3
+  h_alike : differs d ≡ true → kind_by_sums_lem d ≡ H → rgb_pixel (twos_of d) 0 0 ≡ rgb_pixel (twos_of d) 3 3
   unfolding rgb_pixel indexed
-  h-alike t k = rw (t, one-kind (255 ∷ 255 ∷ 0 ∷ 0 ∷ []), k)
+  h_alike t k = rw (t, one_kind (255 ∷ 255 ∷ 0 ∷ 0 ∷ []), k)
 
   -- RGBA1 with the opaque bit clear: index 2 is transparent, but in a planar block
   transparent : differs d ≡ false → is_planar (kind_by_sums_lem d) ≡ false → rgba1_pixel (twos_of d) 0 0 ≡ 0
   unfolding rgba1_pixel
-  transparent t k = rw (one-kind (255 ∷ 255 ∷ 0 ∷ 0 ∷ []), k, t)
+  transparent t k = rw (one_kind (255 ∷ 255 ∷ 0 ∷ 0 ∷ []), k, t)
 
 -- ---- a wrong pixel
 
@@ -202,7 +202,7 @@ wrong_at_lem old new d l x y e h i n =
       same_head = same;
       column = x;
       row = y;
-      in-column = h;
+      in_column = h;
       in_row = i;
       differ = n;
     }
@@ -235,7 +235,7 @@ planar_wrong old new d c s h i o o' n n' =
     ⊎_elim
     (λ q. wrong_at_lem old new d (0 ∷ 0 ∷ 0 ∷ 0 ∷ []) 0 0 refl (lit< tt) (lit< tt) q)
     (λ q. wrong_at_lem old new d (255 ∷ 255 ∷ 0 ∷ 0 ∷ []) 0 0 refl (lit< tt) (lit< tt) q)
-    (one_of_two _ _ _ _ (n ∙ one-corner d ∙ sym n')
+    (one_of_two _ _ _ _ (n ∙ one_corner d ∙ sym n')
     (λ q. spread (get_or c 0 0) s h i (alike c c (pos s) (minus s) (sym o ∙ q ∙ o')).0))
 
 -- T and H under ETC1
@@ -250,7 +250,7 @@ two_halves_wrong d t n e =
     (λ q. wrong_at_lem etc1_pixel rgb_pixel d (255 ∷ 255 ∷ 0 ∷ 0 ∷ []) 3 3 refl (lit< tt) (lit< tt) q)
     (one_of_two _ _ _ _ e
     (λ q.
-    let z = alike (rgb (λ b. five (base b)) d) (rgb (λ b. five (wrapped b)) d) (minus (lesser (code d 0))) (minus (lesser (code d 1))) (sym (etc1-twos d t) ∙ q ∙ etc1-last d t) in
+    let z = alike (rgb (λ b. five (base b)) d) (rgb (λ b. five (wrapped b)) d) (minus (lesser (code d 0))) (minus (lesser (code d 1))) (sym (etc1_twos d t) ∙ q ∙ etc1_last d t) in
     n (sym (lowered _ _) ∙ z.0 ∙ lowered _ _, sym (lowered _ _) ∙ z.1 ∙ lowered _ _)))
 
 -- what a kind says of the sums
@@ -267,24 +267,24 @@ green_beyond false false true e = let z : ◌≡◌ {A = ℕ} 0 1 = cc in absurd
 green_beyond false false false e = let z : ◌≡◌ {A = ℕ} 0 1 = cc in absurd (omega arith)
 
 module _ (d : List ℕ) (t : differs d ≡ true) where
-  t-red : kind_by_sums_lem d ≡ T → beyond (sum (byte d 0)) ≡ true
+  t_red : kind_by_sums_lem d ≡ T → beyond (sum (byte d 0)) ≡ true
   unfolding kind_by_sums_lem
-  t-red k = red_beyond (beyond (sum (byte d 0))) (beyond (sum (byte d 1))) (beyond (sum (byte d 2))) k
+  t_red k = red_beyond (beyond (sum (byte d 0))) (beyond (sum (byte d 1))) (beyond (sum (byte d 2))) k
 
-  h-green : kind_by_sums_lem d ≡ H → beyond (sum (byte d 1)) ≡ true
+  h_green : kind_by_sums_lem d ≡ H → beyond (sum (byte d 1)) ≡ true
   unfolding kind_by_sums_lem
-  h-green k = green_beyond (beyond (sum (byte d 0))) (beyond (sum (byte d 1))) (beyond (sum (byte d 2))) k
+  h_green k = green_beyond (beyond (sum (byte d 0))) (beyond (sum (byte d 1))) (beyond (sum (byte d 2))) k
 
   by_kind : (k : Kind) → kind_by_sums_lem d ≡ k → strange k ≡ true → Wrong etc1_pixel rgb_pixel d
   by_kind Individual e s = absurd (true≢false (sym s))
   by_kind Differential e s = absurd (true≢false (sym s))
   by_kind T e s =
-      two_halves_wrong d t (λ z. far (byte d 0) (code d 0) (code d 1) (t-red e) (omega arith) (omega arith) z.0) (t-alike d t e)
+      two_halves_wrong d t (λ z. far (byte d 0) (code d 0) (code d 1) (t_red e) (omega arith) (omega arith) z.0) (t_alike d t e)
   by_kind H e s =
-      two_halves_wrong d t (λ z. far (byte d 1) (code d 0) (code d 1) (h-green e) (omega arith) (omega arith) z.1) (h-alike d t e)
+      two_halves_wrong d t (λ z. far (byte d 1) (code d 0) (code d 1) (h_green e) (omega arith) (omega arith) z.1) (h_alike d t e)
   by_kind Planar e s =
       planar_wrong etc1_pixel rgb_pixel d (rgb (λ b. five (base b)) d) (lesser (code d 0)) (omega arith) (some_step (code d 0) (omega arith))
-      (etc1-zeros d t) (etc1-twos d t) (rgb-planar d _ t e) (rgb-planar d _ t e)
+      (etc1_zeros d t) (etc1_twos d t) (rgb_planar d _ t e) (rgb_planar d _ t e)
 
 both_true : (a b : Bool) → (a && b) ≡ true → a ≡ true
 both_true true b e = refl
@@ -310,7 +310,7 @@ rgb_wrong d h = by d (clear (differs d) h) (kind_by_sums_lem d) refl
     faint : (d : List ℕ) → differs d ≡ false → is_planar (kind_by_sums_lem d) ≡ false → Wrong rgb_pixel rgba1_pixel d
     faint d t k =
         wrong_at_lem rgb_pixel rgba1_pixel d (255 ∷ 255 ∷ 0 ∷ 0 ∷ []) 0 0 refl (lit< tt) (lit< tt)
-        (λ q. solid _ _ _ (sym (rgb-twos d t) ∙ q ∙ transparent d t k))
+        (λ q. solid _ _ _ (sym (rgb_twos d t) ∙ q ∙ transparent d t k))
 
     by : (d : List ℕ) → differs d ≡ false → (k : Kind) → kind_by_sums_lem d ≡ k → Wrong rgb_pixel rgba1_pixel d
     by d t Individual e = faint d t (ap is_planar e)
@@ -319,7 +319,7 @@ rgb_wrong d h = by d (clear (differs d) h) (kind_by_sums_lem d) refl
     by d t H e = faint d t (ap is_planar e)
     by d t Planar e =
         planar_wrong rgb_pixel rgba1_pixel d (rgb (λ b. bits 7 4 b * 17) d) (lesser (code d 0)) (omega arith) (some_step (code d 0) (omega arith))
-        (rgb-zeros d t) (rgb-twos d t) (rgba1-planar d _ e) (rgba1-planar d _ e)
+        (rgb_zeros d t) (rgb_twos d t) (rgba1_planar d _ e) (rgba1_planar d _ e)
 
 -- ---- the exact set
 
@@ -332,17 +332,17 @@ number_of d =
 -- A guard is exact: its test looks at the first four bytes of a block; where they pass it, the older rule shows what the newer does,
 -- whatever the indices are; and where they do not, indices follow with which it shows a wrong pixel.
 pub record Exact (g : Guard) : Type 0 where
-  pub by-head : (d e : List ℕ) → ((k : ℕ) → k < 4 → byte d k ≡ byte e k) → g.bad d ≡ g.bad e
+  pub by_head : (d e : List ℕ) → ((k : ℕ) → k < 4 → byte d k ≡ byte e k) → g.bad d ≡ g.bad e
   pub right : (d : List ℕ) (x y : ℕ) → g.bad d ≡ false → shows_of g.own d x y ≡ shows_of g.shown d x y
   pub wrong : (d : List ℕ) → g.bad d ≡ true → Wrong (shows_of g.own) (shows_of g.shown) d
   pub smallest : List ℕ
-  pub is-wrong : shows_of g.own smallest 0 0 ≡ shows_of g.shown smallest 0 0 → ⊥
-  pub none-smaller : (d : List ℕ) (x y : ℕ) → number_of d < number_of smallest → shows_of g.own d x y ≡ shows_of g.shown d x y
+  pub is_wrong_lem : shows_of g.own smallest 0 0 ≡ shows_of g.shown smallest 0 0 → ⊥
+  pub none_smaller : (d : List ℕ) (x y : ℕ) → number_of d < number_of smallest → shows_of g.own d x y ≡ shows_of g.shown d x y
 
 -- the set is exact: a block with a wrong pixel behind these four bytes is one that the guard refuses
 module _ (g : Guard) (exact : Exact g) where
-  pub wrong-only-there : (d : List ℕ) → Wrong (shows_of g.own) (shows_of g.shown) d → g.bad d ≡ true
-  wrong-only-there d w = decide (g.bad d) refl
+  pub wrong_only_there : (d : List ℕ) → Wrong (shows_of g.own) (shows_of g.shown) d → g.bad d ≡ true
+  wrong_only_there d w = decide (g.bad d) refl
     where
       decide : (b : Bool) → g.bad d ≡ b → b ≡ true
       decide true e = refl
@@ -358,11 +358,11 @@ good n b test s h = unset (test b) (below (λ k. not (test k)) n s b h)
     unset false q = refl
 
 module _ (d : List ℕ) (h : number_of d < 0x40200000000) where
-  red-zero : byte d 0 ≡ 0
-  red-zero = omega arith
+  red_zero : byte d 0 ≡ 0
+  red_zero = omega arith
 
-  green-zero : byte d 1 ≡ 0
-  green-zero = omega arith
+  green_zero : byte d 1 ≡ 0
+  green_zero = omega arith
 
   in_range_lem : out_of_range_lem d ≡ false
   unfolding out_of_range_lem
@@ -370,7 +370,7 @@ module _ (d : List ℕ) (h : number_of d < 0x40200000000) where
       elim (dec_lt (byte d 2) 4) [
         | yes l ↦
             let z : beyond (sum (byte d 2)) ≡ false = good 4 (byte d 2) (λ b. beyond (sum b)) tt l in
-            rw (red-zero, green-zero, z) (neither (differs d))
+            rw (red_zero, green_zero, z) (neither (differs d))
         | no l ↦
             let z : differs d ≡ false = good 2 (byte d 3) (λ b. eqb (bits 1 1 b) 1) tt (omega (arith, l)) in
             rw z
@@ -393,12 +393,12 @@ pub etc1_for_rgb : Exact in_range
 unfolding shows_of
 etc1_for_rgb =
     record {
-      by-head = head_range;
+      by_head = head_range;
       right = agree;
       wrong = etc1_wrong;
       smallest = 0 ∷ 0 ∷ 4 ∷ 2 ∷ 0 ∷ 0 ∷ 0 ∷ 0 ∷ [];
-      is-wrong = first_planar;
-      none-smaller = λ d x y h. agree d x y (in_range_lem d h);
+      is_wrong_lem = first_planar;
+      none_smaller = λ d x y h. agree d x y (in_range_lem d h);
     }
 
 -- RGB for RGBA1: the blocks with their opaque bit clear, of which the block of zeros is the smallest
@@ -413,12 +413,12 @@ pub rgb_for_rgba1 : Exact opaque_only
 unfolding shows_of
 rgb_for_rgba1 =
     record {
-      by-head = head_opaque;
+      by_head = head_opaque;
       right = opaque_sound.agree;
       wrong = rgb_wrong;
       smallest = 0 ∷ 0 ∷ 0 ∷ 0 ∷ 0 ∷ 0 ∷ 0 ∷ 0 ∷ [];
-      is-wrong = first_clear;
-      none-smaller = λ d x y h. absurd (omega (arith, h));
+      is_wrong_lem = first_clear;
+      none_smaller = λ d x y h. absurd (omega (arith, h));
     }
 
 -- The test is of the first four bytes. What indices follow may hide it: a block of white, with its opaque bit clear, is refused though

@@ -8,7 +8,7 @@ use lib.ListN.{length, get_or}
 use Rattle.rules.specs.Places.{painted}
 use Rattle.rules.specs.Answers.{accepts, Outcome, said}
 use Rattle.rules.specs.declared.Answer.{Answer}
-use Rattle.laws.proofs.Paint.{get_d_painted, length_painted}
+use Rattle.laws.proofs.Paint.{get_or_painted, length_painted}
 use Rattle.laws.proofs.Unique.{answer}
 
 -- two outcomes, each an answer and an image, are one
@@ -38,17 +38,17 @@ an_acceptance_paints verdict after old new a p r =
 
 module _ (P : ℕ → Bool) (v : ℕ → ℕ) (verdict image new : List ℕ) (a : Answer) (p : Outcome verdict (painted P v image) a image new) where
   -- the image keeps its length, whatever the answer
-  pub the-length-stays : length new ≡ length image
-  the-length-stays = ap length p.leaves ∙ kept (accepts verdict)
+  pub the_length_stays : length new ≡ length image
+  the_length_stays = ap length p.leaves ∙ kept (accepts verdict)
     where
       kept : (t : Bool) → length (cond t (painted P v image) image) ≡ length image
       kept true = length_painted P v image
       kept false = refl
 
   -- and every element that is not painted
-  pub the-rest-stays : (k : ℕ) → k < length image → P k ≡ false → get_or new k 0 ≡ get_or image k 0
-  the-rest-stays k h o = ap (λ (l : List ℕ). get_or l k 0) p.leaves ∙ kept (accepts verdict)
+  pub the_rest_stays : (k : ℕ) → k < length image → P k ≡ false → get_or new k 0 ≡ get_or image k 0
+  the_rest_stays k h o = ap (λ (l : List ℕ). get_or l k 0) p.leaves ∙ kept (accepts verdict)
     where
       kept : (t : Bool) → get_or (cond t (painted P v image) image) k 0 ≡ get_or image k 0
-      kept true = get_d_painted P v image k h ∙ ap (λ (t : Bool). cond t (v k) (get_or image k 0)) o
+      kept true = get_or_painted P v image k h ∙ ap (λ (t : Bool). cond t (v k) (get_or image k 0)) o
       kept false = refl

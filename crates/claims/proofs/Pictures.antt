@@ -22,15 +22,15 @@ use Rattle.rules.specs.declared.Answer.{Answer}
 use Rattle.rules.specs.declared.Answer.TheVariants.{Done}
 use Rattle.rules.specs.declared.Format.{Format}
 use Rattle.rules.specs.declared.Picture.{Picture}
-use Rattle.laws.proofs.Paint.{get_d_painted}
+use Rattle.laws.proofs.Paint.{get_or_painted}
 use Rattle.laws.proofs.Judged.{all_pass}
 use Rattle.laws.proofs.Unique.{answer}
 use Rattle.pixel.specs.place.Tile.{Room}
-use Rattle.pixel.proofs.place.Grid.{column-at, row_at, inside-at, none_needed, beyond, in-gap, roomy}
+use Rattle.pixel.proofs.place.Grid.{column_at, row_at, inside_at, none_needed, beyond, in_gap, roomy}
 use Rattle.checks.proofs.Checks.{passed_by_lem}
 use Rattle.laws.proofs.Reach.{some_bytes}
-use Rattle.claims.proofs.Outcomes.{Same, same_outcome, an_acceptance_paints, the-length-stays, the-rest-stays}
-use Rattle.claims.proofs.Alike.{over, OnlyInTile, beside-in-tile, picture-alike, verdict-alike, behind}
+use Rattle.claims.proofs.Outcomes.{Same, same_outcome, an_acceptance_paints, the_length_stays, the_rest_stays}
+use Rattle.claims.proofs.Alike.{over, OnlyInTile, beside_in_tile, picture_alike, verdict_alike, behind}
 
 pub holds : (t : Bool) → T t → t ≡ true
 holds true h = refl
@@ -70,7 +70,7 @@ pub pixel_of_lem : (shows : Shows) (s : ℕ) (pic : Picture) (d : List ℕ) (x y
     → pixel_at shows s pic d (element pic x y) ≡ shows (bytes_of s d (block_of pic x y)) (x % 4) (y % 4)
 pixel_of_lem shows s pic d x y h =
     let at = element pic x y in
-    ap (λ (c : ℕ). shows (bytes_of s d (block_of pic c (row pic at))) (c % 4) (row pic at % 4)) (column-at pic x y h)
+    ap (λ (c : ℕ). shows (bytes_of s d (block_of pic c (row pic at))) (c % 4) (row pic at % 4)) (column_at pic x y h)
     ∙ ap (λ (r : ℕ). shows (bytes_of s d (block_of pic x r)) (x % 4) (r % 4)) (row_at pic x y h)
 
 module _ (shows : Shows) (s : ℕ) (pic : Picture) (image : List ℕ) where
@@ -80,87 +80,87 @@ module _ (shows : Shows) (s : ℕ) (pic : Picture) (image : List ℕ) where
 
   module _ (verdict d : List ℕ) (a : Answer) (new : List ℕ) (p : Reads verdict d a new) where
     -- "An accepted picture alters only its own width times height pixels." (demand 1), which "then mean[s] these elements" (M-104)
-    pub only-its-own-pixels : (k : ℕ) → k < length image → inside pic k ≡ false → get_or new k 0 ≡ get_or image k 0
-    only-its-own-pixels k h o = the-rest-stays (inside pic) (pixel_at shows s pic d) verdict image new a p k h o
+    pub only_its_own_pixels : (k : ℕ) → k < length image → inside pic k ≡ false → get_or new k 0 ≡ get_or image k 0
+    only_its_own_pixels k h o = the_rest_stays (inside pic) (pixel_at shows s pic d) verdict image new a p k h o
 
     -- "Every accepted pixel is what the Khronos text says of its own block and place" (demand 2): pixel (x, y) is what block
     -- number (y / 4) * ceil(width / 4) + x / 4 shows in its column x % 4 and row y % 4
-    pub each-accepted-pixel : accepts (said a) ≡ true
+    pub each_accepted_pixel : accepts (said a) ≡ true
         → Room pic (length image)
         → (x y : ℕ)
         → x < pic.width
         → y < pic.height
         → get_or new (element pic x y) 0 ≡ shows (bytes_of s d (block_of pic x y)) (x % 4) (y % 4)
-    each-accepted-pixel r room x y i j =
+    each_accepted_pixel r room x y i j =
         let at = element pic x y in
-        let own = inside-at pic room.fits x y i j in
+        let own = inside_at pic room.fits x y i j in
         let wide : x < pic.pitch = omega (arith, room.fits) in
         let within : at < length image = room.reach at own in
         ap (λ (l : List ℕ). get_or l at 0) (an_acceptance_paints verdict (over shows s pic image d) image new a p r)
-        ∙ get_d_painted (inside pic) (pixel_at shows s pic d) image at within
+        ∙ get_or_painted (inside pic) (pixel_at shows s pic d) image at within
         ∙ ap (λ (t : Bool). cond t (pixel_at shows s pic d at) (get_or image at 0)) (holds (inside pic at) own)
         ∙ pixel_of_lem shows s pic d x y wide
 
     -- "Width 0 or height 0, where the checks pass, is accepted and changes nothing."
-    pub an-empty-picture : Empty pic → verdict ≡ 0 ∷ [] → Same a Done new image
-    an-empty-picture e q =
+    pub an_empty_picture : Empty pic → verdict ≡ 0 ∷ [] → Same a Done new image
+    an_empty_picture e q =
         let none = no_pixels pic e in
-        let long = the-length-stays (inside pic) (pixel_at shows s pic d) verdict image new a p in (
+        let long = the_length_stays (inside pic) (pixel_at shows s pic d) verdict image new a p in (
           answer a Done (p.says ∙ q),
-          ext_get_or 0 new image long (λ k h. only-its-own-pixels k (omega (arith, long)) (beyond pic k (omega arith))),
+          ext_get_or 0 new image long (λ k h. only_its_own_pixels k (omega (arith, long)) (beyond pic k (omega arith))),
         )
 
   module _ (verdict verdict' d e : List ℕ) (a b : Answer) (new new' : List ℕ) (p : Reads verdict d a new) (q : Reads verdict' e b new') where
     -- "Two pictures of one size, accepted by one reader over equal images, that differ in one block differ at most in that
     -- block's clipped tile." (demand 2)
-    pub own-tile : (n : ℕ) → Beside s pic n d e → accepts (said a) ≡ true → accepts (said b) ≡ true → OnlyInTile pic n new new'
-    own-tile n z r t =
+    pub own_tile : (n : ℕ) → Beside s pic n d e → accepts (said a) ≡ true → accepts (said b) ≡ true → OnlyInTile pic n new new'
+    own_tile n z r t =
         subst (λ (l : List ℕ). OnlyInTile pic n l new') (sym (an_acceptance_paints _ _ image new a p r))
-        (subst (λ (l : List ℕ). OnlyInTile pic n (over shows s pic image d) l) (sym (an_acceptance_paints _ _ image new' b q t)) (beside-in-tile s pic d e shows n z image))
+        (subst (λ (l : List ℕ). OnlyInTile pic n (over shows s pic image d) l) (sym (an_acceptance_paints _ _ image new' b q t)) (beside_in_tile s pic d e shows n z image))
 
     -- "Data beyond the last block is not read": the blocks alone decide
-    pub only-blocks-are-read : Alike s pic d e → verdict ≡ verdict' → Same a b new new'
-    only-blocks-are-read same v =
-        same_outcome _ _ _ _ image a b new new' v (picture-alike s pic d e same shows image) p q
+    pub only_blocks_are_read : Alike s pic d e → verdict ≡ verdict' → Same a b new new'
+    only_blocks_are_read same v =
+        same_outcome _ _ _ _ image a b new new' v (picture_alike s pic d e same shows image) p q
 
 -- The same for a user, with nothing left to look up.
 module _ (f : Format) (d : List ℕ) (pic : Picture) (image : List ℕ) where
   module _ (new : List ℕ) (p : ReadsPicture f d pic image Done new) where
     -- a picture that a reader of format f has done shows at (x, y) what the rule of f says of block number
     -- (y / 4) * ceil(width / 4) + x / 4, in its column x % 4 and row y % 4
-    pub every-pixel-of-a-picture : (x y : ℕ) → x < pic.width → y < pic.height → get_or new (element pic x y) 0 ≡ shows_of f (bytes_of (size_of f) d (block_of pic x y)) (x % 4) (y % 4)
-    every-pixel-of-a-picture =
+    pub every_pixel_of_a_picture : (x y : ℕ) → x < pic.width → y < pic.height → get_or new (element pic x y) 0 ≡ shows_of f (bytes_of (size_of f) d (block_of pic x y)) (x % 4) (y % 4)
+    every_pixel_of_a_picture =
         let k = passed_by_lem (size_of f) pic (length d) (length image) (0 ∷ []) Done p.says refl in
-        each-accepted-pixel (shows_of f) (size_of f) pic image _ d Done new p refl (roomy pic (length image) k.fits k.roomy)
+        each_accepted_pixel (shows_of f) (size_of f) pic image _ d Done new p refl (roomy pic (length image) k.fits k.roomy)
 
     -- and one that differs from it in block n alone differs at most in that block's clipped tile
-    pub one-block-changes-its-own-tile : (e new' : List ℕ) (n : ℕ) → Beside (size_of f) pic n d e → ReadsPicture f e pic image Done new' → OnlyInTile pic n new new'
-    one-block-changes-its-own-tile e new' n z q =
-        own-tile (shows_of f) (size_of f) pic image _ _ d e Done Done new new' p q n z refl refl
+    pub one_block_changes_its_own_tile : (e new' : List ℕ) (n : ℕ) → Beside (size_of f) pic n d e → ReadsPicture f e pic image Done new' → OnlyInTile pic n new new'
+    one_block_changes_its_own_tile e new' n z q =
+        own_tile (shows_of f) (size_of f) pic image _ _ d e Done Done new new' p q n z refl refl
 
   module _ (new : List ℕ) (a : Answer) (p : ReadsPicture f d pic image a new) where
     -- no element behind it, nor any element of a refused one, has changed
-    pub nothing-else-changes : (k : ℕ) → k < length image → needed pic ≤ k → get_or new k 0 ≡ get_or image k 0
-    nothing-else-changes k h o =
-        only-its-own-pixels (shows_of f) (size_of f) pic image _ d a new p k h (beyond pic k o)
+    pub nothing_else_changes : (k : ℕ) → k < length image → needed pic ≤ k → get_or new k 0 ≡ get_or image k 0
+    nothing_else_changes k h o =
+        only_its_own_pixels (shows_of f) (size_of f) pic image _ d a new p k h (beyond pic k o)
 
     -- "Elements in the gaps keep their value." (M-104), accepted or refused
-    pub the-gaps-keep-their-value : (x y : ℕ) → pic.width ≤ x → x < pic.pitch → element pic x y < length image → get_or new (element pic x y) 0 ≡ get_or image (element pic x y) 0
-    the-gaps-keep-their-value x y i j h =
-        only-its-own-pixels (shows_of f) (size_of f) pic image _ d a new p (element pic x y) h (in-gap pic x y i j)
+    pub the_gaps_keep_their_value : (x y : ℕ) → pic.width ≤ x → x < pic.pitch → element pic x y < length image → get_or new (element pic x y) 0 ≡ get_or image (element pic x y) 0
+    the_gaps_keep_their_value x y i j h =
+        only_its_own_pixels (shows_of f) (size_of f) pic image _ d a new p (element pic x y) h (in_gap pic x y i j)
 
     -- width 0 or height 0, the other and a pitch no less than the width at most 65,536, is accepted and changes nothing
-    pub an-empty-picture-changes-nothing : Empty pic → over_limit_lem pic ≡ false → pic.width ≤ pic.pitch → Same a Done new image
-    an-empty-picture-changes-nothing e t i =
-        an-empty-picture (shows_of f) (size_of f) pic image _ d a new p e (empty_passes (size_of f) pic d image (0 ∷ []) e t i)
+    pub an_empty_picture_changes_nothing : Empty pic → over_limit_lem pic ≡ false → pic.width ≤ pic.pitch → Same a Done new image
+    an_empty_picture_changes_nothing e t i =
+        an_empty_picture (shows_of f) (size_of f) pic image _ d a new p e (empty_passes (size_of f) pic d image (0 ∷ []) e t i)
 
     -- inputs that agree on the blocks of the picture have one outcome
-    pub data-beyond-the-last-block-is-not-read : (e : List ℕ) (b : Answer) (new' : List ℕ) → Alike (size_of f) pic d e → ReadsPicture f e pic image b new' → Same a b new new'
-    data-beyond-the-last-block-is-not-read e b new' same q =
-        only-blocks-are-read (shows_of f) (size_of f) pic image _ _ d e a b new new' p q same
-        (verdict-alike (size_of f) pic d e same (some_bytes f) (length image) (0 ∷ []) (0 ∷ []) refl)
+    pub data_beyond_the_last_block_is_not_read : (e : List ℕ) (b : Answer) (new' : List ℕ) → Alike (size_of f) pic d e → ReadsPicture f e pic image b new' → Same a b new new'
+    data_beyond_the_last_block_is_not_read e b new' same q =
+        only_blocks_are_read (shows_of f) (size_of f) pic image _ _ d e a b new new' p q same
+        (verdict_alike (size_of f) pic d e same (some_bytes f) (length image) (0 ∷ []) (0 ∷ []) refl)
 
     -- and so has an input with anything put behind its blocks
-    pub more-data-changes-nothing : (more : List ℕ) (b : Answer) (new' : List ℕ) → blocks pic * size_of f ≤ length d → ReadsPicture f (d ++ more) pic image b new' → Same a b new new'
-    more-data-changes-nothing more b new' enough =
-        data-beyond-the-last-block-is-not-read (d ++ more) b new' (behind (size_of f) pic d more enough)
+    pub more_data_changes_nothing : (more : List ℕ) (b : Answer) (new' : List ℕ) → blocks pic * size_of f ≤ length d → ReadsPicture f (d ++ more) pic image b new' → Same a b new new'
+    more_data_changes_nothing more b new' enough =
+        data_beyond_the_last_block_is_not_read (d ++ more) b new' (behind (size_of f) pic d more enough)

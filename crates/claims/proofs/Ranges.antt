@@ -93,16 +93,16 @@ module _ (n y u : ℕ) (digits : u < 8388608) (finite : y < 254) (is : size y u 
   abbrev limit : ℕ
   limit = suc y * 8388608 + u
 
-  by-fields : (s : Bool) (f t : ℕ) → t < 8388608 → within n (of_fields binary32 s f t) ≡ leb (f * 8388608 + t) limit
+  by_fields : (s : Bool) (f t : ℕ) → t < 8388608 → within n (of_fields binary32 s f t) ≡ leb (f * 8388608 + t) limit
   unfolding of_fields
-  by-fields s zero t h =
+  by_fields s zero t h =
       by_value n (odd 24 s t 0 149) s (t * 1) (odd_sign 24 s t 0 149)
       ∙ le-leb (t * 1) (n * 2 ^ 149) (le_trans (le_of_eq (mul-one t)) (le_trans (le_trans small (le-mul_of_pos_right (8388608 + u) (pow_pos y))) (le_of_eq is)))
       ∙ sym (le-leb (0 + t) limit (omega arith))
     where
       small : t ≤ 8388608 + u
       small = omega arith
-  by-fields s (suc x) t h = go (eqb (suc x) 255) refl
+  by_fields s (suc x) t h = go (eqb (suc x) 255) refl
     where
       past : suc x ≡ 255 → limit < suc x * 8388608 + t
       past e = omega arith
@@ -120,7 +120,7 @@ module _ (n y u : ℕ) (digits : u < 8388608) (finite : y < 254) (is : size y u 
 
   by_bits : (b : ℕ) → within n (of_bits binary32 b) ≡ leb (b % 2147483648) limit
   unfolding of_bits
-  by_bits b = by-fields (leb 2147483648 b) (b % 2147483648 / 8388608) (b % 8388608) (omega arith) ∙ ap (λ (z : ℕ). leb z limit) (split b)
+  by_bits b = by_fields (leb 2147483648 b) (b % 2147483648 / 8388608) (b % 8388608) (omega arith) ∙ ap (λ (z : ℕ). leb z limit) (split b)
     where
       split : (k : ℕ) → k % 2147483648 / 8388608 * 8388608 + k % 8388608 ≡ k % 2147483648
       split k = omega arith

@@ -19,7 +19,7 @@ use Rattle.rules.specs.Readers.{picture_of, ReadsPicture, ReadsStrict}
 use Rattle.rules.specs.declared.Answer.{Answer}
 use Rattle.rules.specs.declared.Format.{Format}
 use Rattle.rules.specs.declared.Format.TheVariants.{Etc2Rgb}
-use Rattle.pixel.proofs.place.Plain.{needed-plain, painted-plain}
+use Rattle.pixel.proofs.place.Plain.{needed_plain, painted_plain}
 use Rattle.claims.proofs.Alike.{none_left}
 
 -- ---- document 01, by width and height
@@ -72,13 +72,13 @@ twice false false = refl
 
 module _ (s w h bytes elements : ℕ) (then : List ℕ) where
   -- the pitch, which is the width, is too large where the width is, and never below it
-  checks-as-before : judged (picture_checks s (sized w h) bytes elements) then ≡ judged (checks_before limit s w h bytes elements) then
-  checks-as-before =
+  checks_as_before : judged (picture_checks s (sized w h) bytes elements) then ≡ judged (checks_before limit s w h bytes elements) then
+  checks_as_before =
       let second = data_check (across w * across h * s) bytes in
       let third = image_check (needed (sized w h)) elements in
       ap (λ (t : Bool). judged (refusal 1 t ∷ refusal 12 (ltb w w) ∷ second ∷ third ∷ []) then) (twice (ltb limit w) (ltb limit h))
       ∙ ap (λ (t : Bool). judged (refusal 1 (ltb limit w || ltb limit h) ∷ refusal 12 t ∷ second ∷ third ∷ []) then) (le-ltb w w (omega arith))
-      ∙ ap (λ (n : ℕ). judged (refusal 1 (ltb limit w || ltb limit h) ∷ second ∷ image_check n elements ∷ []) then) (needed-plain w h)
+      ∙ ap (λ (n : ℕ). judged (refusal 1 (ltb limit w || ltb limit h) ∷ second ∷ image_check n elements ∷ []) then) (needed_plain w h)
 
   -- of sides within two limits, both say the same
   within_both : (most other : ℕ) → w ≤ most → h ≤ most → w ≤ other → h ≤ other → judged (checks_before most s w h bytes elements) then ≡ judged (checks_before other s w h bytes elements) then
@@ -87,43 +87,43 @@ module _ (s w h bytes elements : ℕ) (then : List ℕ) where
 
 -- the picture
 picture_as_before : (f : Format) (w h : ℕ) (d image : List ℕ) → picture_of f (sized w h) d image ≡ picture_before f w h d image
-picture_as_before f w h d image = painted-plain w h (pixel_at (shows_of f) (size_of f) (sized w h) d) image
+picture_as_before f w h d image = painted_plain w h (pixel_at (shows_of f) (size_of f) (sized w h) d) image
 
 module _ (d : List ℕ) (w h : ℕ) (image : List ℕ) (a : Answer) (new : List ℕ) where
   module _ (f : Format) where
-    verdict-as-before : verdict (picture_checks (size_of f) (sized w h) (length d) (length image)) ≡ verdict (checks_before limit (size_of f) w h (length d) (length image))
-    verdict-as-before = checks-as-before (size_of f) w h (length d) (length image) (0 ∷ [])
+    verdict_as_before : verdict (picture_checks (size_of f) (sized w h) (length d) (length image)) ≡ verdict (checks_before limit (size_of f) w h (length d) (length image))
+    verdict_as_before = checks_as_before (size_of f) w h (length d) (length image) (0 ∷ [])
 
     -- the promise of a picture reader, both ways
-    pub without-a-pitch-as-before : ReadsPicture f d (sized w h) image a new → ReadsBefore limit f d w h image a new
-    without-a-pitch-as-before = moved _ _ _ _ image new a verdict-as-before (picture_as_before f w h d image)
+    pub without_a_pitch_as_before : ReadsPicture f d (sized w h) image a new → ReadsBefore limit f d w h image a new
+    without_a_pitch_as_before = moved _ _ _ _ image new a verdict_as_before (picture_as_before f w h d image)
 
-    pub as-before-without-a-pitch : ReadsBefore limit f d w h image a new → ReadsPicture f d (sized w h) image a new
-    as-before-without-a-pitch = moved _ _ _ _ image new a (sym verdict-as-before) (sym (picture_as_before f w h d image))
+    pub as_before_without_a_pitch : ReadsBefore limit f d w h image a new → ReadsPicture f d (sized w h) image a new
+    as_before_without_a_pitch = moved _ _ _ _ image new a (sym verdict_as_before) (sym (picture_as_before f w h d image))
 
     -- and of sides that the old limit, 16,384, let pass, with that limit
     module _ (narrow : w ≤ 16384) (low : h ≤ 16384) where
-      same-verdict : verdict (checks_before limit (size_of f) w h (length d) (length image)) ≡ verdict (checks_before 16384 (size_of f) w h (length d) (length image))
-      same-verdict = within_both (size_of f) w h (length d) (length image) (0 ∷ []) limit 16384 (omega arith) (omega arith) narrow low
+      same_verdict : verdict (checks_before limit (size_of f) w h (length d) (length image)) ≡ verdict (checks_before 16384 (size_of f) w h (length d) (length image))
+      same_verdict = within_both (size_of f) w h (length d) (length image) (0 ∷ []) limit 16384 (omega arith) (omega arith) narrow low
 
-      pub within-the-old-limit-as-before : ReadsPicture f d (sized w h) image a new → ReadsBefore 16384 f d w h image a new
-      within-the-old-limit-as-before p = moved _ _ _ _ image new a same-verdict refl (without-a-pitch-as-before p)
+      pub within_the_old_limit_as_before : ReadsPicture f d (sized w h) image a new → ReadsBefore 16384 f d w h image a new
+      within_the_old_limit_as_before p = moved _ _ _ _ image new a same_verdict refl (without_a_pitch_as_before p)
 
-      pub as-before-within-the-old-limit : ReadsBefore 16384 f d w h image a new → ReadsPicture f d (sized w h) image a new
-      as-before-within-the-old-limit p = as-before-without-a-pitch (moved _ _ _ _ image new a (sym same-verdict) refl p)
+      pub as_before_within_the_old_limit : ReadsBefore 16384 f d w h image a new → ReadsPicture f d (sized w h) image a new
+      as_before_within_the_old_limit p = as_before_without_a_pitch (moved _ _ _ _ image new a (sym same_verdict) refl p)
 
   -- the promise of strict ETC1, both ways, of bytes that are no more than the blocks need
   module _ (few : length d ≤ across w * across h * 8) where
-    strict-checks-as-before : (then : List ℕ) → judged (exact_checks 8 (sized w h) (length d) (length image)) then ≡ judged (checks_before limit 8 w h (length d) (length image)) then
-    strict-checks-as-before then =
-        none_left 8 (sized w h) (length d) (length image) then few ∙ checks-as-before 8 w h (length d) (length image) then
+    strict_checks_as_before : (then : List ℕ) → judged (exact_checks 8 (sized w h) (length d) (length image)) then ≡ judged (checks_before limit 8 w h (length d) (length image)) then
+    strict_checks_as_before then =
+        none_left 8 (sized w h) (length d) (length image) then few ∙ checks_as_before 8 w h (length d) (length image) then
 
-    pub strict-without-a-pitch-as-before : ReadsStrict d (sized w h) image a new → StrictBefore limit d w h image a new
+    pub strict_without_a_pitch_as_before : ReadsStrict d (sized w h) image a new → StrictBefore limit d w h image a new
     unfolding size_of
-    strict-without-a-pitch-as-before =
-        moved _ _ _ _ image new a (strict-checks-as-before (guarded 4 (λ n. out_of_range_lem (bytes_of 8 d n)) (across w * across h))) (picture_as_before Etc2Rgb w h d image)
+    strict_without_a_pitch_as_before =
+        moved _ _ _ _ image new a (strict_checks_as_before (guarded 4 (λ n. out_of_range_lem (bytes_of 8 d n)) (across w * across h))) (picture_as_before Etc2Rgb w h d image)
 
-    pub strict-as-before-without-a-pitch : StrictBefore limit d w h image a new → ReadsStrict d (sized w h) image a new
+    pub strict_as_before_without_a_pitch : StrictBefore limit d w h image a new → ReadsStrict d (sized w h) image a new
     unfolding size_of
-    strict-as-before-without-a-pitch =
-        moved _ _ _ _ image new a (sym (strict-checks-as-before (guarded 4 (λ n. out_of_range_lem (bytes_of 8 d n)) (across w * across h)))) (sym (picture_as_before Etc2Rgb w h d image))
+    strict_as_before_without_a_pitch =
+        moved _ _ _ _ image new a (sym (strict_checks_as_before (guarded 4 (λ n. out_of_range_lem (bytes_of 8 d n)) (across w * across h)))) (sym (picture_as_before Etc2Rgb w h d image))

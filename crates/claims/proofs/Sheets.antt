@@ -22,11 +22,11 @@ use Rattle.laws.proofs.Unique.{answer, no_second_outcome}
 use Rattle.rules.specs.Sheets.{format_of, size_in, head_in, blocks_in, head_verdict, read_verdict, sheet_picture, TellsHead, ReadsSheet, write_verdict, WritesSheet}
 use Rattle.sheet.specs.Shown.{walk, Halts, size_of_head, Shown}
 use Rattle.sheet.proofs.Unique.{differ, one_head, one_written}
-use Rattle.sheet.proofs.Shown.{tells, plainly, reads-room, head_said, room_said}
+use Rattle.sheet.proofs.Shown.{tells, plainly, reads_room, head_said, room_said}
 use Rattle.sheet.proofs.Decided.{head_from, decided}
 use Rattle.claims.proofs.Outcomes.{Same, a_refusal_alters_nothing}
 use Rattle.claims.proofs.Alike.{OnlyInTile}
-use Rattle.claims.proofs.Pictures.{every-pixel-of-a-picture, one-block-changes-its-own-tile}
+use Rattle.claims.proofs.Pictures.{every_pixel_of_a_picture, one_block_changes_its_own_tile}
 
 -- no second outcome satisfies the three promises
 pub head_determined : (d : List ℕ) (s t : Sheet) → TellsHead d s → TellsHead d t → s ≡ t
@@ -51,9 +51,9 @@ a_refused_writer_writes_nothing f p b out new r x e =
 module _ (d : List ℕ) where
   module _ (h : Head) (p : TellsHead d (Holds h)) where
     -- a fault that the walk finds is no head
-    not-lost : Halts (walk d) → ⊥
+    not_lost : Halts (walk d) → ⊥
     unfolding head_verdict
-    not-lost l = true≢false (ap accepts (p ∙ l.alike (head_said d)) ∙ l.refused)
+    not_lost l = true≢false (ap accepts (p ∙ l.alike (head_said d)) ∙ l.refused)
 
     -- a sheet whose head is told is one without a fault, with that head
     pub whole : Shown d h (blocks_in d)
@@ -63,33 +63,33 @@ module _ (d : List ℕ) where
         let e : Holds (head_from (head_in d)) ≡ Holds h = head_determined d _ _ (tells d (head_from (head_in d)) (blocks_in d) s) p in
         let i : head_from (head_in d) ≡ h = cc in
         subst (λ (k : Head). Shown d k (blocks_in d)) i s)
-        (λ l. absurd (not-lost l))
+        (λ l. absurd (not_lost l))
         (decided d)
 
     -- "the picture that an accepted sheet shows is the picture that the plain reader of that format shows of exactly those blocks":
     -- answer and image are those of the plain reader, so that all that is claimed of pictures holds of sheets
-    pub sheet-is-picture : (image new : List ℕ) (a : Answer) → ReadsSheet d image a new → ReadsPicture (format_of h.format) (blocks_in d) (size_of_head h) image a new
-    sheet-is-picture image new a q = plainly d h (blocks_in d) whole image new a q
+    pub sheet_is_picture : (image new : List ℕ) (a : Answer) → ReadsSheet d image a new → ReadsPicture (format_of h.format) (blocks_in d) (size_of_head h) image a new
+    sheet_is_picture image new a q = plainly d h (blocks_in d) whole image new a q
 
     -- "`read_sheet` refuses with exactly the same number but for 3": of a sheet whose head is told, the reader says 3 or 0, by whether
     -- the image has the elements
-    pub only-for-room : (image new : List ℕ) (a : Answer) → ReadsSheet d image a new → said a ≡ room_said (length image) (size_of_head h)
-    only-for-room image new a q = q.says ∙ reads-room d h (blocks_in d) whole image
+    pub only_for_room : (image new : List ℕ) (a : Answer) → ReadsSheet d image a new → said a ≡ room_said (length image) (size_of_head h)
+    only_for_room image new a q = q.says ∙ reads_room d h (blocks_in d) whole image
 
     -- what is claimed of pictures: each pixel of an accepted sheet
-    pub every-pixel-of-a-sheet : (image new : List ℕ)
+    pub every_pixel_of_a_sheet : (image new : List ℕ)
         → ReadsSheet d image Done new
         → (x y : ℕ)
         → x < h.width
         → y < h.height
         → get_or new (element (size_of_head h) x y) 0 ≡ shows_of (format_of h.format) (bytes_of (size_of (format_of h.format)) (blocks_in d) (block_of (size_of_head h) x y)) (x % 4) (y % 4)
-    every-pixel-of-a-sheet image new q =
-        every-pixel-of-a-picture (format_of h.format) (blocks_in d) (size_of_head h) image new (sheet-is-picture image new Done q)
+    every_pixel_of_a_sheet image new q =
+        every_pixel_of_a_picture (format_of h.format) (blocks_in d) (size_of_head h) image new (sheet_is_picture image new Done q)
 
   -- and a sheet that is refused a head is refused by the reader alike, which paints nothing
-  pub refused-alike : (r a : Answer) (image new : List ℕ) → TellsHead d (Refused r) → ReadsSheet d image a new → (a ≡ r) × (new ≡ image)
+  pub refused_alike : (r a : Answer) (image new : List ℕ) → TellsHead d (Refused r) → ReadsSheet d image a new → (a ≡ r) × (new ≡ image)
   unfolding head_verdict read_verdict
-  refused-alike r a image new p q =
+  refused_alike r a image new p q =
       ⊎_elim
       (λ s. absurd (differ (head_from (head_in d)) r (tells d (head_from (head_in d)) (blocks_in d) s ∙ sym p)))
       (λ l.
@@ -107,5 +107,5 @@ pub sheets_own_tile : (h : Head) (n : ℕ) (d e image new new' : List ℕ)
     → ReadsSheet e image Done new'
     → OnlyInTile (size_of_head h) n new new'
 sheets_own_tile h n d e image new new' p q z x y =
-    one-block-changes-its-own-tile (format_of h.format) (blocks_in d) (size_of_head h) image new (sheet-is-picture d h p image new Done x) (blocks_in e) new' n z
-    (sheet-is-picture e h q image new' Done y)
+    one_block_changes_its_own_tile (format_of h.format) (blocks_in d) (size_of_head h) image new (sheet_is_picture d h p image new Done x) (blocks_in e) new' n z
+    (sheet_is_picture e h q image new' Done y)

@@ -27,9 +27,9 @@ use Rattle.rules.specs.Readers.{picture_of}
 use Rattle.rules.specs.declared.Picture.{Picture}
 use Rattle.laws.proofs.Counts.{nowhere, somewhere}
 use Rattle.laws.proofs.First.{first}
-use Rattle.laws.proofs.Guards.{Sound, none-bad}
-use Rattle.laws.proofs.Paint.{painted_same, get_d_painted}
-use Rattle.pixel.proofs.place.Grid.{rem_at, div_at, covered, column-in, row_in, column-at, row_at, inside-at, reached, roomy}
+use Rattle.laws.proofs.Guards.{Sound, none_bad}
+use Rattle.laws.proofs.Paint.{painted_same, get_or_painted}
+use Rattle.pixel.proofs.place.Grid.{rem_at, div_at, covered, column_in, row_in, column_at, row_at, inside_at, reached, roomy}
 use Rattle.blocks.proofs.Blocks.{block_in}
 use Rattle.rules.specs.Older.{older_at, newer_at, in_picture, wrong_at, has_wrong, colour_off_lem, alpha_off_lem}
 use Rattle.rules.specs.Older.{wrong_pixels, wrong_blocks, first_block_lem, most_colour, most_alpha}
@@ -125,44 +125,44 @@ module _ (g : Guard) (sound : Sound g) (eight : size_of g.own ≡ 8) (p : Pictur
   right n k h l = (first (wrong_at g p d n) 16).none k (omega (arith, good n h, l))
 
   -- "every block counted is one that strict (opaque-only) refuses"
-  pub every-counted-block-is-refused : (n : ℕ) → has_wrong g p d n ≡ true → bad_at g d n ≡ true
-  every-counted-block-is-refused n h = decide (bad_at g d n) refl
+  pub every_counted_block_is_refused : (n : ℕ) → has_wrong g p d n ≡ true → bad_at g d n ≡ true
+  every_counted_block_is_refused n h = decide (bad_at g d n) refl
     where
       decide : (t : Bool) → bad_at g d n ≡ t → bad_at g d n ≡ true
       decide true e = e
       decide false e = absurd (true≢false (sym h ∙ le-ltb (first_of (wrong_at g p d n) 16) 16 (omega (arith, good n e))))
 
   -- "the first refused block is at or before the first counted"
-  pub the-first-refused-is-no-later : (n : ℕ) → first_of (bad_at g d) n ≤ first_block_lem g p d n
-  the-first-refused-is-no-later n = no_later (has_wrong g p d) (bad_at g d) n every-counted-block-is-refused
+  pub the_first_refused_is_no_later : (n : ℕ) → first_of (bad_at g d) n ≤ first_block_lem g p d n
+  the_first_refused_is_no_later n = no_later (has_wrong g p d) (bad_at g d) n every_counted_block_is_refused
 
   -- "where strict (opaque-only) accepts, nothing is counted"
   module _ (accepts : guarded g.number (bad_at g d) (blocks p) ≡ 0 ∷ []) where
     none : (n k : ℕ) → n < blocks p → k < 16 → wrong_at g p d n k ≡ false
-    none n k h l = right n k (none-bad g.number (bad_at g d) (blocks p) sound.is-refusal accepts n h) l
+    none n k h l = right n k (none_bad g.number (bad_at g d) (blocks p) sound.is-refusal accepts n h) l
 
     lacks : (n : ℕ) → n < blocks p → has_wrong g p d n ≡ false
-    lacks n h = le-ltb (first_of (wrong_at g p d n) 16) 16 (omega (arith, good n (none-bad g.number (bad_at g d) (blocks p) sound.is-refusal accepts n h)))
+    lacks n h = le-ltb (first_of (wrong_at g p d n) 16) 16 (omega (arith, good n (none_bad g.number (bad_at g d) (blocks p) sound.is-refusal accepts n h)))
 
-    pub no-pixel-is-counted : wrong_pixels g p d (blocks p) ≡ 0
-    no-pixel-is-counted = sum_nothing _ (blocks p) (λ n h. nowhere (wrong_at g p d n) 16 (λ k l. none n k h l))
+    pub no_pixel_is_counted : wrong_pixels g p d (blocks p) ≡ 0
+    no_pixel_is_counted = sum_nothing _ (blocks p) (λ n h. nowhere (wrong_at g p d n) 16 (λ k l. none n k h l))
 
-    pub no-block-is-counted : wrong_blocks g p d (blocks p) ≡ 0
-    no-block-is-counted = nowhere (has_wrong g p d) (blocks p) lacks
+    pub no_block_is_counted : wrong_blocks g p d (blocks p) ≡ 0
+    no_block_is_counted = nowhere (has_wrong g p d) (blocks p) lacks
 
-    pub no-block-is-first : first_block_lem g p d (blocks p) ≡ blocks p
-    no-block-is-first =
+    pub no_block_is_first : first_block_lem g p d (blocks p) ≡ blocks p
+    no_block_is_first =
         elim (dec_lt (first_of (has_wrong g p d) (blocks p)) (blocks p)) [
           | yes l ↦ absurd (true≢false (sym ((first (has_wrong g p d) (blocks p)).found l) ∙ lacks _ l))
           | no l ↦ omega (arith, l, (first (has_wrong g p d) (blocks p)).within)
         ]
 
-    pub no-colour-is-off : most_colour g p d (blocks p) ≡ 0
-    no-colour-is-off =
+    pub no_colour_is_off : most_colour g p d (blocks p) ≡ 0
+    no_colour_is_off =
         most_nothing _ (blocks p) (λ n h. most_nothing _ 16 (λ k l. ap (λ (t : Bool). cond t (farthest (older_at g d n k) (newer_at g d n k)) 0) (none n k h l)))
 
-    pub no-alpha-is-off : most_alpha g p d (blocks p) ≡ 0
-    no-alpha-is-off =
+    pub no_alpha_is_off : most_alpha g p d (blocks p) ≡ 0
+    no_alpha_is_off =
         most_nothing _ (blocks p)
         (λ n h. most_nothing _ 16 (λ k l. ap (λ (t : Bool). cond t (apart (alpha_of (older_at g d n k)) (alpha_of (newer_at g d n k))) 0) (none n k h l)))
 
@@ -178,16 +178,16 @@ module _ (g : Guard) (p : Picture) (d : List ℕ) where
       decide false e = omega arith
 
   module _ (n k : ℕ) (h : n < blocks p) (l : k < 16) (s : in_picture p n k ≡ true) where
-    pub the-largest-colour-bounds : farthest (older_at g d n k) (newer_at g d n k) ≤ most_colour g p d (blocks p)
-    the-largest-colour-bounds =
+    pub the_largest_colour_bounds : farthest (older_at g d n k) (newer_at g d n k) ≤ most_colour g p d (blocks p)
+    the_largest_colour_bounds =
         let a = off (in_picture p n k) (older_at g d n k) (newer_at g d n k) (farthest (older_at g d n k) (newer_at g d n k))
         (λ e. ap (λ (z : ℕ). farthest z (newer_at g d n k)) e ∙ near (newer_at g d n k)) s in
         let b = most_bounds (colour_off_lem (in_picture p n) (older_at g d n) (newer_at g d n)) 16 k l in
         let c = most_bounds (λ b. most_of (colour_off_lem (in_picture p b) (older_at g d b) (newer_at g d b)) 16) (blocks p) n h in
         omega (arith, a, b, c)
 
-    pub the-largest-alpha-bounds : apart (alpha_of (older_at g d n k)) (alpha_of (newer_at g d n k)) ≤ most_alpha g p d (blocks p)
-    the-largest-alpha-bounds =
+    pub the_largest_alpha_bounds : apart (alpha_of (older_at g d n k)) (alpha_of (newer_at g d n k)) ≤ most_alpha g p d (blocks p)
+    the_largest_alpha_bounds =
         let a = off (in_picture p n k) (older_at g d n k) (newer_at g d n k) (apart (alpha_of (older_at g d n k)) (alpha_of (newer_at g d n k)))
         (λ e. let z = ap alpha_of e in omega (arith, z)) s in
         let b = most_bounds (alpha_off_lem (in_picture p n) (older_at g d n) (newer_at g d n)) 16 k l in
@@ -198,9 +198,9 @@ module _ (g : Guard) (p : Picture) (d : List ℕ) where
   pub record Shown (difference : ℕ → ℕ → ℕ) (m : ℕ) : Type 0 where
     pub block : ℕ
     pub place : ℕ
-    pub in-it : block < blocks p
+    pub in_it : block < blocks p
     pub in_block : place < 16
-    pub is-shown : in_picture p block place ≡ true
+    pub is_shown_lem : in_picture p block place ≡ true
     pub is : difference (older_at g d block place) (newer_at g d block place) ≡ m
 
   -- what is not 0 is the difference of a pixel that is shown
@@ -211,28 +211,28 @@ module _ (g : Guard) (p : Picture) (d : List ℕ) where
   off_by : (ℕ → ℕ → ℕ) → ℕ → ℕ → ℕ
   off_by difference b k = cond (wrong_at g p d b k) (difference (older_at g d b k) (newer_at g d b k)) 0
 
-  most-shown : (difference : ℕ → ℕ → ℕ) → 0 < most_of (λ b. most_of (off_by difference b) 16) (blocks p) → Shown difference (most_of (λ b. most_of (off_by difference b) 16) (blocks p))
+  most_shown : (difference : ℕ → ℕ → ℕ) → 0 < most_of (λ b. most_of (off_by difference b) 16) (blocks p) → Shown difference (most_of (λ b. most_of (off_by difference b) 16) (blocks p))
   unfolding off_by most_of
-  most-shown difference h =
+  most_shown difference h =
       let r = most_reached (λ b. most_of (off_by difference b) 16) (blocks p) h in
       let q = most_reached (off_by difference r.at) 16 (omega (arith, h, r.is)) in
       let v = told (wrong_at g p d r.at q.at) (difference (older_at g d r.at q.at) (newer_at g d r.at q.at)) _ (q.is ∙ r.is) h in
       record {
         block = r.at;
         place = q.at;
-        in-it = r.within;
+        in_it = r.within;
         in_block = q.within;
-        is-shown = (both (in_picture p r.at q.at) _ v.0).0;
+        is_shown_lem = (both (in_picture p r.at q.at) _ v.0).0;
         is = v.1;
       }
 
-  pub the-largest-colour-is-reached : 0 < most_colour g p d (blocks p) → Shown farthest (most_colour g p d (blocks p))
+  pub the_largest_colour_is_reached : 0 < most_colour g p d (blocks p) → Shown farthest (most_colour g p d (blocks p))
   unfolding off_by
-  the-largest-colour-is-reached = most-shown farthest
+  the_largest_colour_is_reached = most_shown farthest
 
-  pub the-largest-alpha-is-reached : 0 < most_alpha g p d (blocks p) → Shown (λ q r. apart (alpha_of q) (alpha_of r)) (most_alpha g p d (blocks p))
+  pub the_largest_alpha_is_reached : 0 < most_alpha g p d (blocks p) → Shown (λ q r. apart (alpha_of q) (alpha_of r)) (most_alpha g p d (blocks p))
   unfolding off_by
-  the-largest-alpha-is-reached = most-shown (λ q r. apart (alpha_of q) (alpha_of r))
+  the_largest_alpha_is_reached = most_shown (λ q r. apart (alpha_of q) (alpha_of r))
 
 -- ---- "no pixel is counted exactly where the pictures of the two plain readers are equal"
 
@@ -257,48 +257,48 @@ of_place m n k h l =
     (rw (a, b) (div-add-mod' n m), omega arith, omega arith)
 
 module _ (g : Guard) (sound : Sound g) (eight : size_of g.own ≡ 8) (p : Picture) (d image : List ℕ) where
-  other-eight : size_of g.shown ≡ 8
-  other-eight = sym sound.one_size ∙ eight
+  other_eight : size_of g.shown ≡ 8
+  other_eight = sym sound.one_size ∙ eight
 
   -- what is shown at element k, by the place
-  by-eight : (s k : ℕ) → s ≡ 8 → (f : List ℕ → ℕ → ℕ → ℕ) → pixel_at f s p d k ≡ f (bytes_of 8 d (block_at p k)) (column p k % 4) (row p k % 4)
-  by-eight s k e f = ap (λ (z : ℕ). f (bytes_of z d (block_at p k)) (column p k % 4) (row p k % 4)) e
+  by_eight : (s k : ℕ) → s ≡ 8 → (f : List ℕ → ℕ → ℕ → ℕ) → pixel_at f s p d k ≡ f (bytes_of 8 d (block_at p k)) (column p k % 4) (row p k % 4)
+  by_eight s k e f = ap (λ (z : ℕ). f (bytes_of z d (block_at p k)) (column p k % 4) (row p k % 4)) e
 
   module _ (e : wrong_pixels g p d (blocks p) ≡ 0) where
-    no-wrong : (n k : ℕ) → n < blocks p → k < 16 → wrong_at g p d n k ≡ false
-    no-wrong n k h l = decide (wrong_at g p d n k) refl
+    no_wrong : (n k : ℕ) → n < blocks p → k < 16 → wrong_at g p d n k ≡ false
+    no_wrong n k h l = decide (wrong_at g p d n k) refl
       where
         decide : (t : Bool) → wrong_at g p d n k ≡ t → wrong_at g p d n k ≡ false
         decide true q = absurd (omega (arith, somewhere (wrong_at g p d n) 16 k l q, no_part (λ b. count_of (wrong_at g p d b) 16) (blocks p) n e h))
         decide false q = q
 
     same_at : (n k : ℕ) → n < blocks p → k < 16 → in_picture p n k ≡ true → older_at g d n k ≡ newer_at g d n k
-    same_at n k h l s = alike (in_picture p n k) (eqb (older_at g d n k) (newer_at g d n k)) s (no-wrong n k h l) refl
+    same_at n k h l s = alike (in_picture p n k) (eqb (older_at g d n k) (newer_at g d n k)) s (no_wrong n k h l) refl
       where
         alike : (a b : Bool) → a ≡ true → (a && not b) ≡ false → eqb (older_at g d n k) (newer_at g d n k) ≡ b → older_at g d n k ≡ newer_at g d n k
         alike true true s q r = eqb-true _ _ r
         alike true false s q r = absurd (true≢false q)
         alike false b s q r = absurd (true≢false (sym s))
 
-    pub nothing-counted-then-alike : picture_of g.own p d image ≡ picture_of g.shown p d image
-    nothing-counted-then-alike =
+    pub nothing_counted_then_alike : picture_of g.own p d image ≡ picture_of g.shown p d image
+    nothing_counted_then_alike =
         painted_same (inside p) (pixel_at (shows_of g.own) (size_of g.own) p d) (pixel_at (shows_of g.shown) (size_of g.shown) p d) image
         (λ k i.
         let x = column p k in
         let y = row p k in
         let q = placed x y in
-        by-eight (size_of g.own) k eight (shows_of g.own)
-        ∙ sym (rw (q.0, q.1) at (sym (same_at (block_at p k) (y % 4 * 4 + x % 4) (block_in p k i) q.2 (at_pixel p.width p.height x y (column-in p k i) (row_in p k i)))))
-        ∙ sym (by-eight (size_of g.shown) k other-eight (shows_of g.shown)))
+        by_eight (size_of g.own) k eight (shows_of g.own)
+        ∙ sym (rw (q.0, q.1) at (sym (same_at (block_at p k) (y % 4 * 4 + x % 4) (block_in p k i) q.2 (at_pixel p.width p.height x y (column_in p k i) (row_in p k i)))))
+        ∙ sym (by_eight (size_of g.shown) k other_eight (shows_of g.shown)))
 
   module _ (wide : p.width ≤ p.pitch) (long : needed p ≤ length image) (e : picture_of g.own p d image ≡ picture_of g.shown p d image) where
-    same-pixel : (k : ℕ) → So (inside p k) → k < length image → pixel_at (shows_of g.own) (size_of g.own) p d k ≡ pixel_at (shows_of g.shown) (size_of g.shown) p d k
-    same-pixel k i l =
+    same_pixel : (k : ℕ) → So (inside p k) → k < length image → pixel_at (shows_of g.own) (size_of g.own) p d k ≡ pixel_at (shows_of g.shown) (size_of g.shown) p d k
+    same_pixel k i l =
         let t = from_so (inside p k) i in
         sym (ap (λ (b : Bool). cond b (pixel_at (shows_of g.own) (size_of g.own) p d k) (get_or image k 0)) t)
-        ∙ sym (get_d_painted (inside p) (pixel_at (shows_of g.own) (size_of g.own) p d) image k l)
+        ∙ sym (get_or_painted (inside p) (pixel_at (shows_of g.own) (size_of g.own) p d) image k l)
         ∙ ap (λ (z : List ℕ). get_or z k 0) e
-        ∙ get_d_painted (inside p) (pixel_at (shows_of g.shown) (size_of g.shown) p d) image k l
+        ∙ get_or_painted (inside p) (pixel_at (shows_of g.shown) (size_of g.shown) p d) image k l
         ∙ ap (λ (b : Bool). cond b (pixel_at (shows_of g.shown) (size_of g.shown) p d k) (get_or image k 0)) t
 
     at_place : (n k : ℕ) → 0 < across p.width → k < 16 → in_picture p n k ≡ true → older_at g d n k ≡ newer_at g d n k
@@ -309,14 +309,14 @@ module _ (g : Guard) (sound : Sound g) (eight : size_of g.own ≡ 8) (p : Pictur
         let t = both (ltb x p.width) (ltb y p.height) s in
         let i = ltb-true x p.width t.0 in
         let j = ltb-true y p.height t.1 in
-        let c = column-at p x y (omega (arith, i, wide)) in
+        let c = column_at p x y (omega (arith, i, wide)) in
         let r = row_at p x y (omega (arith, i, wide)) in
         let q = of_place m n k some l in
-        let a = same-pixel (element p x y) (inside-at p wide x y i j) (reached p x y (length image) (roomy p (length image) wide long) i j) in
-        rw (eight, other-eight, c, r, q.0, q.1, q.2) at a
+        let a = same_pixel (element p x y) (inside_at p wide x y i j) (reached p x y (length image) (roomy p (length image) wide long) i j) in
+        rw (eight, other_eight, c, r, q.0, q.1, q.2) at a
 
-    pub alike-then-nothing-counted : wrong_pixels g p d (blocks p) ≡ 0
-    alike-then-nothing-counted = sum_nothing (λ b. count_of (wrong_at g p d b) 16) (blocks p) (λ n h.
+    pub alike_then_nothing_counted : wrong_pixels g p d (blocks p) ≡ 0
+    alike_then_nothing_counted = sum_nothing (λ b. count_of (wrong_at g p d b) 16) (blocks p) (λ n h.
         nowhere (wrong_at g p d n) 16
         (λ k l. not_wrong (in_picture p n k) (older_at g d n k) (newer_at g d n k) (at_place n k (some_of p n h (across p.width) refl) l)))
 

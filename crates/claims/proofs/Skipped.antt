@@ -33,11 +33,11 @@ pub record SameKept (d e : List ℕ) : Type 0 where
   pub same : kept rest ≡ kept rest'
 
 module _ (d e : List ℕ) (a : SameKept d e) where
-  head-is : head_in d ≡ head_in e
-  head-is = ap first a.meets ∙ sym (ap first a.meets')
+  head_is : head_in d ≡ head_in e
+  head_is = ap first a.meets ∙ sym (ap first a.meets')
 
-  blocks-are : blocks_in d ≡ blocks_in e
-  blocks-are =
+  blocks_are : blocks_in d ≡ blocks_in e
+  blocks_are =
       ap (λ (z : Records). (first (kept (later z))).payload) a.meets
       ∙ ap (λ (z : Records). (first z).payload) a.same
       ∙ sym (ap (λ (z : Records). (first (kept (later z))).payload) a.meets')
@@ -51,20 +51,20 @@ module _ (d e : List ℕ) (a : SameKept d e) where
   tells_alike sheet p =
       p
       ∙ walks (head_said d)
-      ∙ ap (λ (r : Record). walk e (0 ∷ format_in r ∷ (size_in r).width ∷ (size_in r).height ∷ [])) head-is
+      ∙ ap (λ (r : Record). walk e (0 ∷ format_in r ∷ (size_in r).width ∷ (size_in r).height ∷ [])) head_is
 
   reads : (n : ℕ) → read_verdict d n ≡ read_verdict e n
   unfolding read_verdict
   reads n =
-      walks (room_said n (size_in (head_in d))) ∙ ap (λ (r : Record). walk e (room_said n (size_in r))) head-is
+      walks (room_said n (size_in (head_in d))) ∙ ap (λ (r : Record). walk e (room_said n (size_in r))) head_is
 
   picture : (image : List ℕ) → sheet_picture d image ≡ sheet_picture e image
   picture image =
-      ap (λ (r : Record). picture_of (format_of (format_in r)) (size_in r) (blocks_in d) image) head-is
-      ∙ ap (λ (b : List ℕ). picture_of (format_of (format_in (head_in e))) (size_in (head_in e)) b image) blocks-are
+      ap (λ (r : Record). picture_of (format_of (format_in r)) (size_in r) (blocks_in d) image) head_is
+      ∙ ap (λ (b : List ℕ). picture_of (format_of (format_in (head_in e))) (size_in (head_in e)) b image) blocks_are
 
-  pub reads-alike : (image new : List ℕ) (answer : Answer) → ReadsSheet d image answer new → ReadsSheet e image answer new
-  reads-alike image new answer p =
+  pub reads_alike : (image new : List ℕ) (answer : Answer) → ReadsSheet d image answer new → ReadsSheet e image answer new
+  reads_alike image new answer p =
       record {
         says = p.says ∙ reads (length image);
         leaves =

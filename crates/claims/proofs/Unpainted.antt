@@ -27,8 +27,8 @@ module _ (viewer : Viewer) (d : List ℕ) (w h elements : ℕ) (a b : Answer) wh
     same : needed (sized w h) ≤ elements → a ≡ b
     same long = answer a b (check ∙ sym (without_image w h elements (λ e. long) viewer (length d) then) ∙ sym read)
 
-    same-or-short : (b ≡ ShortImage) ⊎ (a ≡ b)
-    same-or-short =
+    same_or_short : (b ≡ ShortImage) ⊎ (a ≡ b)
+    same_or_short =
         ⊎_elim
         (λ e. inl (answer b ShortImage (read ∙ e)))
         (λ e. inr (answer a b (check ∙ sym e ∙ sym read)))
@@ -37,19 +37,19 @@ module _ (viewer : Viewer) (d : List ℕ) (w h elements : ℕ) (a b : Answer) wh
 module _ (d : List ℕ) (w h : ℕ) (image : List ℕ) (a b : Answer) (new : List ℕ) where
   -- strict ETC1
   module _ (check : ChecksStrict d (sized w h) a) (read : ReadsStrict d (sized w h) image b new) where
-    pub check-strict-answers-as-the-reader : needed (sized w h) ≤ length image → a ≡ b
-    check-strict-answers-as-the-reader = same Etc1 d w h (length image) a b check read.says
+    pub check_strict_answers_as_the_reader : needed (sized w h) ≤ length image → a ≡ b
+    check_strict_answers_as_the_reader = same Etc1 d w h (length image) a b check read.says
 
-    pub check-strict-but-for-a-short-image : (b ≡ ShortImage) ⊎ (a ≡ b)
-    check-strict-but-for-a-short-image = same-or-short Etc1 d w h (length image) a b check read.says
+    pub check_strict_but_for_a_short_image : (b ≡ ShortImage) ⊎ (a ≡ b)
+    check_strict_but_for_a_short_image = same_or_short Etc1 d w h (length image) a b check read.says
 
   -- RGBA1 for an opaque-only viewer
   module _ (check : ChecksOpaque d (sized w h) a) (read : ReadsOpaque d (sized w h) image b new) where
-    pub check-opaque-answers-as-the-reader : needed (sized w h) ≤ length image → a ≡ b
-    check-opaque-answers-as-the-reader = same Opaque d w h (length image) a b check read.says
+    pub check_opaque_answers_as_the_reader : needed (sized w h) ≤ length image → a ≡ b
+    check_opaque_answers_as_the_reader = same Opaque d w h (length image) a b check read.says
 
-    pub check-opaque-but-for-a-short-image : (b ≡ ShortImage) ⊎ (a ≡ b)
-    check-opaque-but-for-a-short-image = same-or-short Opaque d w h (length image) a b check read.says
+    pub check_opaque_but_for_a_short_image : (b ≡ ShortImage) ⊎ (a ≡ b)
+    check_opaque_but_for_a_short_image = same_or_short Opaque d w h (length image) a b check read.says
 
 -- no second answer satisfies what a check promises
 pub check_determined : (verdict : List ℕ) (a b : Answer) → said a ≡ verdict → said b ≡ verdict → a ≡ b

@@ -16,20 +16,20 @@ use Rattle.degrees.proofs.floats.Within.{less_within, is_number_lem}
 use Rattle.degrees.proofs.floats.Predicted.{predicted_within}
 
 module _ (legend : Legend) (named shown pixel : ℕ) (measured : Float) where
-  pub bad-legend : sound legend ≡ false → ReadsDegrees legend named shown pixel measured BadLegend
-  bad-legend l = record { says = rw l; holds = tt }
+  pub bad_legend : sound legend ≡ false → ReadsDegrees legend named shown pixel measured BadLegend
+  bad_legend l = record { says = rw l; holds = tt }
 
   module _ (l : sound legend ≡ true) where
-    pub bad-digit : one_digit_lem named shown ≡ false → ReadsDegrees legend named shown pixel measured BadDigit
-    bad-digit d = record { says = rw (l, d); holds = tt }
+    pub bad_digit : one_digit_lem named shown ≡ false → ReadsDegrees legend named shown pixel measured BadDigit
+    bad_digit d = record { says = rw (l, d); holds = tt }
 
     module _ (same : one_digit_lem named shown ≡ true) where
-      pub bad-measurement : in_degrees_lem measured ≡ false → ReadsDegrees legend named shown pixel measured BadMeasurement
-      bad-measurement m = record { says = rw (l, same, m); holds = tt }
+      pub bad_measurement : in_degrees_lem measured ≡ false → ReadsDegrees legend named shown pixel measured BadMeasurement
+      bad_measurement m = record { says = rw (l, same, m); holds = tt }
 
       module _ (m : in_degrees_lem measured ≡ true) where
-        pub not-measured : eqb (alpha_of pixel) 0 ≡ true → ReadsDegrees legend named shown pixel measured NotMeasured
-        not-measured a = record { says = rw (l, same, m, a); holds = tt }
+        pub not_measured : eqb (alpha_of pixel) 0 ≡ true → ReadsDegrees legend named shown pixel measured NotMeasured
+        not_measured a = record { says = rw (l, same, m, a); holds = tt }
 
         pub reads :
             eqb (alpha_of pixel) 0 ≡ false

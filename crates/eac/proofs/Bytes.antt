@@ -7,7 +7,7 @@ use lib.Signed.{mag, lt_z, non_neg}
 use Rattle.rules.specs.Notation.{byte, bits, build}
 use Rattle.rules.specs.Channels.{alpha_steps_lem, alpha_step, centre, multiplier, eac_value, eac_byte}
 use Rattle.rules.specs.Whole.{least, most, between, middle, added, eac_whole_lem}
-use Rattle.laws.proofs.Filled.{getD-build, build_same}
+use Rattle.laws.proofs.Filled.{get_or_build, build_same}
 use Rattle.laws.proofs.Signed.{held, held_is, held_small, clamp_le}
 use Rattle.etc_alpha.specs.picks.Picks.{pick_at}
 use Rattle.eac.specs.Eights.{steps_in_lem, whole_of, eighth_of, number_at}
@@ -63,19 +63,19 @@ module _ (d : List ℕ) (steps : List ℤ) (row j : ℕ) (es : steps ≡ get_or 
   step_is : get_or steps j (pos 0) ≡ get_or (steps_in_lem d) j (pos 0)
   step_is = ap (λ (l : List ℤ). get_or l j (pos 0)) (es ∙ ap (λ (n : ℕ). get_or alpha_steps_lem n []) er)
 
-  pub step-held : held w16 (get_or steps j (pos 0)) ≡ get_or (steps_in_lem d) j (pos 0)
-  step-held = held_is w16 _ _ step_is (omega (arith, small_row (bits 3 0 (byte d 1)) j (omega arith)))
+  pub step_held : held w16 (get_or steps j (pos 0)) ≡ get_or (steps_in_lem d) j (pos 0)
+  step_held = held_is w16 _ _ step_is (omega (arith, small_row (bits 3 0 (byte d 1)) j (omega arith)))
 
   pub step_small : mag (held w16 (get_or steps j (pos 0))) < 16
-  step_small = rw step-held (small_row (bits 3 0 (byte d 1)) j (omega arith))
+  step_small = rw step_held (small_row (bits 3 0 (byte d 1)) j (omega arith))
 
 -- what the machine makes of a block's middle, multiplier and steps, clamped, is the value of its number
 module _ (signed : Bool) (d : List ℕ) (base low high w s : ℤ) (m j : ℕ)
     (eb : base ≡ middle signed (byte d 0)) (bb : mag base < 4096) (em : m ≡ multiplier (bits 7 4 (byte d 1)))
     (el : low ≡ least signed) (eh : high ≡ most signed) (es : s ≡ get_or (steps_in_lem d) j (pos 0))
     (e : w ≡ between (held w16 low) (held w16 high) (held w16 base +ℤ pos m *ℤ s)) where
-  pub whole-at : held w16 w ≡ whole_of signed d j
-  whole-at =
+  pub whole_at_lem : held w16 w ≡ whole_of signed d j
+  whole_at_lem =
       held_is w16 w _
       (e
       ∙ moved_same (held_is w16 low (least signed) el (small_least signed)) (held_is w16 high (most signed) eh (small_most signed))
@@ -84,11 +84,11 @@ module _ (signed : Bool) (d : List ℕ) (base low high w s : ℤ) (m j : ℕ)
 
 -- a value that is one of a block's
 module _ (signed : Bool) (d : List ℕ) (v : ℤ) (j up : ℕ) (e : v ≡ whole_of signed d j) (u : up ≡ added signed) where
-  pub whole-small : mag v < 2048
-  whole-small = subst (λ (z : ℤ). mag z < 2048) (sym e) (small_whole signed d j).small
+  pub whole_small : mag v < 2048
+  whole_small = subst (λ (z : ℤ). mag z < 2048) (sym e) (small_whole signed d j).small
 
-  pub whole-raised : T (non_neg (pos up +ℤ v))
-  whole-raised =
+  pub whole_raised : T (non_neg (pos up +ℤ v))
+  whole_raised =
       subst (λ (z : ℤ). T (non_neg (pos up +ℤ z))) (sym e)
       (subst (λ (n : ℕ). T (non_neg (pos n +ℤ whole_of signed d j))) (sym u)
       (not_negative (added signed) (small_whole signed d j).value (whole_of signed d j) (small_whole signed d j).is))
@@ -102,20 +102,20 @@ module _ (signed : Bool) (d : List ℕ) (v : ℤ) (j up : ℕ) (e : v ≡ whole_
 
 -- eight of them
 module _ (signed : Bool) (d : List ℕ) (wholes : List ℤ) (e : wholes ≡ build 8 (whole_of signed d)) where
-  pub wholes-at : (j : ℕ) → j < 8 → get_or wholes j (pos 0) ≡ whole_of signed d j
-  wholes-at j h = ap (λ (l : List ℤ). get_or l j (pos 0)) e ∙ getD-build (whole_of signed d) (pos 0) 8 j h
+  pub wholes_at : (j : ℕ) → j < 8 → get_or wholes j (pos 0) ≡ whole_of signed d j
+  wholes_at j h = ap (λ (l : List ℤ). get_or l j (pos 0)) e ∙ get_or_build (whole_of signed d) (pos 0) 8 j h
 
 -- what pixel k picks of eight numbers, and of eight that have a rule
 pub picked_at : (d : List ℕ) (eight sixteen : List ℤ) (k : ℕ) → sixteen ≡ build 16 (pick_at d eight) → k < 16 → get_or sixteen k (pos 0) ≡ get_or eight (number_at d k) (pos 0)
 unfolding pick_at
-picked_at d eight sixteen k g h = ap (λ (l : List ℤ). get_or l k (pos 0)) g ∙ getD-build (pick_at d eight) (pos 0) 16 k h
+picked_at d eight sixteen k g h = ap (λ (l : List ℤ). get_or l k (pos 0)) g ∙ get_or_build (pick_at d eight) (pos 0) 16 k h
 
 pub picks : (f : ℕ → ℤ) (d : List ℕ) (eight sixteen : List ℤ) (k : ℕ) → eight ≡ build 8 f → sixteen ≡ build 16 (pick_at d eight) → k < 16
     → get_or sixteen k (pos 0) ≡ f (number_at d k)
 picks f d eight sixteen k e g h =
     picked_at d eight sixteen k g h
     ∙ ap (λ (l : List ℤ). get_or l (number_at d k) (pos 0)) e
-    ∙ getD-build f (pos 0) 8 (number_at d k) (omega arith)
+    ∙ get_or_build f (pos 0) 8 (number_at d k) (omega arith)
 
 -- its value and its byte are those of the pixel
 pub whole_picked : (signed : Bool) (d : List ℕ) (k : ℕ) → whole_of signed d (number_at d k) ≡ eac_whole_lem signed d (k % 4) (k / 4)
@@ -128,16 +128,16 @@ byte_picked signed d k =
 
 -- eight eighths, and the bytes that are picked of them
 module _ (signed : Bool) (d : List ℕ) (eight : List ℤ) (e : eight ≡ build 8 (λ j. pos (eighth_of signed d j))) where
-  eight-at : (j : ℕ) → j < 8 → get_or eight j (pos 0) ≡ pos (eighth_of signed d j)
-  eight-at j h = ap (λ (l : List ℤ). get_or l j (pos 0)) e ∙ getD-build (λ j. pos (eighth_of signed d j)) (pos 0) 8 j h
+  eight_at : (j : ℕ) → j < 8 → get_or eight j (pos 0) ≡ pos (eighth_of signed d j)
+  eight_at j h = ap (λ (l : List ℤ). get_or l j (pos 0)) e ∙ get_or_build (λ j. pos (eighth_of signed d j)) (pos 0) 8 j h
 
-  pub eights-are-bytes : (j : ℕ) → j < 8 → T (non_neg (get_or eight j (pos 0))) × (mag (get_or eight j (pos 0)) < 256)
-  eights-are-bytes j h = rw (eight-at j h) (tt, small_eighth signed d j)
+  pub eights_are_bytes : (j : ℕ) → j < 8 → T (non_neg (get_or eight j (pos 0))) × (mag (get_or eight j (pos 0)) < 256)
+  eights_are_bytes j h = rw (eight_at j h) (tt, small_eighth signed d j)
 
   pub bytes_of : (r : List ℕ) → r ≡ build 16 (λ k. nat_abs (get_or eight (number_at d k) (pos 0))) → r ≡ build 16 (λ k. eac_byte signed d (k % 4) (k / 4))
   bytes_of r q =
       q ∙ build_same 0 (λ k. nat_abs (get_or eight (number_at d k) (pos 0))) (λ k. eac_byte signed d (k % 4) (k / 4)) 16
-      (λ k h. ap nat_abs (eight-at (number_at d k) (omega arith)) ∙ byte_picked signed d k)
+      (λ k h. ap nat_abs (eight_at (number_at d k) (omega arith)) ∙ byte_picked signed d k)
 
 -- the byte of place k, row by row
 abbrev pub byte_at : Bool → List ℕ → ℕ → ℕ
@@ -150,7 +150,7 @@ small_byte signed d k =
 
 module _ (signed : Bool) (d bytes : List ℕ) (k : ℕ) (e : bytes ≡ build 16 (byte_at signed d)) (h : k < 16) where
   pub byte-at : get_or bytes k 0 ≡ byte_at signed d k
-  byte-at = ap (λ (l : List ℕ). get_or l k 0) e ∙ getD-build (byte_at signed d) 0 16 k h
+  byte-at = ap (λ (l : List ℕ). get_or l k 0) e ∙ get_or_build (byte_at signed d) 0 16 k h
 
   pub byte_small : get_or bytes k 0 < 256
   byte_small = omega (arith, byte-at, small_byte signed d k)

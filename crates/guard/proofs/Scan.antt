@@ -55,7 +55,7 @@ sound Etc1 = strict_sound
 sound Opaque = opaque_sound
 
 -- what is said of one block, by a refusal's number: the refusal, or that it goes on
-module _ (number : ℕ) (is-refusal : 0 < number) (a : Answer) (t : Bool) (i : ℕ) where
+module _ (number : ℕ) (is_refusal : 0 < number) (a : Answer) (t : Bool) (i : ℕ) where
   pub refused : said a ≡ cond t (number ∷ i ∷ []) (0 ∷ []) → accepts (said a) ≡ false → (t ≡ true) × (said a ≡ number ∷ i ∷ [])
   refused e h = decide t refl
     where

@@ -78,8 +78,8 @@ module _ (block : ℕ → List ℕ) where
   every (suc n) = omega (arith, every n)
 
   -- and where exactly one holds at each place, they make the number of places
-  pub adds-up : (tests : List Test) → ((k : ℕ) → holding (met tests (block k)) ≡ 1) → (n : ℕ) → total (counts block n tests) ≡ n
-  adds-up tests h n = joined tests (λ d. true) h n ∙ every n
+  pub adds_up : (tests : List Test) → ((k : ℕ) → holding (met tests (block k)) ≡ 1) → (n : ℕ) → total (counts block n tests) ≡ n
+  adds_up tests h n = joined tests (λ d. true) h n ∙ every n
 
 -- a test that alone holds is one
 nothing : (ts : List Bool) → none ts ≡ true → holding ts ≡ 0

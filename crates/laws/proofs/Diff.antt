@@ -89,11 +89,11 @@ pub is_gap : {z y : ℤ} {a c : ℕ} → Is z a 0 → Is y c 0 → Is (z -ℤ y)
 is_gap {z} {y} {a} {c} p q = record { eq = ap (λ (u : ℤ). u -ℤ y) p.eq ∙ ap (λ (u : ℤ). sub_ℕ a 0 -ℤ u) q.eq ∙ less a 0 c 0 ∙ even (a + 0) (0 + c) a c (omega arith) }
 
 module _ {z y : ℤ} {a b c : ℕ} where
-  pub is-plus : Is z a b → Is y c 0 → Is (z +ℤ y) (a + c) b
-  is-plus p q = record { eq = ap (λ (u : ℤ). u +ℤ y) p.eq ∙ ap (λ (u : ℤ). sub_ℕ a b +ℤ u) q.eq ∙ sum a b c 0 ∙ even (a + c) (b + 0) (a + c) b (omega arith) }
+  pub is_plus : Is z a b → Is y c 0 → Is (z +ℤ y) (a + c) b
+  is_plus p q = record { eq = ap (λ (u : ℤ). u +ℤ y) p.eq ∙ ap (λ (u : ℤ). sub_ℕ a b +ℤ u) q.eq ∙ sum a b c 0 ∙ even (a + c) (b + 0) (a + c) b (omega arith) }
 
-  pub is-times : Is y c 0 → Is z a b → Is (y *ℤ z) (c * a) (c * b)
-  is-times q p = record { eq = ap (λ (u : ℤ). u *ℤ z) (q.eq ∙ sym (whole c)) ∙ ap (λ (u : ℤ). pos c *ℤ u) p.eq ∙ times c a b }
+  pub is_times : Is y c 0 → Is z a b → Is (y *ℤ z) (c * a) (c * b)
+  is_times q p = record { eq = ap (λ (u : ℤ). u *ℤ z) (q.eq ∙ sym (whole c)) ∙ ap (λ (u : ℤ). pos c *ℤ u) p.eq ∙ times c a b }
 
 pub is_sum : {z y : ℤ} {a b c d : ℕ} → Is z a b → Is y c d → Is (z +ℤ y) (a + c) (b + d)
 is_sum {z} {y} {a} {b} {c} {d} p q = record { eq = ap (λ (u : ℤ). u +ℤ y) p.eq ∙ ap (λ (u : ℤ). sub_ℕ a b +ℤ u) q.eq ∙ sum a b c d }
@@ -102,15 +102,15 @@ pub is_pos : (n : ℕ) → Is (pos n) n 0
 is_pos n = record { eq = whole n }
 
 module _ (w : Width) where
-  pub is-cast : (a : ℕ) → a < 2 ^ hbits w → Is (to_z w a) a 0
-  is-cast a h = record { eq = to_z_pos w a h ∙ whole a }
+  pub is_cast : (a : ℕ) → a < 2 ^ hbits w → Is (to_z w a) a 0
+  is_cast a h = record { eq = to_z_pos w a h ∙ whole a }
 
   module _ {z : ℤ} {a b : ℕ} (e : Is z a b) (h : a < 2 ^ hbits w) (k : b ≤ 2 ^ hbits w) where
-    pub is-fits : SFits w z
-    is-fits = record { sfits = rw e.eq (mag_diff a b (2 ^ hbits w) h k) }
+    pub is_fits : SFits w z
+    is_fits = record { sfits = rw e.eq (mag_diff a b (2 ^ hbits w) h k) }
 
     pub is_held : Is (held w z) a b
-    is_held = record { eq = to_z-of_z w z is-fits ∙ e.eq }
+    is_held = record { eq = to_z-of_z w z is_fits ∙ e.eq }
 
 -- the sign, and a quotient toward zero of what is not negative
 module _ {z : ℤ} {a b : ℕ} (e : Is z a b) where
@@ -121,16 +121,16 @@ module _ {z : ℤ} {a b : ℕ} (e : Is z a b) where
         | no q ↦ absurd (subst T (sym t ∙ ap (λ (u : ℤ). lt_z u (pos 0)) (e.eq ∙ nat a b (omega (arith, q))) ∙ le-ltb (a - b) 0 (omega arith)) tt)
       ]
 
-  pub is-natural : lt_z z (pos 0) ≡ false → b ≤ a
-  is-natural t =
+  pub is_natural : lt_z z (pos 0) ≡ false → b ≤ a
+  is_natural t =
       elim (dec_lt a b) [
         | yes p ↦ absurd (subst T (sym (ap (λ (u : ℤ). lt_z u (pos 0)) (e.eq ∙ neg a b p)) ∙ t) tt)
         | no q ↦ omega (arith, q)
       ]
 
-  pub is-quotient : (n : ℕ) → b ≤ a → quot_z z (pos n) ≡ pos ((a - b) / n)
-  is-quotient n h = ap (λ (u : ℤ). quot_z u (pos n)) (e.eq ∙ nat a b h)
+  pub is_quotient : (n : ℕ) → b ≤ a → quot_z z (pos n) ≡ pos ((a - b) / n)
+  is_quotient n h = ap (λ (u : ℤ). quot_z u (pos n)) (e.eq ∙ nat a b h)
 
   -- a fourth, rounded down and clamped
-  pub is-quartered : clamp 255 (shr_z z 4) ≡ min ((a - b) / 4) 255
-  is-quartered = ap (λ (u : ℤ). clamp 255 (shr_z u 4)) e.eq ∙ quartered a b
+  pub is_quartered : clamp 255 (shr_z z 4) ≡ min ((a - b) / 4) 255
+  is_quartered = ap (λ (u : ℤ). clamp 255 (shr_z u 4)) e.eq ∙ quartered a b

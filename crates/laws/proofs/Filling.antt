@@ -7,7 +7,7 @@ use Prim.Native.Nat.{ℕ, ◌+◌, ◌<◌, ◌≤◌}
 use native.Mathlib.Omega.{arith}
 use lib.ListN.{length, get_or, set, length-set}
 use Rattle.rules.specs.Notation.{build}
-use Rattle.laws.proofs.Filled.{fills-by, is-build}
+use Rattle.laws.proofs.Filled.{fills_by, is_build}
 
 pub record Filling {A : Type 0} (turn : ℕ → ℕ) (f : ℕ → A) (z : A) (n i : ℕ) (l : List A) : Type 0 where
   pub turns : i ≤ n
@@ -24,11 +24,11 @@ module _ {A : Type 0} (turn : ℕ → ℕ) (f : ℕ → A) (z : A) (n : ℕ) whe
       record {
         turns = omega arith;
         size = length-set l o v ∙ p.size;
-        passed = fills-by f z turn n l i o v (omega (arith, p.size)) u p.passed e;
+        passed = fills_by f z turn n l i o v (omega (arith, p.size)) u p.passed e;
       }
 
   pub filled : (l : List A) (i : ℕ) → Filling turn f z n i l → ((k : ℕ) → k < n → turn k < i) → l ≡ build n f
-  filled l i p h = is-build f z n l p.size (λ k b. p.passed k b (h k b))
+  filled l i p h = is_build f z n l p.size (λ k b. p.passed k b (h k b))
 
 -- the same in order
 abbrev pub in_order_lem : ℕ → ℕ
@@ -38,5 +38,5 @@ module _ {A : Type 0} (f : ℕ → A) (z : A) (n : ℕ) (l : List A) (i : ℕ) (
   pub stored_next : (v : A) → i < n → v ≡ f i → Filling in_order_lem f z n (i + 1) (set l i v)
   stored_next v h e = stored in_order_lem f z n l i i v p h h (λ k b t. t) e
 
-  pub filled-all : n ≤ i → l ≡ build n f
-  filled-all h = filled in_order_lem f z n l i p (λ k b. omega arith)
+  pub filled_all : n ≤ i → l ≡ build n f
+  filled_all h = filled in_order_lem f z n l i p (λ k b. omega arith)

@@ -23,11 +23,11 @@ module _ (number : ℕ) (test : ℕ → Bool) (n : ℕ) where
   pub finds : first_of test n < n → guarded number test n ≡ number ∷ first_of test n ∷ []
   finds h = rw (lt-ltb (first_of test n) n h)
 
-  pub finds-none : n ≤ first_of test n → guarded number test n ≡ 0 ∷ []
-  finds-none h = rw (le-ltb (first_of test n) n h)
+  pub finds_none : n ≤ first_of test n → guarded number test n ≡ 0 ∷ []
+  finds_none h = rw (le-ltb (first_of test n) n h)
 
   -- and back, since a refusal's number is not 0
-  module _ (is-refusal : 0 < number) where
+  module _ (is_refusal : 0 < number) where
     clash : (l : List ℕ) → accepts (number ∷ l) ≡ true → ⊥
     clash l e = true≢false (sym e ∙ ne_eqb number 0 (λ z. omega (arith, z)))
 
@@ -38,8 +38,8 @@ module _ (number : ℕ) (test : ℕ → Bool) (n : ℕ) where
           | no h ↦ omega (arith, h)
         ]
 
-    pub none-bad : guarded number test n ≡ 0 ∷ [] → (k : ℕ) → k < n → test k ≡ false
-    none-bad e k h = (first test n).none k (omega (arith, accepted (ap accepts e)))
+    pub none_bad : guarded number test n ≡ 0 ∷ [] → (k : ℕ) → k < n → test k ≡ false
+    none_bad e k h = (first test n).none k (omega (arith, accepted (ap accepts e)))
 
     pub named : (i : ℕ) → guarded number test n ≡ number ∷ i ∷ [] → (i ≡ first_of test n) × (i < n)
     named i e =
@@ -47,20 +47,20 @@ module _ (number : ℕ) (test : ℕ → Bool) (n : ℕ) where
           | yes h ↦
               let z : first_of test n ≡ i = ap (λ (l : List ℕ). get_or l 1 0) (sym (finds h) ∙ e) in
               (sym z, omega arith)
-          | no h ↦ absurd (clash (i ∷ []) (ap accepts (sym e ∙ finds-none (omega (arith, h)))))
+          | no h ↦ absurd (clash (i ∷ []) (ap accepts (sym e ∙ finds_none (omega (arith, h)))))
         ]
 
 -- What a guard owes: it refuses, its own rule reads blocks of the size of the rule that is shown, and the two agree on every block
 -- that it lets pass.
 pub record Sound (g : Guard) : Type 0 where
-  pub is-refusal : 0 < g.number
+  pub is_refusal : 0 < g.number
   pub one_size : size_of g.own ≡ size_of g.shown
   pub agree : (d : List ℕ) (x y : ℕ) → g.bad d ≡ false → shows_of g.own d x y ≡ shows_of g.shown d x y
 
 -- strict ETC1: a block in range reads the same under ETC1 and under ETC2 RGB
 pub strict_sound : Sound in_range
 unfolding size_of shows_of
-strict_sound = record { is-refusal = lit< tt; one_size = refl; agree = range.agree }
+strict_sound = record { is_refusal = lit< tt; one_size = refl; agree = range.agree }
 
 -- the opaque-only viewer: a block with its opaque bit set reads the same under ETC2 RGB and under RGBA1
 set : (t : Bool) → not t ≡ false → t ≡ true
@@ -73,4 +73,4 @@ opaque_agree d x y e = rw (set (differs d) e)
 
 pub opaque_sound : Sound opaque_only
 unfolding size_of shows_of
-opaque_sound = record { is-refusal = lit< tt; one_size = refl; agree = opaque_agree }
+opaque_sound = record { is_refusal = lit< tt; one_size = refl; agree = opaque_agree }

@@ -13,7 +13,7 @@ use lib.Dec.{T}
 use lib.Seq.{ext_get_or}
 use Rattle.rules.specs.Places.{painted}
 use Rattle.laws.specs.Painted.{Painted}
-use Rattle.laws.proofs.Filled.{is-build, length-build, getD-build}
+use Rattle.laws.proofs.Filled.{is_build, length_build, get_or_build}
 
 -- nothing is painted yet
 pub none : (P : ℕ → Type 0) (v : ℕ → ℕ) (l : List ℕ) → ((k : ℕ) → P k → ⊥) → Painted P v l l
@@ -60,16 +60,16 @@ module _ (a n : ℕ) (old part : List ℕ) (h : a + n ≤ length old) (e : lengt
   unfolding back
   at_left k l = get_or-append (take a old) _ 0 k (omega (arith, head)) ∙ get_or-take a old k 0 l
 
-  from-a : (i : ℕ) → get_or back (a + i) 0 ≡ get_or (part ++ drop n (drop a old)) i 0
+  from_a : (i : ℕ) → get_or back (a + i) 0 ≡ get_or (part ++ drop n (drop a old)) i 0
   unfolding back
-  from-a i = ap (λ (m : ℕ). get_or back (m + i) 0) (sym head) ∙ get_or-append-add (take a old) _ i 0
+  from_a i = ap (λ (m : ℕ). get_or back (m + i) 0) (sym head) ∙ get_or-append-add (take a old) _ i 0
 
   at_part : (i : ℕ) → i < n → get_or back (a + i) 0 ≡ get_or part i 0
-  at_part i l = from-a i ∙ get_or-append part _ 0 i (omega arith)
+  at_part i l = from_a i ∙ get_or-append part _ 0 i (omega arith)
 
   at_right : (j : ℕ) → get_or back (a + (n + j)) 0 ≡ get_or old (a + (n + j)) 0
   at_right j =
-      from-a (n + j)
+      from_a (n + j)
       ∙ ap (λ (m : ℕ). get_or (part ++ drop n (drop a old)) (m + j) 0) (sym e)
       ∙ get_or-append-add part _ j 0
       ∙ get_or-drop n (drop a old) j 0
@@ -89,7 +89,7 @@ lent P v a n old part h p =
       miss = λ k z. elim (dec_lt k a) [
         | yes l ↦ at_left a n old part h e k l
         | no l ↦ elim (dec_lt k (a + n)) [
-          | yes r ↦ in-part k (omega (arith, l)) r (λ q. z (omega (arith, l), r, q))
+          | yes r ↦ in_part k (omega (arith, l)) r (λ q. z (omega (arith, l), r, q))
           | no r ↦ behind k (omega (arith, r))
         ]
       ];
@@ -102,8 +102,8 @@ lent P v a n old part h p =
     again : (k : ℕ) → a ≤ k → k ≡ a + (k - a)
     again k l = omega arith
 
-    in-part : (k : ℕ) → a ≤ k → k < a + n → (P (k - a) → ⊥) → get_or (back a n old part h e) k 0 ≡ get_or old k 0
-    in-part k l r q =
+    in_part : (k : ℕ) → a ≤ k → k < a + n → (P (k - a) → ⊥) → get_or (back a n old part h e) k 0 ≡ get_or old k 0
+    in_part k l r q =
         ap (λ (m : ℕ). get_or (back a n old part h e) m 0) (again k l)
         ∙ at_part a n old part h e (k - a) (omega arith)
         ∙ p.miss (k - a) q
@@ -126,17 +126,17 @@ chosen false P a x y to from h m = m (λ p. absurd (from p))
 pub is_painted : (P : ℕ → Type 0) (t : ℕ → Bool) (v : ℕ → ℕ) (old new : List ℕ) → ((k : ℕ) → T (t k) → P k) → ((k : ℕ) → P k → T (t k)) → Painted P v old new → new ≡ painted t v old
 unfolding painted
 is_painted P t v old new to from p =
-    is-build (λ k. cond (t k) (v k) (get_or old k 0)) 0 (length old) new p.same
+    is_build (λ k. cond (t k) (v k) (get_or old k 0)) 0 (length old) new p.same
     (λ k h. chosen (t k) (P k) (get_or new k 0) (v k) (get_or old k 0) (to k) (from k) (p.hit k) (p.miss k))
 
 -- and what that list holds
 pub length_painted : (t : ℕ → Bool) (v : ℕ → ℕ) (old : List ℕ) → length (painted t v old) ≡ length old
 unfolding painted
-length_painted t v old = length-build (λ k. cond (t k) (v k) (get_or old k 0)) 0 (length old)
+length_painted t v old = length_build (λ k. cond (t k) (v k) (get_or old k 0)) 0 (length old)
 
-pub get_d_painted : (t : ℕ → Bool) (v : ℕ → ℕ) (old : List ℕ) (k : ℕ) → k < length old → get_or (painted t v old) k 0 ≡ cond (t k) (v k) (get_or old k 0)
+pub get_or_painted : (t : ℕ → Bool) (v : ℕ → ℕ) (old : List ℕ) (k : ℕ) → k < length old → get_or (painted t v old) k 0 ≡ cond (t k) (v k) (get_or old k 0)
 unfolding painted
-get_d_painted t v old k h = getD-build (λ k. cond (t k) (v k) (get_or old k 0)) 0 (length old) k h
+get_or_painted t v old k h = get_or_build (λ k. cond (t k) (v k) (get_or old k 0)) 0 (length old) k h
 
 -- painting with other values is the same where they agree on what is painted
 pub painted_same : (t : ℕ → Bool) (v u : ℕ → ℕ) (old : List ℕ) → ((k : ℕ) → T (t k) → v k ≡ u k) → painted t v old ≡ painted t u old
@@ -144,7 +144,7 @@ painted_same t v u old e =
     ext_get_or 0 (painted t v old) (painted t u old) (length_painted t v old ∙ sym (length_painted t u old))
     (λ k h.
     let b : k < length old = omega (arith, length_painted t v old) in
-    get_d_painted t v old k b ∙ agree (t k) (v k) (u k) (get_or old k 0) (e k) ∙ sym (get_d_painted t u old k b))
+    get_or_painted t v old k b ∙ agree (t k) (v k) (u k) (get_or old k 0) (e k) ∙ sym (get_or_painted t u old k b))
   where
     agree : (b : Bool) (x y z : ℕ) → (T b → x ≡ y) → cond b x z ≡ cond b y z
     agree true x y z h = h tt

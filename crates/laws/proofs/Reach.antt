@@ -124,10 +124,10 @@ unfolding Narrow rgba1_pixel
 rgba1 d x y =
     let k = kinds d in
     either _ _ _ _ _ _ x y k (planar d)
-    (opaque-or-not (differs d) (eqb (index d x y) 2) _ _ _ _ (indexed_too steps_of _ _ d x y k) (indexed_too clear_steps _ _ d x y k))
+    (opaque_or_not (differs d) (eqb (index d x y) 2) _ _ _ _ (indexed_too steps_of _ _ d x y k) (indexed_too clear_steps _ _ d x y k))
   where
-    opaque-or-not : (s t : Bool) (v w a b : ℕ) → v ≡ w → a ≡ b → cond s v (cond t 0 a) ≡ cond s w (cond t 0 b)
-    opaque-or-not s t v w a b p q =
+    opaque_or_not : (s t : Bool) (v w a b : ℕ) → v ≡ w → a ≡ b → cond s v (cond t 0 a) ≡ cond s w (cond t 0 b)
+    opaque_or_not s t v w a b p q =
         ap (λ (v : ℕ). cond s v (cond t 0 a)) p ∙ ap (λ (a : ℕ). cond s w (cond t 0 a)) q
 
 alpha : Narrow alpha_byte

@@ -34,8 +34,8 @@ module _ (w v : ℕ) (h : w ≤ 8) (l : v < 2 ^ w) where
   pub shifted : v * 2 ^ (8 - w) % 2 ^ 32 ≡ v * 2 ^ (8 - w)
   shifted = shl_exact w (8 - w) 32 l (omega (arith, eights))
 
-  pub expand-byte : v * 2 ^ (8 - w) + v * 2 ^ (8 - w) / 2 ^ w < 2 ^ 8
-  expand-byte =
+  pub expand_byte : v * 2 ^ (8 - w) + v * 2 ^ (8 - w) / 2 ^ w < 2 ^ 8
+  expand_byte =
       let e : 8 ≡ (8 - w) + w = omega arith in
       subst (λ (m : ℕ). v * 2 ^ (8 - w) + v * 2 ^ (8 - w) / 2 ^ w < m) (sym (pow-add 2 w (8 - w)) ∙ ap (λ (m : ℕ). 2 ^ m) eights)
       (digits_lt l (shr_lt (8 - w) w (subst (λ (m : ℕ). v * 2 ^ (8 - w) < 2 ^ m) e scaled)))
@@ -45,11 +45,11 @@ module _ (v p w b : ℕ) (h : w + b ≤ 8) (l : v < 2 ^ w) (m : p < 2 ^ b) where
   pub put_up : v * 2 ^ b % 2 ^ 8 ≡ v * 2 ^ b
   put_up = shl_exact w b 8 l h
 
-  pub with-p : v * 2 ^ b + p < 2 ^ (w + b)
-  with-p = subst (λ (x : ℕ). v * 2 ^ b + p < x) (sym (pow-add 2 w b)) (digits_lt l m)
+  pub with_p : v * 2 ^ b + p < 2 ^ (w + b)
+  with_p = subst (λ (x : ℕ). v * 2 ^ b + p < x) (sym (pow-add 2 w b)) (digits_lt l m)
 
-  pub with-p-byte : v * 2 ^ b + p < 2 ^ 8
-  with-p-byte = lt_of_lt_of_le with-p (pow_mono h)
+  pub with_p_byte : v * 2 ^ b + p < 2 ^ 8
+  with_p_byte = lt_of_lt_of_le with_p (pow_mono h)
 
 -- a weight is 64 at most
 most : List ℕ → Bool
@@ -112,31 +112,31 @@ module _ (d m : ℕ) (h : m < 8) where
   abbrev k : Mode
   k = mode_at m
 
-  colour-byte : (c e : ℕ) → colour_end d m k c e < 256
-  colour-byte c e =
-      expand-byte (k.colour + p_bits m k) _ (colour_fits m h)
-      (with-p _ _ k.colour (p_bits m k) (colour_fits m h) (mod-lt _ (pow_pos k.colour)) (mod-lt _ (pow_pos (p_bits m k))))
+  colour_byte : (c e : ℕ) → colour_end d m k c e < 256
+  colour_byte c e =
+      expand_byte (k.colour + p_bits m k) _ (colour_fits m h)
+      (with_p _ _ k.colour (p_bits m k) (colour_fits m h) (mod-lt _ (pow_pos k.colour)) (mod-lt _ (pow_pos (p_bits m k))))
 
-  alpha-byte : (e : ℕ) → alpha_end d m k e < 256
-  alpha-byte e =
+  alpha_byte_lem : (e : ℕ) → alpha_end d m k e < 256
+  alpha_byte_lem e =
       below_of (eqb k.alpha 0) _ _ 256 (lit< tt)
-      (expand-byte (k.alpha + p_bits m k) _ (alpha_fits m h)
-      (with-p _ _ k.alpha (p_bits m k) (alpha_fits m h) (mod-lt _ (pow_pos k.alpha)) (mod-lt _ (pow_pos (p_bits m k)))))
+      (expand_byte (k.alpha + p_bits m k) _ (alpha_fits m h)
+      (with_p _ _ k.alpha (p_bits m k) (alpha_fits m h) (mod-lt _ (pow_pos k.alpha)) (mod-lt _ (pow_pos (p_bits m k)))))
 
-  first-most : (i : ℕ) → first_weight d m k i ≤ 64
-  first-most i = weight_most k.index _
+  first_most : (i : ℕ) → first_weight d m k i ≤ 64
+  first_most i = weight_most k.index _
 
-  second-most : (i : ℕ) → second_weight d m k i ≤ 64
-  second-most i = one_of (eqb k.second 0) _ _ 64 (first-most i) (weight_most k.second _)
+  second_most : (i : ℕ) → second_weight d m k i ≤ 64
+  second_most i = one_of (eqb k.second 0) _ _ 64 (first_most i) (weight_most k.second _)
 
-  colour-most : (c i : ℕ) → colour_at d m k c i ≤ 255
-  colour-most c i =
-      between _ _ (colour_weight d m k i) (colour-byte c _) (colour-byte c _) (one_of (eqb (selected d m k) 0) _ _ 64 (first-most i) (second-most i))
+  colour_most : (c i : ℕ) → colour_at d m k c i ≤ 255
+  colour_most c i =
+      between _ _ (colour_weight d m k i) (colour_byte c _) (colour_byte c _) (one_of (eqb (selected d m k) 0) _ _ 64 (first_most i) (second_most i))
 
-  alpha-most : (i : ℕ) → alpha_at d m k i ≤ 255
-  alpha-most i =
-      between _ _ (alpha_weight d m k i) (alpha-byte _) (alpha-byte _) (one_of (eqb (selected d m k) 0) _ _ 64 (second-most i) (first-most i))
+  alpha_most : (i : ℕ) → alpha_at d m k i ≤ 255
+  alpha_most i =
+      between _ _ (alpha_weight d m k i) (alpha_byte_lem _) (alpha_byte_lem _) (one_of (eqb (selected d m k) 0) _ _ 64 (second_most i) (first_most i))
 
-  pub pixel-word : (i : ℕ) → pixel_in d m k i < 2 ^ 32
+  pub pixel_word : (i : ℕ) → pixel_in d m k i < 2 ^ 32
   unfolding pixel_in
-  pixel-word i = turned (field d (rotation_place m k) k.rotation) _ _ _ _ (alpha-most i) (colour-most 0 i) (colour-most 1 i) (colour-most 2 i)
+  pixel_word i = turned (field d (rotation_place m k) k.rotation) _ _ _ _ (alpha_most i) (colour_most 0 i) (colour_most 1 i) (colour_most 2 i)

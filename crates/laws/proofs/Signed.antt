@@ -59,23 +59,23 @@ abbrev pub held : Width → ℤ → ℤ
 held w z = to_z w (of_z w z)
 
 module _ (w : Width) (top : ℕ) (z : ℤ) (f : SFits w z) where
-  pub clamp-low : lt_z (held w z) (pos 0) ≡ true → 0 ≡ clamp top z
-  clamp-low h = low top z (rw (to_z-of_z w z f) at h)
+  pub clamp_low : lt_z (held w z) (pos 0) ≡ true → 0 ≡ clamp top z
+  clamp_low h = low top z (rw (to_z-of_z w z f) at h)
 
-  pub clamp-high : lt_z (pos top) (held w z) ≡ true → top ≡ clamp top z
-  clamp-high h = high top z (rw (to_z-of_z w z f) at h)
+  pub clamp_high : lt_z (pos top) (held w z) ≡ true → top ≡ clamp top z
+  clamp_high h = high top z (rw (to_z-of_z w z f) at h)
 
-  pub clamp-mid : lt_z (held w z) (pos 0) ≡ false → lt_z (pos top) (held w z) ≡ false
+  pub clamp_mid : lt_z (held w z) (pos 0) ≡ false → lt_z (pos top) (held w z) ≡ false
       → T (non_neg (held w z)) × (nat_abs (held w z) ≤ top) × (nat_abs (held w z) ≡ clamp top z) × (held w z ≡ pos (nat_abs (held w z)))
-  clamp-mid l h = rw (to_z-of_z w z f) (mid top z (rw (to_z-of_z w z f) at l) (rw (to_z-of_z w z f) at h))
+  clamp_mid l h = rw (to_z-of_z w z f) (mid top z (rw (to_z-of_z w z f) at l) (rw (to_z-of_z w z f) at h))
 
 -- an unsigned number, cast to a signed type, and a signed one: the sum fits, and is the sum
 module _ (w : Width) (a : ℕ) (z : ℤ) (f : SFits w z) (b : a + mag z < 2 ^ hbits w) where
   pub sum_fits : SFits w (to_z w a +ℤ held w z)
   sum_fits = rw (to_z_pos w a (omega arith), to_z-of_z w z f) (record { sfits = omega (arith, mag_add a z) })
 
-  pub sum-held : held w (to_z w a +ℤ held w z) ≡ pos a +ℤ z
-  sum-held = to_z-of_z w _ sum_fits ∙ rw (to_z_pos w a (omega arith), to_z-of_z w z f)
+  pub sum_held : held w (to_z w a +ℤ held w z) ≡ pos a +ℤ z
+  sum_held = to_z-of_z w _ sum_fits ∙ rw (to_z_pos w a (omega arith), to_z-of_z w z f)
 
 -- a number that is small is held as it is
 pub held_small : (w : Width) (z : ℤ) → mag z < 2 ^ hbits w → held w z ≡ z
@@ -112,17 +112,17 @@ module _ (w : Width) (a m : ℕ) (z : ℤ) (f : SFits w z) (h : m < 2 ^ hbits w)
   prod : to_z w m *ℤ held w z ≡ pos m *ℤ z
   prod = rw (to_z_pos w m h, to_z-of_z w z f)
 
-  pub prod-fits : SFits w (to_z w m *ℤ held w z)
-  prod-fits = rw prod (record { sfits = omega (arith, mag_mul m z) })
+  pub prod_fits : SFits w (to_z w m *ℤ held w z)
+  prod_fits = rw prod (record { sfits = omega (arith, mag_mul m z) })
 
   less : a + mag (to_z w m *ℤ held w z) < 2 ^ hbits w
   less = rw prod (omega (arith, mag_mul m z))
 
-  pub moved-fits : SFits w (to_z w a +ℤ held w (to_z w m *ℤ held w z))
-  moved-fits = sum_fits w a (to_z w m *ℤ held w z) prod-fits less
+  pub moved_fits : SFits w (to_z w a +ℤ held w (to_z w m *ℤ held w z))
+  moved_fits = sum_fits w a (to_z w m *ℤ held w z) prod_fits less
 
-  pub moved-held : held w (to_z w a +ℤ held w (to_z w m *ℤ held w z)) ≡ pos a +ℤ (pos m *ℤ z)
-  moved-held = sum-held w a (to_z w m *ℤ held w z) prod-fits less ∙ ap (λ (y : ℤ). pos a +ℤ y) prod
+  pub moved_held : held w (to_z w a +ℤ held w (to_z w m *ℤ held w z)) ≡ pos a +ℤ (pos m *ℤ z)
+  moved_held = sum_held w a (to_z w m *ℤ held w z) prod_fits less ∙ ap (λ (y : ℤ). pos a +ℤ y) prod
 
 pub held_is : (w : Width) (y z : ℤ) → y ≡ z → mag z < 2 ^ hbits w → held w y ≡ z
 held_is w y z e h = ap (held w) e ∙ held_small w z h
@@ -138,31 +138,31 @@ module _ (w : Width) (a y z : ℤ) (m : ℕ) (e : y ≡ pos m) (fa : SFits w a) 
   by : held w y *ℤ held w z ≡ y *ℤ z
   by = ap (λ (u : ℤ). u *ℤ held w z) (to_z-of_z w y fy) ∙ ap (λ (u : ℤ). y *ℤ u) (to_z-of_z w z fz)
 
-  mag-by : mag (y *ℤ z) ≤ m * suc (mag z)
-  mag-by = subst (λ (u : ℤ). mag (u *ℤ z) ≤ m * suc (mag z)) (sym e) (mag_mul m z)
+  mag_by : mag (y *ℤ z) ≤ m * suc (mag z)
+  mag_by = subst (λ (u : ℤ). mag (u *ℤ z) ≤ m * suc (mag z)) (sym e) (mag_mul m z)
 
   pub by_fits : SFits w (held w y *ℤ held w z)
-  by_fits = subst (SFits w) (sym by) (record { sfits = omega (arith, mag-by) })
+  by_fits = subst (SFits w) (sym by) (record { sfits = omega (arith, mag_by) })
 
   on : held w a +ℤ held w (held w y *ℤ held w z) ≡ a +ℤ (y *ℤ z)
   on = ap (λ (u : ℤ). u +ℤ held w (held w y *ℤ held w z)) (to_z-of_z w a fa) ∙ ap (λ (u : ℤ). a +ℤ u) (to_z-of_z w _ by_fits ∙ by)
 
   pub on_fits : SFits w (held w a +ℤ held w (held w y *ℤ held w z))
-  on_fits = subst (SFits w) (sym on) (record { sfits = omega (arith, mag_sum a (y *ℤ z), mag-by) })
+  on_fits = subst (SFits w) (sym on) (record { sfits = omega (arith, mag_sum a (y *ℤ z), mag_by) })
 
-  pub on-held : held w (held w a +ℤ held w (held w y *ℤ held w z)) ≡ a +ℤ (y *ℤ z)
-  on-held = to_z-of_z w _ on_fits ∙ on
+  pub on_held : held w (held w a +ℤ held w (held w y *ℤ held w z)) ≡ a +ℤ (y *ℤ z)
+  on_held = to_z-of_z w _ on_fits ∙ on
 
 -- an unsigned number, cast to a signed type, and its opposite
 module _ (w : Width) (m : ℕ) (h : m < 2 ^ hbits w) where
-  pub cast-pos : to_z w m ≡ pos m
-  cast-pos = to_z_pos w m h
+  pub cast_pos : to_z w m ≡ pos m
+  cast_pos = to_z_pos w m h
 
   opposite : pos 0 -ℤ to_z w m ≡ neg_ℤ (pos m)
-  opposite = ap (λ (z : ℤ). pos 0 -ℤ z) cast-pos ∙ +ℤ_idl (neg_ℤ (pos m))
+  opposite = ap (λ (z : ℤ). pos 0 -ℤ z) cast_pos ∙ +ℤ_idl (neg_ℤ (pos m))
 
-  pub opposite-fits : SFits w (pos 0 -ℤ to_z w m)
-  opposite-fits = subst (SFits w) (sym opposite) (record { sfits = omega (arith, mag-neg m) })
+  pub opposite_fits : SFits w (pos 0 -ℤ to_z w m)
+  opposite_fits = subst (SFits w) (sym opposite) (record { sfits = omega (arith, mag-neg m) })
 
-  pub opposite-held : held w (pos 0 -ℤ to_z w m) ≡ neg_ℤ (pos m)
-  opposite-held = held_is w _ (neg_ℤ (pos m)) opposite (omega (arith, mag-neg m))
+  pub opposite_held : held w (pos 0 -ℤ to_z w m) ≡ neg_ℤ (pos m)
+  opposite_held = held_is w _ (neg_ℤ (pos m)) opposite (omega (arith, mag-neg m))

@@ -25,7 +25,7 @@ use Rattle.rules.specs.declared.Format.{Format}
 use Rattle.rules.specs.declared.Format.TheVariants.{Etc1, Etc2Rgb, Etc2Rgba1, Etc2Rgba8, EacR, EacRSigned, EacRg, EacRgSigned, Bc1, Bc1Alpha, Bc3, Bc7, Bc2, Bc4, Bc4Signed, Bc5, Bc5Signed}
 use Rattle.laws.proofs.Signed.{clamp_le}
 use Rattle.laws.proofs.Between.{alphas_small, values_small}
-use Rattle.laws.proofs.Shades.{pixel-word}
+use Rattle.laws.proofs.Shades.{pixel_word}
 
 abbrev pub Word : ℕ → Type 0
 Word n = n < 2 ^ 32
@@ -187,7 +187,7 @@ bc5 s d x y =
 -- nothing where there is no mode, else a pixel of the mode
 of_mode : (t : Bool) (d m i : ℕ) → ltb 7 m ≡ t → Word (cond t 0 (pixel_in d m (mode_at m) i))
 of_mode true d m i e = lit< tt
-of_mode false d m i e = pixel-word d m (omega (arith, ltb-false 7 m e)) i
+of_mode false d m i e = pixel_word d m (omega (arith, ltb-false 7 m e)) i
 
 bc7 : (d : List ℕ) (x y : ℕ) → Word (bc7_pixel d x y)
 unfolding bc7_pixel

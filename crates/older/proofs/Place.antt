@@ -21,7 +21,7 @@ beyond x k w h =
       | no l ↦ le-ltb k (w - x) (omega (arith, l)) ∙ sym (le-ltb (x + k) w (omega (arith, l)))
     ]
 
-module _ (pic : Picture) (b : ℕ) (in-it : b < blocks pic) where
+module _ (pic : Picture) (b : ℕ) (in_it : b < blocks pic) where
   some : 0 < across pic.width
   some =
       elim (dec_lt 0 (across pic.width)) [
@@ -29,22 +29,22 @@ module _ (pic : Picture) (b : ℕ) (in-it : b < blocks pic) where
         | no l ↦
             let z : across pic.width ≡ 0 = omega (arith, l) in
             let none : blocks pic ≡ 0 = ap (λ (n : ℕ). n * across pic.height) z ∙ zero-mul (across pic.height) in
-            absurd (omega (arith, in-it, none))
+            absurd (omega (arith, in_it, none))
       ]
 
   column : b % across pic.width * 4 ≤ pic.width
   column = omega (arith, (stands (across pic.width) b some).short)
 
   row : b / across pic.width * 4 ≤ pic.height
-  row = omega (arith, high (across pic.width) (across pic.height) b _ _ (stands (across pic.width) b some) in-it)
+  row = omega (arith, high (across pic.width) (across pic.height) b _ _ (stands (across pic.width) b some) in_it)
 
   -- in rows of n blocks, which are as many as lie along the picture
   module _ (n : ℕ) (e : n ≡ across pic.width) where
     pub some_of : 0 < n
     some_of = rw e some
 
-    pub column-of : b % n * 4 ≤ pic.width
-    column-of = rw e column
+    pub column_of : b % n * 4 ≤ pic.width
+    column_of = rw e column
 
     pub row_of : b / n * 4 ≤ pic.height
     row_of = rw e row

@@ -12,7 +12,7 @@ use Rattle.rules.specs.declared.Progress.{Progress}
 use Rattle.rules.specs.declared.Taken.{Taken}
 use Rattle.rules.specs.Pieces.{size, got, later, completed, behind_last, after, padded, piece_verdict, image_after, Takes}
 use Rattle.blocks.specs.Run.{PaintsRun}
-use Rattle.blocks.proofs.Runs.{run-painted}
+use Rattle.blocks.proofs.Runs.{run_painted}
 use Rattle.pieces.specs.Took.{Took}
 
 module _ (p : Progress) (e image : List ℕ) where
@@ -54,5 +54,5 @@ module _ (p : Progress) (e image : List ℕ) where
         state = ap (λ (t : ℕ). with t rest) c ∙ ap (with (later p e)) (rw (a, b, c) at k);
         painted = rw (a, b, c);
         unused = rw (b, c) at m;
-        leaves = run-painted p.picture (got p / size p) (later p e / size p) _ image new (rw (a, b, c) at q);
+        leaves = run_painted p.picture (got p / size p) (later p e / size p) _ image new (rw (a, b, c) at q);
       }

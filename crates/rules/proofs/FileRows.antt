@@ -25,11 +25,11 @@ use Rattle.rules.proofs.Rows.{same}
 -- what opening some bytes answers, and level n of them
 data Asked : Type 0 where
   opens : List ℕ → Asked
-  level-of : List ℕ → ℕ → Asked
+  level_of : List ℕ → ℕ → Asked
 
 answer : Asked → List ℕ
 answer (opens d) = opened_verdict d
-answer (level-of d n) = found_verdict d n
+answer (level_of d n) = found_verdict d n
 
 record Row : Type 0 where
   asked : Asked
@@ -153,13 +153,13 @@ pkms =
     row (opens (pkm 0x3130 0 4 4 4 4 ++ zeros 8)) (0 ∷ 1 ∷ 0 ∷ 0 ∷ 4 ∷ 4 ∷ 1 ∷ 1 ∷ 0 ∷ 0 ∷ [])
     ∷ row (opens (pkm 0x3130 0 4 4 4 4 ++ zeros 7)) (37 ∷ [])
     ∷ row (opens (pkm 0x3130 0 4 4 4 4 ++ zeros 11)) (0 ∷ 1 ∷ 0 ∷ 0 ∷ 4 ∷ 4 ∷ 1 ∷ 1 ∷ 0 ∷ 3 ∷ [])
-    ∷ row (level-of (pkm 0x3130 0 4 4 4 4 ++ zeros 11) 0) (0 ∷ 4 ∷ 4 ∷ 16 ∷ 8 ∷ [])
-    ∷ row (level-of (pkm 0x3130 0 4 4 4 4 ++ zeros 11) 1) (38 ∷ [])
-    ∷ row (level-of (pkm 0x3130 0 4 4 4 4 ++ zeros 7) 0) (37 ∷ [])
+    ∷ row (level_of (pkm 0x3130 0 4 4 4 4 ++ zeros 11) 0) (0 ∷ 4 ∷ 4 ∷ 16 ∷ 8 ∷ [])
+    ∷ row (level_of (pkm 0x3130 0 4 4 4 4 ++ zeros 11) 1) (38 ∷ [])
+    ∷ row (level_of (pkm 0x3130 0 4 4 4 4 ++ zeros 7) 0) (37 ∷ [])
     ∷ row (opens (pkm 0x3130 1 4 4 4 4 ++ zeros 8)) (23 ∷ [])
     ∷ row (opens (pkm 0x3131 0 4 4 4 4 ++ zeros 8)) (22 ∷ [])
     ∷ row (opens (pkm 0x3230 0 8 4 5 3 ++ zeros 16)) (0 ∷ 1 ∷ 0 ∷ 0 ∷ 5 ∷ 3 ∷ 1 ∷ 1 ∷ 0 ∷ 0 ∷ [])
-    ∷ row (level-of (pkm 0x3230 0 8 4 5 3 ++ zeros 16) 0) (0 ∷ 5 ∷ 3 ∷ 16 ∷ 16 ∷ [])
+    ∷ row (level_of (pkm 0x3230 0 8 4 5 3 ++ zeros 16) 0) (0 ∷ 5 ∷ 3 ∷ 16 ∷ 16 ∷ [])
     ∷ row (opens (take 15 (pkm 0x3130 0 4 4 4 4))) (20 ∷ [])
     ∷ row (opens (take 4 (pkm 0x3130 0 4 4 4 4))) (20 ∷ [])
     ∷ row (opens (pkm 0x3230 1 4 4 4 4 ++ zeros 16)) (0 ∷ 1 ∷ 1 ∷ 0 ∷ 4 ∷ 4 ∷ 1 ∷ 1 ∷ 0 ∷ 8 ∷ [])
@@ -273,7 +273,7 @@ hold_flat_ktx1s = tt
 sized_ktx1s : List Row
 sized_ktx1s =
     row (opens (ktx1 false 0x9274 5 9 0 0 1 1 8 ++ level false 48)) (0 ∷ 2 ∷ 1 ∷ 0 ∷ 5 ∷ 9 ∷ 1 ∷ 0 ∷ 0 ∷ 0 ∷ [])
-    ∷ row (level-of (ktx1 false 0x9274 5 9 0 0 1 1 8 ++ level false 48) 0) (0 ∷ 5 ∷ 9 ∷ 76 ∷ 48 ∷ [])
+    ∷ row (level_of (ktx1 false 0x9274 5 9 0 0 1 1 8 ++ level false 48) 0) (0 ∷ 5 ∷ 9 ∷ 76 ∷ 48 ∷ [])
     ∷ row (opens (ktx1 false 0x9274 5 9 0 0 1 1 8 ++ level false 40 ++ zeros 8)) (24 ∷ [])
     ∷ row (opens (ktx1 false 0x9274 5 9 0 0 1 1 8 ++ level false 56)) (24 ∷ [])
     ∷ row (opens (ktx1 true 0x9274 5 9 0 0 1 1 0 ++ word false 48 ++ zeros 48)) (24 ∷ [])
@@ -288,18 +288,18 @@ sized_ktx1s =
     ∷ row (opens (ktx1 false 0x9274 1 65536 0 0 1 1 0 ++ level false 8)) (24 ∷ [])
     ∷ row (opens (ktx1 false 0x9274 0 65537 0 0 1 1 0 ++ level false 8)) (26 ∷ [])
     ∷ row (opens (ktx1 false 0x9278 4 6 0 0 1 3 0 ++ level false 32 ++ level false 16 ++ level false 16 ++ zeros 2)) (0 ∷ 2 ∷ 3 ∷ 0 ∷ 4 ∷ 6 ∷ 3 ∷ 0 ∷ 0 ∷ 2 ∷ [])
-    ∷ row (level-of (ktx1 false 0x9278 4 6 0 0 1 3 0 ++ level false 32 ++ level false 16 ++ level false 16 ++ zeros 2) 0) (0 ∷ 4 ∷ 6 ∷ 68 ∷ 32 ∷ [])
-    ∷ row (level-of (ktx1 false 0x9278 4 6 0 0 1 3 0 ++ level false 32 ++ level false 16 ++ level false 16 ++ zeros 2) 1) (0 ∷ 2 ∷ 3 ∷ 104 ∷ 16 ∷ [])
-    ∷ row (level-of (ktx1 false 0x9278 4 6 0 0 1 3 0 ++ level false 32 ++ level false 16 ++ level false 16 ++ zeros 2) 2) (0 ∷ 1 ∷ 1 ∷ 124 ∷ 16 ∷ [])
-    ∷ row (level-of (ktx1 false 0x9278 4 6 0 0 1 3 0 ++ level false 32 ++ level false 16 ++ level false 16 ++ zeros 2) 3) (38 ∷ [])
+    ∷ row (level_of (ktx1 false 0x9278 4 6 0 0 1 3 0 ++ level false 32 ++ level false 16 ++ level false 16 ++ zeros 2) 0) (0 ∷ 4 ∷ 6 ∷ 68 ∷ 32 ∷ [])
+    ∷ row (level_of (ktx1 false 0x9278 4 6 0 0 1 3 0 ++ level false 32 ++ level false 16 ++ level false 16 ++ zeros 2) 1) (0 ∷ 2 ∷ 3 ∷ 104 ∷ 16 ∷ [])
+    ∷ row (level_of (ktx1 false 0x9278 4 6 0 0 1 3 0 ++ level false 32 ++ level false 16 ++ level false 16 ++ zeros 2) 2) (0 ∷ 1 ∷ 1 ∷ 124 ∷ 16 ∷ [])
+    ∷ row (level_of (ktx1 false 0x9278 4 6 0 0 1 3 0 ++ level false 32 ++ level false 16 ++ level false 16 ++ zeros 2) 3) (38 ∷ [])
     ∷ row (opens (ktx1 false 0x9278 4 6 0 0 1 4 0 ++ level false 32 ++ level false 16 ++ level false 16 ++ level false 16)) (24 ∷ [])
     ∷ row (opens (ktx1 false 0x9278 4 6 0 0 1 2 0 ++ level false 32 ++ level false 16 ++ level false 16)) (0 ∷ 2 ∷ 3 ∷ 0 ∷ 4 ∷ 6 ∷ 2 ∷ 0 ∷ 0 ∷ 20 ∷ [])
     ∷ row (opens (ktx1 false 0x9278 4 6 0 0 1 3 0 ++ level false 32 ++ level false 16 ++ level false 8)) (24 ∷ [])
     ∷ row (opens (ktx1 false 0x9278 4 6 0 0 1 3 0 ++ level false 32 ++ level false 16)) (37 ∷ [])
     ∷ row (opens (ktx1 true 0x8d64 1 9 0 0 1 4 0 ++ level true 24 ++ level true 8 ++ level true 8 ++ level true 8)) (0 ∷ 2 ∷ 0 ∷ 0 ∷ 1 ∷ 9 ∷ 4 ∷ 1 ∷ 0 ∷ 0 ∷ [])
-    ∷ row (level-of (ktx1 true 0x8d64 1 9 0 0 1 4 0 ++ level true 24 ++ level true 8 ++ level true 8 ++ level true 8) 1) (0 ∷ 1 ∷ 4 ∷ 96 ∷ 8 ∷ [])
-    ∷ row (level-of (ktx1 true 0x8d64 1 9 0 0 1 4 0 ++ level true 24 ++ level true 8 ++ level true 8 ++ level true 8) 3) (0 ∷ 1 ∷ 1 ∷ 120 ∷ 8 ∷ [])
-    ∷ row (level-of (ktx1 true 0x8d64 1 9 0 0 1 4 0 ++ level true 24 ++ level true 8 ++ level true 8 ++ level true 8) 4) (38 ∷ [])
+    ∷ row (level_of (ktx1 true 0x8d64 1 9 0 0 1 4 0 ++ level true 24 ++ level true 8 ++ level true 8 ++ level true 8) 1) (0 ∷ 1 ∷ 4 ∷ 96 ∷ 8 ∷ [])
+    ∷ row (level_of (ktx1 true 0x8d64 1 9 0 0 1 4 0 ++ level true 24 ++ level true 8 ++ level true 8 ++ level true 8) 3) (0 ∷ 1 ∷ 1 ∷ 120 ∷ 8 ∷ [])
+    ∷ row (level_of (ktx1 true 0x8d64 1 9 0 0 1 4 0 ++ level true 24 ++ level true 8 ++ level true 8 ++ level true 8) 4) (38 ∷ [])
     ∷ row (opens (ktx1 true 0x8d64 9 1 0 0 1 5 0 ++ level true 24 ++ level true 8 ++ level true 8 ++ level true 8 ++ level true 8)) (24 ∷ [])
     ∷ row (opens (ktx1 true 0x8d64 1 1 0 0 1 2 0 ++ level true 8 ++ level true 8)) (24 ∷ [])
     ∷ row (opens (ktx1 false 0x8d64 4 4 0 0 1 257 0 ++ level false 8)) (24 ∷ [])
@@ -374,7 +374,7 @@ placed_ktx2s : List Row
 placed_ktx2s =
     row (opens (ktx2 147 4 4 0 0 1 1 0 ++ entry 104 8 ++ zeros 7)) (37 ∷ [])
     ∷ row (opens (ktx2 147 4 4 0 0 1 1 0 ++ entry 105 8 ++ zeros 9)) (0 ∷ 3 ∷ 1 ∷ 0 ∷ 4 ∷ 4 ∷ 1 ∷ 0 ∷ 0 ∷ 0 ∷ [])
-    ∷ row (level-of (ktx2 147 4 4 0 0 1 1 0 ++ entry 105 8 ++ zeros 9) 0) (0 ∷ 4 ∷ 4 ∷ 105 ∷ 8 ∷ [])
+    ∷ row (level_of (ktx2 147 4 4 0 0 1 1 0 ++ entry 105 8 ++ zeros 9) 0) (0 ∷ 4 ∷ 4 ∷ 105 ∷ 8 ∷ [])
     ∷ row (opens (ktx2 147 4 4 0 0 1 1 0 ++ entry 0 8 ++ zeros 3)) (0 ∷ 3 ∷ 1 ∷ 0 ∷ 4 ∷ 4 ∷ 1 ∷ 0 ∷ 0 ∷ 99 ∷ [])
     ∷ row (opens (ktx2 147 4 4 0 0 1 1 0 ++ entry 104 16 ++ zeros 16)) (24 ∷ [])
     ∷ row (opens (ktx2 147 4 4 0 0 1 1 0 ++ entry 104 4294967304 ++ zeros 16)) (24 ∷ [])
@@ -387,14 +387,14 @@ placed_ktx2s =
     ∷ row (opens (ktx2 147 65537 4 0 0 1 1 0)) (1 ∷ [])
     ∷ row (opens (ktx2 147 4 65537 0 0 1 1 0)) (1 ∷ [])
     ∷ row (opens (ktx2 151 9 4 0 0 1 2 0 ++ entry 144 48 ++ entry 128 16 ++ zeros 16 ++ zeros 48 ++ zeros 3)) (0 ∷ 3 ∷ 3 ∷ 0 ∷ 9 ∷ 4 ∷ 2 ∷ 0 ∷ 0 ∷ 3 ∷ [])
-    ∷ row (level-of (ktx2 151 9 4 0 0 1 2 0 ++ entry 144 48 ++ entry 128 16 ++ zeros 16 ++ zeros 48) 0) (0 ∷ 9 ∷ 4 ∷ 144 ∷ 48 ∷ [])
-    ∷ row (level-of (ktx2 151 9 4 0 0 1 2 0 ++ entry 144 48 ++ entry 128 16 ++ zeros 16 ++ zeros 48) 1) (0 ∷ 4 ∷ 2 ∷ 128 ∷ 16 ∷ [])
-    ∷ row (level-of (ktx2 151 9 4 0 0 1 2 0 ++ entry 144 48 ++ entry 128 16 ++ zeros 16 ++ zeros 48) 2) (38 ∷ [])
+    ∷ row (level_of (ktx2 151 9 4 0 0 1 2 0 ++ entry 144 48 ++ entry 128 16 ++ zeros 16 ++ zeros 48) 0) (0 ∷ 9 ∷ 4 ∷ 144 ∷ 48 ∷ [])
+    ∷ row (level_of (ktx2 151 9 4 0 0 1 2 0 ++ entry 144 48 ++ entry 128 16 ++ zeros 16 ++ zeros 48) 1) (0 ∷ 4 ∷ 2 ∷ 128 ∷ 16 ∷ [])
+    ∷ row (level_of (ktx2 151 9 4 0 0 1 2 0 ++ entry 144 48 ++ entry 128 16 ++ zeros 16 ++ zeros 48) 2) (38 ∷ [])
     ∷ row (opens (ktx2 151 9 4 0 0 1 2 0 ++ entry 128 48 ++ entry 176 16 ++ zeros 48 ++ zeros 16 ++ zeros 1)) (0 ∷ 3 ∷ 3 ∷ 0 ∷ 9 ∷ 4 ∷ 2 ∷ 0 ∷ 0 ∷ 1 ∷ [])
     ∷ row (opens (ktx2 151 9 4 0 0 1 2 0 ++ entry 128 48 ++ entry 176 16 ++ zeros 48 ++ zeros 15)) (37 ∷ [])
     ∷ row (opens (ktx2 151 9 4 0 0 1 2 0 ++ entry 104 48)) (37 ∷ [])
     ∷ row (opens (ktx2 151 9 4 0 0 1 5 0 ++ entry 104 48)) (24 ∷ [])
-    ∷ row (level-of (ktx2 151 9 4 0 0 1 5 0) 0) (24 ∷ [])
+    ∷ row (level_of (ktx2 151 9 4 0 0 1 5 0) 0) (24 ∷ [])
     ∷ []
 
 hold_placed_ktx2s : T (every placed_ktx2s)
@@ -515,7 +515,7 @@ edges =
     ∷ row (opens ((68 ∷ 68 ∷ 83 ∷ 32 ∷ []) ++ words false (124 ∷ 0x1007 ∷ 4 ∷ 4 ∷ 8 ∷ 0 ∷ 1 ∷ 0x5454564e ∷ []) ++ zeros 40
     ++ words false (32 ∷ 4 ∷ []) ++ big_bytes 4 0x44585431 ++ zeros 20 ++ words false (0x1000 ∷ 0 ∷ []) ++ zeros 12 ++ zeros 8))
     (0 ∷ 4 ∷ 9 ∷ 0 ∷ 4 ∷ 4 ∷ 1 ∷ 0 ∷ 0 ∷ 0 ∷ [])
-    ∷ row (level-of (dds 4 0x44585435 8 8 2 0x0 ++ zeros 80) 1) (0 ∷ 4 ∷ 4 ∷ 192 ∷ 16 ∷ [])
+    ∷ row (level_of (dds 4 0x44585435 8 8 2 0x0 ++ zeros 80) 1) (0 ∷ 4 ∷ 4 ∷ 192 ∷ 16 ∷ [])
     ∷ []
 
 hold_edges : T (every edges)
@@ -648,14 +648,14 @@ hold_flat_ddss = tt
 sized_ddss : List Row
 sized_ddss =
     row (opens (dds 4 0x44585431 9 5 0 0x0 ++ zeros 48)) (0 ∷ 4 ∷ 9 ∷ 0 ∷ 9 ∷ 5 ∷ 1 ∷ 0 ∷ 0 ∷ 0 ∷ [])
-    ∷ row (level-of (dds 4 0x44585431 9 5 0 0x0 ++ zeros 48) 0) (0 ∷ 9 ∷ 5 ∷ 128 ∷ 48 ∷ [])
+    ∷ row (level_of (dds 4 0x44585431 9 5 0 0x0 ++ zeros 48) 0) (0 ∷ 9 ∷ 5 ∷ 128 ∷ 48 ∷ [])
     ∷ row (opens (dds 4 0x44585431 9 5 0 0x0 ++ zeros 47)) (37 ∷ [])
     ∷ row (opens (dds 4 0x44585431 9 5 4 0x0 ++ zeros 80)) (0 ∷ 4 ∷ 9 ∷ 0 ∷ 9 ∷ 5 ∷ 4 ∷ 0 ∷ 0 ∷ 8 ∷ [])
-    ∷ row (level-of (dds 4 0x44585431 9 5 4 0x0 ++ zeros 81) 0) (0 ∷ 9 ∷ 5 ∷ 128 ∷ 48 ∷ [])
-    ∷ row (level-of (dds 4 0x44585431 9 5 4 0x0 ++ zeros 81) 1) (0 ∷ 4 ∷ 2 ∷ 176 ∷ 8 ∷ [])
-    ∷ row (level-of (dds 4 0x44585431 9 5 4 0x0 ++ zeros 81) 2) (0 ∷ 2 ∷ 1 ∷ 184 ∷ 8 ∷ [])
-    ∷ row (level-of (dds 4 0x44585431 9 5 4 0x0 ++ zeros 81) 3) (0 ∷ 1 ∷ 1 ∷ 192 ∷ 8 ∷ [])
-    ∷ row (level-of (dds 4 0x44585431 9 5 4 0x0 ++ zeros 81) 4) (38 ∷ [])
+    ∷ row (level_of (dds 4 0x44585431 9 5 4 0x0 ++ zeros 81) 0) (0 ∷ 9 ∷ 5 ∷ 128 ∷ 48 ∷ [])
+    ∷ row (level_of (dds 4 0x44585431 9 5 4 0x0 ++ zeros 81) 1) (0 ∷ 4 ∷ 2 ∷ 176 ∷ 8 ∷ [])
+    ∷ row (level_of (dds 4 0x44585431 9 5 4 0x0 ++ zeros 81) 2) (0 ∷ 2 ∷ 1 ∷ 184 ∷ 8 ∷ [])
+    ∷ row (level_of (dds 4 0x44585431 9 5 4 0x0 ++ zeros 81) 3) (0 ∷ 1 ∷ 1 ∷ 192 ∷ 8 ∷ [])
+    ∷ row (level_of (dds 4 0x44585431 9 5 4 0x0 ++ zeros 81) 4) (38 ∷ [])
     ∷ row (opens (dds 4 0x44585431 9 5 4 0x0 ++ zeros 79)) (0 ∷ 4 ∷ 9 ∷ 0 ∷ 9 ∷ 5 ∷ 4 ∷ 0 ∷ 0 ∷ 7 ∷ [])
     ∷ row (opens (dds 4 0x44585431 9 5 5 0x0 ++ zeros 90)) (24 ∷ [])
     ∷ row (opens (dds 4 0x44585431 9 5 1 0x0 ++ zeros 50)) (0 ∷ 4 ∷ 9 ∷ 0 ∷ 9 ∷ 5 ∷ 1 ∷ 0 ∷ 0 ∷ 2 ∷ [])
@@ -664,7 +664,7 @@ sized_ddss =
     ∷ row (opens (dds 4 0x44585431 65537 5 0 0x0 ++ zeros 8)) (1 ∷ [])
     ∷ row (opens (dds 4 0x44585431 5 65537 0 0x0 ++ zeros 8)) (1 ∷ [])
     ∷ row (opens (dds 4 0x44583130 4 4 0 0x0 ++ dx10 98 3 0 1 ++ zeros 17)) (0 ∷ 4 ∷ 11 ∷ 0 ∷ 4 ∷ 4 ∷ 1 ∷ 0 ∷ 0 ∷ 1 ∷ [])
-    ∷ row (level-of (dds 4 0x44583130 4 4 0 0x0 ++ dx10 98 3 0 1 ++ zeros 17) 0) (0 ∷ 4 ∷ 4 ∷ 148 ∷ 16 ∷ [])
+    ∷ row (level_of (dds 4 0x44583130 4 4 0 0x0 ++ dx10 98 3 0 1 ++ zeros 17) 0) (0 ∷ 4 ∷ 4 ∷ 148 ∷ 16 ∷ [])
     ∷ row (opens (dds 4 0x44585431 4 4 257 0x0 ++ zeros 8)) (24 ∷ [])
     ∷ row (opens (dds 4 0x44585431 4 65536 0 0x0 ++ zeros 8)) (37 ∷ [])
     ∷ row (opens (dds 4 0x44585431 65536 4 0 0x0 ++ zeros 8)) (37 ∷ [])
@@ -682,10 +682,10 @@ hold_sized_ddss = tt
 sheets : List Row
 sheets =
     row (opens (rec 9 1 (3 ∷ word false 4 ++ word false 3) ++ rec 1 32768 ((7 ∷ [])) ++ rec 16 2 (zeros 16) ++ rec 1 32768 ((7 ∷ [])))) (0 ∷ 5 ∷ 3 ∷ 0 ∷ 4 ∷ 3 ∷ 1 ∷ 0 ∷ 0 ∷ 7 ∷ [])
-    ∷ row (level-of (rec 9 1 (3 ∷ word false 4 ++ word false 3) ++ rec 1 32768 ((7 ∷ [])) ++ rec 16 2 (zeros 16) ++ rec 1 32768 ((7 ∷ []))) 0) (0 ∷ 4 ∷ 3 ∷ 28 ∷ 16 ∷ [])
-    ∷ row (level-of (rec 9 1 (3 ∷ word false 4 ++ word false 3) ++ rec 1 32768 ((7 ∷ [])) ++ rec 16 2 (zeros 16) ++ rec 1 32768 ((7 ∷ []))) 1) (38 ∷ [])
+    ∷ row (level_of (rec 9 1 (3 ∷ word false 4 ++ word false 3) ++ rec 1 32768 ((7 ∷ [])) ++ rec 16 2 (zeros 16) ++ rec 1 32768 ((7 ∷ []))) 0) (0 ∷ 4 ∷ 3 ∷ 28 ∷ 16 ∷ [])
+    ∷ row (level_of (rec 9 1 (3 ∷ word false 4 ++ word false 3) ++ rec 1 32768 ((7 ∷ [])) ++ rec 16 2 (zeros 16) ++ rec 1 32768 ((7 ∷ []))) 1) (38 ∷ [])
     ∷ row (opens (rec 9 1 (0 ∷ word false 4 ++ word false 3) ++ rec 8 2 (zeros 8))) (0 ∷ 5 ∷ 0 ∷ 0 ∷ 4 ∷ 3 ∷ 1 ∷ 0 ∷ 0 ∷ 0 ∷ [])
-    ∷ row (level-of (rec 9 1 (0 ∷ word false 4 ++ word false 3) ++ rec 8 2 (zeros 8)) 0) (0 ∷ 4 ∷ 3 ∷ 21 ∷ 8 ∷ [])
+    ∷ row (level_of (rec 9 1 (0 ∷ word false 4 ++ word false 3) ++ rec 8 2 (zeros 8)) 0) (0 ∷ 4 ∷ 3 ∷ 21 ∷ 8 ∷ [])
     ∷ row (opens (rec 9 1 (1 ∷ word false 4 ++ word false 3) ++ rec 8 2 (zeros 8))) (0 ∷ 5 ∷ 1 ∷ 0 ∷ 4 ∷ 3 ∷ 1 ∷ 0 ∷ 0 ∷ 0 ∷ [])
     ∷ row (opens (rec 9 1 (2 ∷ word false 4 ++ word false 3) ++ rec 8 2 (zeros 8))) (0 ∷ 5 ∷ 2 ∷ 0 ∷ 4 ∷ 3 ∷ 1 ∷ 0 ∷ 0 ∷ 0 ∷ [])
     ∷ row (opens (rec 9 1 (3 ∷ word false 4 ++ word false 3) ++ rec 16 2 (zeros 16))) (0 ∷ 5 ∷ 3 ∷ 0 ∷ 4 ∷ 3 ∷ 1 ∷ 0 ∷ 0 ∷ 0 ∷ [])
@@ -705,7 +705,7 @@ sheets =
     ∷ row (opens (take 5 (rec 9 1 (0 ∷ word false 4 ++ word false 3)))) (21 ∷ [])
     ∷ row (opens (take 6 (rec 9 1 (0 ∷ word false 4 ++ word false 3)))) (7 ∷ [])
     ∷ row (opens (take 14 (rec 9 1 (0 ∷ word false 4 ++ word false 3)))) (7 ∷ [])
-    ∷ row (level-of (rec 9 1 (0 ∷ word false 4 ++ word false 3)) 0) (10 ∷ [])
+    ∷ row (level_of (rec 9 1 (0 ∷ word false 4 ++ word false 3)) 0) (10 ∷ [])
     ∷ row (opens ((9 ∷ 0 ∷ 0 ∷ 0 ∷ 1 ∷ 1 ∷ []) ++ zeros 9)) (21 ∷ [])
     ∷ row (opens ((9 ∷ 0 ∷ 0 ∷ 0 ∷ 2 ∷ 0 ∷ []) ++ zeros 9)) (21 ∷ [])
     ∷ row (opens ((9 ∷ 0 ∷ 1 ∷ 0 ∷ 1 ∷ 0 ∷ []) ++ zeros 9)) (21 ∷ [])

@@ -30,7 +30,7 @@ data Asked : Type 0 where
   say : Sheet → Asked
   head_of : List ℕ → Asked
   read : List ℕ → ℕ → Asked
-  image-of : List ℕ → ℕ → Asked
+  image_of : List ℕ → ℕ → Asked
   write : ℕ → Picture → List ℕ → ℕ → Asked
   room_of : ℕ → Picture → List ℕ → ℕ → Asked
 
@@ -42,7 +42,7 @@ answer : Asked → List ℕ
 answer (say s) = told s
 answer (head_of d) = head_verdict d
 answer (read d n) = read_verdict d n
-answer (image-of d n) = left (read_verdict d n) (sheet_picture d (untouched n)) (untouched n)
+answer (image_of d n) = left (read_verdict d n) (sheet_picture d (untouched n)) (untouched n)
 answer (write f p b n) = write_verdict f p b n
 answer (room_of f p b n) = left (write_verdict f p b n) (sheet_over f p b (room n)) (room n)
 
@@ -99,7 +99,7 @@ good f = 0 ∷ f ∷ 4 ∷ 3 ∷ []
 -- one pixel of a format, and what it shows: one element, and the next as it was
 one : ℕ → List ℕ → ℕ → Row
 one f b pixel =
-    row (image-of (headed f (1 ∷ 0 ∷ 0 ∷ 0 ∷ []) (1 ∷ 0 ∷ 0 ∷ 0 ∷ []) ++ rec (length b) 2 b) 2) (pixel ∷ 0x11111111 ∷ [])
+    row (image_of (headed f (1 ∷ 0 ∷ 0 ∷ 0 ∷ []) (1 ∷ 0 ∷ 0 ∷ 0 ∷ []) ++ rec (length b) 2 b) 2) (pixel ∷ 0x11111111 ∷ [])
 
 rows : List Row
 rows =
@@ -128,7 +128,7 @@ rows =
     ∷ row (head_of (headed 0 (4 ∷ 0 ∷ 0 ∷ 0 ∷ []) (3 ∷ 0 ∷ 0 ∷ 1 ∷ []) ++ some 8)) (1 ∷ [])
     -- skipped records before and after the blocks
     ∷ row (head_of (head 3 ++ note ++ some 16 ++ note ++ note)) (good 3)
-    ∷ row (image-of (head 0 ++ note ++ rec 8 2 (128 ∷ 0 ∷ 0 ∷ 2 ∷ replicate 4 0)) 12) (replicate 12 0xFF860202)
+    ∷ row (image_of (head 0 ++ note ++ rec 8 2 (128 ∷ 0 ∷ 0 ∷ 2 ∷ replicate 4 0)) 12) (replicate 12 0xFF860202)
     -- and an empty one: what stands behind it is read
     ∷ row (head_of (head 0 ++ rec 0 0x8000 [] ++ some 8)) (good 0)
     -- no bytes at all; five bytes; a head that lacks one byte; a length of FFFFFFFF, and of 1000000 (hex)
@@ -174,7 +174,7 @@ rows =
     ∷ row (read (head 0 ++ some 8) 12) (0 ∷ [])
     ∷ row (read (head 0 ++ some 8) 11) (3 ∷ [])
     ∷ row (read (head 0 ++ some 7) 11) (10 ∷ [])
-    ∷ row (image-of (head 0 ++ some 8) 2) (untouched 2)
+    ∷ row (image_of (head 0 ++ some 8) 2) (untouched 2)
     -- the writer: 8, 1, 10, 3, in that order
     ∷ row (write 8 (sized 16385 3) [] 0) (8 ∷ [])
     ∷ row (write 7 (sized 16385 3) [] 0) (1 ∷ [])

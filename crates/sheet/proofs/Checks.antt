@@ -48,9 +48,9 @@ module _ (f : ℕ) (p : Picture) (b : List ℕ) (room : ℕ) where
   roomy = image_check (length (sheet_of f p b)) room
 
   -- each, where it is the first to fail
-  pub no-format : 7 < f → 8 ∷ [] ≡ write_verdict f p b room
+  pub no_format : 7 < f → 8 ∷ [] ≡ write_verdict f p b room
   unfolding write_verdict
-  no-format h = fails known (small ∷ exact ∷ roomy ∷ []) (0 ∷ []) (lt-ltb 7 f h)
+  no_format h = fails known (small ∷ exact ∷ roomy ∷ []) (0 ∷ []) (lt-ltb 7 f h)
 
   module _ (k : f ≤ 7) where
     pub too_large : too_large_lem sheet_limit p ≡ true → 1 ∷ [] ≡ write_verdict f p b room
@@ -67,8 +67,8 @@ module _ (f : ℕ) (p : Picture) (b : List ℕ) (room : ℕ) where
           passes known (small ∷ exact ∷ roomy ∷ []) (0 ∷ []) v (le-ltb 7 f k)
           (passes small (exact ∷ roomy ∷ []) (0 ∷ []) v s e)
 
-      pub wrong-blocks : (length b ≡ block_bytes_lem f p → ⊥) → 10 ∷ [] ≡ write_verdict f p b room
-      wrong-blocks h =
+      pub wrong_blocks_lem : (length b ≡ block_bytes_lem f p → ⊥) → 10 ∷ [] ≡ write_verdict f p b room
+      wrong_blocks_lem h =
           past (10 ∷ [])
           (fails exact (roomy ∷ []) (0 ∷ []) (unequal (eqb (length b) (block_bytes_lem f p)) (ne_eqb (length b) (block_bytes_lem f p) h)))
 

@@ -35,13 +35,13 @@ module _ (d : List ℕ) (h : Head) (b : List ℕ) (s : Shown d h b) where
       ∙ ap (λ (p : Picture). 0 ∷ h.format ∷ p.width ∷ p.height ∷ []) s.begins.size)
 
   module _ (image : List ℕ) where
-    pub reads-room : read_verdict d (length image) ≡ room_said (length image) (size_of_head h)
+    pub reads_room : read_verdict d (length image) ≡ room_said (length image) (size_of_head h)
     unfolding read_verdict
-    reads-room = s.passes (room_said (length image) (size_in (head_in d))) ∙ ap (room_said (length image)) s.begins.size
+    reads_room = s.passes (room_said (length image) (size_in (head_in d))) ∙ ap (room_said (length image)) s.begins.size
 
     -- on exactly the blocks the plain reader can only refuse for want of room
-    plain-room : picture_verdict (format_of h.format) (size_of_head h) b image ≡ room_said (length image) (size_of_head h)
-    plain-room =
+    plain_room : picture_verdict (format_of h.format) (size_of_head h) b image ≡ room_said (length image) (size_of_head h)
+    plain_room =
         rw (
           le-ltb limit h.width (omega (arith, s.begins.sound.narrow)),
           le-ltb limit h.height (omega (arith, s.begins.sound.low)),
@@ -49,11 +49,11 @@ module _ (d : List ℕ) (h : Head) (b : List ℕ) (s : Shown d h b) where
           le-ltb (length b) (blocks (size_of_head h) * size_of (format_of h.format)) (omega (arith, s.exact)),
         )
 
-    pub verdict-is : picture_verdict (format_of h.format) (size_of_head h) b image ≡ read_verdict d (length image)
-    verdict-is = plain-room ∙ sym reads-room
+    pub verdict_is : picture_verdict (format_of h.format) (size_of_head h) b image ≡ read_verdict d (length image)
+    verdict_is = plain_room ∙ sym reads_room
 
-    pub picture-is : picture_of (format_of h.format) (size_of_head h) b image ≡ sheet_picture d image
-    picture-is =
+    pub picture_is : picture_of (format_of h.format) (size_of_head h) b image ≡ sheet_picture d image
+    picture_is =
         sym (ap (λ (z : ℕ). picture_of (format_of z) (size_in (head_in d)) (blocks_in d) image) s.begins.format
         ∙ ap (λ (p : Picture). picture_of (format_of h.format) p (blocks_in d) image) s.begins.size
         ∙ ap (λ (z : List ℕ). picture_of (format_of h.format) (size_of_head h) z image) s.blocks)
@@ -63,28 +63,28 @@ module _ (d : List ℕ) (h : Head) (b : List ℕ) (s : Shown d h b) where
       pub reads : ReadsPicture (format_of h.format) b (size_of_head h) image a new → ReadsSheet d image a new
       reads q =
           record {
-            says = q.says ∙ verdict-is;
+            says = q.says ∙ verdict_is;
             leaves =
                 q.leaves
-                ∙ ap (λ (v : List ℕ). left v (picture_of (format_of h.format) (size_of_head h) b image) image) verdict-is
-                ∙ ap (λ (z : List ℕ). left (read_verdict d (length image)) z image) picture-is;
+                ∙ ap (λ (v : List ℕ). left v (picture_of (format_of h.format) (size_of_head h) b image) image) verdict_is
+                ∙ ap (λ (z : List ℕ). left (read_verdict d (length image)) z image) picture_is;
           }
 
       pub plainly : ReadsSheet d image a new → ReadsPicture (format_of h.format) b (size_of_head h) image a new
       plainly q =
           record {
-            says = q.says ∙ sym verdict-is;
+            says = q.says ∙ sym verdict_is;
             leaves =
                 q.leaves
-                ∙ ap (λ (v : List ℕ). left v (sheet_picture d image) image) (sym verdict-is)
-                ∙ ap (λ (z : List ℕ). left (picture_verdict (format_of h.format) (size_of_head h) b image) z image) (sym picture-is);
+                ∙ ap (λ (v : List ℕ). left v (sheet_picture d image) image) (sym verdict_is)
+                ∙ ap (λ (z : List ℕ). left (picture_verdict (format_of h.format) (size_of_head h) b image) z image) (sym picture_is);
           }
 
 -- a sheet with a fault, told by an answer
 module _ (d : List ℕ) (p : Halts (walk d)) (a : Answer) (e : said a ≡ walk d []) where
-  pub tells-refusal : TellsHead d (Refused a)
+  pub tells_refusal : TellsHead d (Refused a)
   unfolding head_verdict
-  tells-refusal = e ∙ sym (p.alike (head_said d))
+  tells_refusal = e ∙ sym (p.alike (head_said d))
 
   pub refuses : (image : List ℕ) → ReadsSheet d image a image
   unfolding read_verdict

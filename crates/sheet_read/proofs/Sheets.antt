@@ -19,8 +19,8 @@ module _ (d : List ℕ) (a : Answer) (p : Refuses (walk d) a) where
         refused = ap accepts (sym (p.says [])) ∙ p.refused;
       }
 
-  pub tells-refusal : TellsHead d (Refused a)
-  tells-refusal = shown.tells-refusal d halts a (p.says [])
+  pub tells_refusal : TellsHead d (Refused a)
+  tells_refusal = shown.tells-refusal d halts a (p.says [])
 
   pub refuses : (image : List ℕ) → ReadsSheet d image a image
   refuses image = shown.refuses d halts a (p.says []) image

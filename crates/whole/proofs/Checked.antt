@@ -28,8 +28,8 @@ shorter false e m =
     ]
 
 module _ (green : Bool) (pic : Picture) (bytes elements : ℕ) where
-  pub same-verdict : verdict (picture_checks (lanes green * 8) pic bytes (elements / lanes green)) ≡ verdict (whole_checks (lanes green) pic bytes elements)
-  same-verdict =
+  pub same_verdict : verdict (picture_checks (lanes green * 8) pic bytes (elements / lanes green)) ≡ verdict (whole_checks (lanes green) pic bytes elements)
+  same_verdict =
       ap (λ (t : Bool). judged (limit_check pic ∷ pitch_check pic ∷ data_check (blocks pic * (lanes green * 8)) bytes ∷ refusal 3 t ∷ []) (0 ∷ []))
       (shorter green elements (needed pic))
 

@@ -15,8 +15,8 @@ use Rattle.laws.proofs.Paint.{none}
 use Rattle.laws.proofs.Parts.{part}
 use Rattle.laws.proofs.Signed.{times_le}
 use Rattle.pixel.proofs.place.Grid.{before}
-use Rattle.blocks.proofs.Blocks.{next-in, all_in, room}
-use Rattle.blocks.proofs.Runs.{two-runs-in}
+use Rattle.blocks.proofs.Blocks.{next_in, all_in, room}
+use Rattle.blocks.proofs.Runs.{two_runs_in}
 use Rattle.whole.specs.Lanes.{PaintsBlock, PaintsBlocks}
 
 -- a block of the picture, and its bytes; the numbers of the loop are told to be the picture's
@@ -51,7 +51,7 @@ module _ (n : ℕ) (signed : Bool) (d : List ℕ) (pic : Picture) where
         omega (arith, a.0),
         omega arith,
         subst (λ (m : ℕ). PaintsBlocks n signed d pic (f + from) m old new) (omega arith)
-            (next-in pic (λ k. k / n) (whole_at signed n pic d) _ (f + from) (f + bx) bx by old mid new (omega (arith, a.0))
+            (next_in pic (λ k. k / n) (whole_at signed n pic d) _ (f + from) (f + bx) bx by old mid new (omega (arith, a.0))
             (record { short = omega arith; counted = refl })
             a.2
             p
@@ -75,7 +75,7 @@ module _ (n : ℕ) (signed : Bool) (d : List ℕ) (pic : Picture) where
       let f = by * across pic.width in
       let e : bx ≡ across pic.width = omega (arith, a.1) in
       subst (λ (m : ℕ). PaintsBlocks n signed d pic f (f + m) old new) e
-      (two-runs-in pic (λ k. k / n) f (f + from) (f + bx) (whole_at signed n pic d) old mid new (omega arith) (omega (arith, a.0)) p a.2)
+      (two_runs_in pic (λ k. k / n) f (f + from) (f + bx) (whole_at signed n pic d) old mid new (omega arith) (omega (arith, a.0)) p a.2)
 
   -- and before row by: so many rows of blocks
   abbrev pub Down : List ℕ → List ℕ → ℕ → Type 0
@@ -91,7 +91,7 @@ module _ (n : ℕ) (signed : Bool) (d : List ℕ) (pic : Picture) where
       let w = across pic.width in (
         omega arith,
         subst (λ (m : ℕ). PaintsBlocks n signed d pic 0 m old new) (sym (add-mul by 1 w ∙ ap (λ (z : ℕ). by * w + z) (one-mul w)))
-            (two-runs-in pic (λ k. k / n) 0 (by * w) (by * w + w) (whole_at signed n pic d) old mid new (omega arith) (omega arith) a.1 p),
+            (two_runs_in pic (λ k. k / n) 0 (by * w) (by * w + w) (whole_at signed n pic d) old mid new (omega arith) (omega arith) a.1 p),
       )
 
   pub bottom : (by : ℕ) (old new : List ℕ) → across pic.height ≤ by → Down old new by → new ≡ whole_picture signed n pic d old

@@ -28,15 +28,15 @@ module _ (first second : List ℕ) (flip : ℕ) (t : List ℕ) where
   chosen h = half_colours (bases_of_lem first second h) (steps_of (codes h))
 
   module _ (p q : List ℕ) (e : p ≡ chosen 0) (g : q ≡ chosen 1) where
-    by-half : (h v : ℕ) → nearest_of (of_half_lem p q h) v ≡ index_for (bases_of_lem first second h) (codes h) v
-    by-half zero v = same_index p (bases_of_lem first second 0) v (codes 0) e
-    by-half (suc h) v = same_index q (bases_of_lem first second 1) v (codes 1) g
+    by_half : (h v : ℕ) → nearest_of (of_half_lem p q h) v ≡ index_for (bases_of_lem first second h) (codes h) v
+    by_half zero v = same_index p (bases_of_lem first second 0) v (codes 0) e
+    by_half (suc h) v = same_index q (bases_of_lem first second 1) v (codes 1) g
 
     at : (k : ℕ) → index_by p q flip t k ≡ index_with (bases_of_lem first second) codes flip t k
-    at k = by-half (half_of flip k) (get_or t k 0)
+    at k = by_half (half_of flip k) (get_or t k 0)
 
-    same-high : high_of (index_by p q flip t) ≡ high_of (index_with (bases_of_lem first second) codes flip t)
-    same-high = bits_same _ _ 0 16 (λ i h. ap (λ (n : ℕ). n / 2) (at (4 * (i % 4) + i / 4)))
+    same_high : high_of (index_by p q flip t) ≡ high_of (index_with (bases_of_lem first second) codes flip t)
+    same_high = bits_same _ _ 0 16 (λ i h. ap (λ (n : ℕ). n / 2) (at (4 * (i % 4) + i / 4)))
 
     same_low : low_of (index_by p q flip t) ≡ low_of (index_with (bases_of_lem first second) codes flip t)
     same_low = bits_same _ _ 0 16 (λ i h. ap (λ (n : ℕ). n % 2) (at (4 * (i % 4) + i / 4)))
@@ -52,7 +52,7 @@ module _ (first second : List ℕ) (flip : ℕ) (t : List ℕ) where
       let s = ed ∙ ap (λ (n : List ℕ). code_for n flip t 1) eb in
       let m = ep ∙ ap (λ (n : List ℕ). half_colours n (steps_of c)) ea ∙ ap (λ (n : ℕ). half_colours (seventeen first) (steps_of n)) f in
       let n = eq ∙ ap (λ (n : List ℕ). half_colours n (steps_of d)) eb ∙ ap (λ (n : ℕ). half_colours (seventeen second) (steps_of n)) s in
-      let high = ew ∙ same-high p q m n in
+      let high = ew ∙ same_high p q m n in
       let low = el ∙ same_low p q m n in
       let k = ev ∙ ap (λ (n : ℕ). 32 * n + 4 * d + flip) f ∙ ap (λ (n : ℕ). 32 * codes 0 + 4 * n + flip) s in
       eight ex ey ez k (ap (λ (n : ℕ). n / 256) high) (ap (λ (n : ℕ). n % 256) high) (ap (λ (n : ℕ). n / 256) low) (ap (λ (n : ℕ). n % 256) low)

@@ -30,14 +30,14 @@ four c e =
     }
 
 module _ (first second : List ℕ) (flip : ℕ) where
-  pub bad-first : above first ≡ true → no_base first second flip ≡ true
-  bad-first e = ap (λ (b : Bool). b || (above second || ltb 1 flip)) e
+  pub bad_first : above first ≡ true → no_base first second flip ≡ true
+  bad_first e = ap (λ (b : Bool). b || (above second || ltb 1 flip)) e
 
-  pub bad-second : above second ≡ true → no_base first second flip ≡ true
-  bad-second e = second_one (above first) (above second || ltb 1 flip) (ap (λ (b : Bool). b || ltb 1 flip) e)
+  pub bad_second : above second ≡ true → no_base first second flip ≡ true
+  bad_second e = second_one (above first) (above second || ltb 1 flip) (ap (λ (b : Bool). b || ltb 1 flip) e)
 
-  pub bad-flip : 1 < flip → no_base first second flip ≡ true
-  bad-flip h = second_one (above first) (above second || ltb 1 flip) (second_one (above second) (ltb 1 flip) (lt-ltb 1 flip h))
+  pub bad_flip : 1 < flip → no_base first second flip ≡ true
+  bad_flip h = second_one (above first) (above second || ltb 1 flip) (second_one (above second) (ltb 1 flip) (lt-ltb 1 flip h))
 
   pub good : above first ≡ false → above second ≡ false → flip ≤ 1 → no_base first second flip ≡ false
   good e f h = ap (λ (b : Bool). b || (above second || ltb 1 flip)) e ∙ ap (λ (b : Bool). b || ltb 1 flip) f ∙ le-ltb 1 flip h

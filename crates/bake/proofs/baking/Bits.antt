@@ -32,13 +32,13 @@ module _ (f : ℕ → ℕ) (top : ℕ) (bits : (i : ℕ) → i < top → f i < 2
   pub bits_small : (i n m : ℕ) → i + n ≤ top → n ≤ m → from_bits_lem f i n < 2 ^ m
   bits_small i n m h k = lt_of_lt_of_le (bits_below i n h) (pow_mono k)
 
-  pub bits-bit : (i n k : ℕ) → i + n ≤ top → k < n → bit k (from_bits_lem f i n) ≡ f (i + k)
+  pub bits_bit : (i n k : ℕ) → i + n ≤ top → k < n → bit k (from_bits_lem f i n) ≡ f (i + k)
   unfolding from_bits_lem
-  bits-bit i zero k t h = absurd (omega arith)
-  bits-bit i (suc n) zero t h = lowest (f i) (from_bits_lem f (suc i) n) (bits i (omega arith)) ∙ ap f (sym (add-zero i))
-  bits-bit i (suc n) (suc k) t h =
+  bits_bit i zero k t h = absurd (omega arith)
+  bits_bit i (suc n) zero t h = lowest (f i) (from_bits_lem f (suc i) n) (bits i (omega arith)) ∙ ap f (sym (add-zero i))
+  bits_bit i (suc n) (suc k) t h =
       shifted (f i) (from_bits_lem f (suc i) n) k (bits i (omega arith))
-      ∙ bits-bit (suc i) n k (omega arith) (le_of_suc-le-suc h)
+      ∙ bits_bit (suc i) n k (omega arith) (le_of_suc-le-suc h)
       ∙ ap f (suc-add i k ∙ sym (add-suc i k))
 
 -- the next bit below, of n in all

@@ -16,7 +16,7 @@ use Rattle.rules.specs.Counting.{from_bits_lem}
 use Rattle.rules.specs.Checking.{pixel}
 use Rattle.rules.specs.Baking.{seventeen, bases_of_lem, half_of, shown, high_of, low_of, block_with}
 use Rattle.bake.specs.baking.Four.{Four}
-use Rattle.bake.proofs.baking.Bits.{bits-bit}
+use Rattle.bake.proofs.baking.Bits.{bits_bit}
 
 -- codes of three bits, and indices of two
 pub record Legal (codes indices : ℕ → ℕ) : Type 0 where
@@ -75,7 +75,7 @@ halves n = omega arith
 -- bit 4x + y of a word of bits that were taken by place
 at_place : (f : ℕ → ℕ) → ((k : ℕ) → k < 16 → f k < 2) → (k : ℕ) → k < 16 → bit (4 * (k % 4) + k / 4) (from_bits_lem (λ i. f (4 * (i % 4) + i / 4)) 0 16) ≡ f k
 at_place f b k h =
-    bits-bit (λ i. f (4 * (i % 4) + i / 4)) 16 (λ i l. b (4 * (i % 4) + i / 4) (omega arith)) 0 16 (4 * (k % 4) + k / 4) (omega arith) (omega arith)
+    bits_bit (λ i. f (4 * (i % 4) + i / 4)) 16 (λ i l. b (4 * (i % 4) + i / 4) (omega arith)) 0 16 (4 * (k % 4) + k / 4) (omega arith) (omega arith)
     ∙ ap f (back k h)
   where
     back : (k : ℕ) → k < 16 → 4 * ((0 + (4 * (k % 4) + k / 4)) % 4) + (0 + (4 * (k % 4) + k / 4)) / 4 ≡ k
@@ -93,9 +93,9 @@ module _ (first second : List ℕ) (flip : ℕ) (codes indices : ℕ → ℕ) (a
       ap (λ (n : ℕ). 2 * n + bit i (256 * (low_of indices / 256) + low_of indices % 256)) p ∙ ap (λ (n : ℕ). 2 * (indices k / 2) + n) q ∙ omega arith
 
   -- "the written bytes read back are the chosen ones"
-  pub reads-back : Reads first second flip codes indices (block_with first second flip codes indices)
+  pub reads_back : Reads first second flip codes indices (block_with first second flip codes indices)
   unfolding block_with
-  reads-back =
+  reads_back =
       let t = fields (codes 0) (codes 1) flip (l.coded 0 (omega arith)) (l.coded 1 (omega arith)) f in
       let r = nibbles (get_or first 0 0) (get_or second 0 0) a.red b.red in
       let g = nibbles (get_or first 1 0) (get_or second 1 0) a.green b.green in

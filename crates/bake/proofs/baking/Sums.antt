@@ -45,8 +45,8 @@ module _ (F : ℕ → ℕ → ℕ) (m n : ℕ) (pick : ℕ → ℕ) (legal : (k 
   part k h = (least (F k) m).least (pick k) (legal k h)
 
   -- the sum of the leasts is the least sum
-  pub least-sum : sum_of leasts n ≤ sum_of picked n
-  least-sum = sum-le leasts picked n part
+  pub least_sum_lem : sum_of leasts n ≤ sum_of picked n
+  least_sum_lem = sum-le leasts picked n part
 
   -- and a choice with no more stands nowhere earlier
   pub least_first : sum_of picked n ≤ sum_of leasts n → (k : ℕ) → k < n → least_of_lem (F k) (suc m) ≤ pick k

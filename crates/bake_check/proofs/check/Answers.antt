@@ -11,19 +11,19 @@ use Rattle.laws.proofs.Range.{exactly}
 use Rattle.rules.specs.Formats.{size_of, shows_of}
 use Rattle.rules.specs.declared.Format.TheVariants.{Etc1}
 use Rattle.blocks.proofs.First.{first_block}
-use Rattle.bake_check.proofs.Verdict.{of_block, short-block, short-tile, out_of_range, in_range_lem}
+use Rattle.bake_check.proofs.Verdict.{of_block, short_block, short_tile, out_of_range, in_range_lem}
 use borrow.Author.Rules.{rules}
 use Rattle.bake_check.proofs.check.Goals as goal
 
 pub returns-then-block-lt8 : goal.returns-then-block-lt8
 returns-then-block-lt8 c =
     let a = c.args in
-    short-block a.tolerance a.block.now a.tile.now c.if-block-lt8.true
+    short_block a.tolerance a.block.now a.tile.now c.if-block-lt8.true
 
 pub returns-then-tile-lt16 : goal.returns-then-tile-lt16
 returns-then-tile-lt16 c =
     let a = c.args in
-    short-tile a.tolerance a.block.now a.tile.now c.if-block-lt8.false c.if-tile-lt16.true
+    short_tile a.tolerance a.block.now a.tile.now c.if-block-lt8.false c.if-tile-lt16.true
 
 pub returns-then-is_strange : goal.returns-then-is_strange
 returns-then-is_strange c =

@@ -7,7 +7,7 @@ use native.Mathlib.Omega.{arith}
 use lib.ListN.{get_or}
 use Rattle.rules.specs.Notation.{build}
 use Rattle.rules.specs.Desktop.{alphas}
-use Rattle.laws.proofs.Filled.{getD-build}
+use Rattle.laws.proofs.Filled.{get_or_build}
 use Rattle.bc.proofs.bc1.Colours.{sums}
 use Rattle.bc.proofs.alphas.Shares.{shared}
 use Rattle.bc.specs.alpha_lanes.Lanes.{alpha_lane_lem}
@@ -53,4 +53,4 @@ one false a b p q (suc (suc (suc (suc (suc (suc (suc zero))))))) h = made false 
 one false a b p q (suc (suc (suc (suc (suc (suc (suc (suc k)))))))) h = absurd (omega arith)
 
 pub in_order : (s : Bool) (a b : ℕ) → a < 256 → b < 256 → (k : ℕ) → k < 8 → get_or (build 16 (lanes s a b)) k 0 ≡ get_or (alphas s a b) k 0
-in_order s a b p q k h = getD-build (lanes s a b) 0 16 k (omega arith) ∙ one s a b p q k h
+in_order s a b p q k h = get_or_build (lanes s a b) 0 16 k (omega arith) ∙ one s a b p q k h

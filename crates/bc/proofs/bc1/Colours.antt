@@ -33,46 +33,46 @@ six_wide n h = ap (λ (t : ℕ). t / 16) (fits (n * 65) (omega arith)) ∙ six_p
 
 -- the channels of a colour
 module _ (q : ℕ) where
-  blue-up : q * 2048 % 65536 ≡ bits 4 0 q * 2048
-  blue-up = omega arith
+  blue_up : q * 2048 % 65536 ≡ bits 4 0 q * 2048
+  blue_up = omega arith
 
-  blue-down : (n : ℕ) → n * 2048 * 32 / 65536 ≡ n
-  blue-down n = omega arith
+  blue_down : (n : ℕ) → n * 2048 * 32 / 65536 ≡ n
+  blue_down n = omega arith
 
   pub blue : channel q 0 ≡ five (bits 4 0 q)
   blue =
-      ap (λ (t : ℕ). t * 32 / 65536 * 132 % 65536 / 16) blue-up
-      ∙ ap (λ (t : ℕ). t * 132 % 65536 / 16) (blue-down (bits 4 0 q))
+      ap (λ (t : ℕ). t * 32 / 65536 * 132 % 65536 / 16) blue_up
+      ∙ ap (λ (t : ℕ). t * 132 % 65536 / 16) (blue_down (bits 4 0 q))
       ∙ five_wide (bits 4 0 q) (omega arith)
 
-  green-up : q * 32 % 65536 ≡ q % 2048 * 32
-  green-up = omega arith
+  green_up : q * 32 % 65536 ≡ q % 2048 * 32
+  green_up = omega arith
 
-  green-down : (m : ℕ) → m * 32 * 64 / 65536 ≡ m / 32
-  green-down m = omega arith
+  green_down : (m : ℕ) → m * 32 * 64 / 65536 ≡ m / 32
+  green_down m = omega arith
 
-  green-bits : q % 2048 / 32 ≡ bits 10 5 q
-  green-bits = omega arith
+  green_bits : q % 2048 / 32 ≡ bits 10 5 q
+  green_bits = omega arith
 
   pub green : channel q 1 ≡ six (bits 10 5 q)
   green =
-      ap (λ (t : ℕ). t * 64 / 65536 * 65 % 65536 / 16) green-up
-      ∙ ap (λ (t : ℕ). t * 65 % 65536 / 16) (green-down (q % 2048) ∙ green-bits)
+      ap (λ (t : ℕ). t * 64 / 65536 * 65 % 65536 / 16) green_up
+      ∙ ap (λ (t : ℕ). t * 65 % 65536 / 16) (green_down (q % 2048) ∙ green_bits)
       ∙ six_wide (bits 10 5 q) (omega arith)
 
-  red-up : q * 1 % 65536 ≡ q % 65536
-  red-up = omega arith
+  red_up : q * 1 % 65536 ≡ q % 65536
+  red_up = omega arith
 
-  red-down : (m : ℕ) → m * 32 / 65536 ≡ m / 2048
-  red-down m = omega arith
+  red_down : (m : ℕ) → m * 32 / 65536 ≡ m / 2048
+  red_down m = omega arith
 
-  red-bits : q % 65536 / 2048 ≡ bits 15 11 q
-  red-bits = omega arith
+  red_bits : q % 65536 / 2048 ≡ bits 15 11 q
+  red_bits = omega arith
 
   pub red : channel q 2 ≡ five (bits 15 11 q)
   red =
-      ap (λ (t : ℕ). t * 32 / 65536 * 132 % 65536 / 16) red-up
-      ∙ ap (λ (t : ℕ). t * 132 % 65536 / 16) (red-down (q % 65536) ∙ red-bits)
+      ap (λ (t : ℕ). t * 32 / 65536 * 132 % 65536 / 16) red_up
+      ∙ ap (λ (t : ℕ). t * 132 % 65536 / 16) (red_down (q % 65536) ∙ red_bits)
       ∙ five_wide (bits 15 11 q) (omega arith)
 
   none : channel q 3 ≡ 0

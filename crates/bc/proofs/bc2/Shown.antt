@@ -9,7 +9,7 @@ use lib.ListN.{get_or, drop}
 use Rattle.rules.specs.Notation.{build}
 use Rattle.rules.specs.Places.{tile}
 use Rattle.rules.specs.Desktop.{half_word_lem, palette_in_lem, colour_index, bc1_pixel, bc2_alpha, bc2_pixel, replaced}
-use Rattle.laws.proofs.Filled.{build_same, getD-build}
+use Rattle.laws.proofs.Filled.{build_same, get_or_build}
 use Rattle.laws.proofs.Word.{Word, palette_word}
 use Rattle.bc.proofs.bc1.Shown.{by_row}
 
@@ -27,7 +27,7 @@ shown d a w hues ea ew eh =
     hue : (k : ℕ) → get_or hues (colour_index w k) 0 ≡ get_or (palette_in_lem true false w) (colour_index w k) 0 % 0x1000000
     hue k =
         ap (λ (l : List ℕ). get_or l (colour_index w k) 0) eh
-        ∙ getD-build (λ (i : ℕ). get_or (palette_in_lem true false w) i 0 % 0x1000000) 0 4 (colour_index w k) (omega arith)
+        ∙ get_or_build (λ (i : ℕ). get_or (palette_in_lem true false w) i 0 % 0x1000000) 0 4 (colour_index w k) (omega arith)
 
     pixel : (k : ℕ) → a / 2 ^ (4 * k) % 16 * 0x11000000 + get_or hues (colour_index w k) 0 ≡ bc2_pixel d (k % 4) (k / 4)
     pixel k =

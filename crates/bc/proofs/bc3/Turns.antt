@@ -11,7 +11,7 @@ use Rattle.rules.specs.Notation.{from, build}
 use Rattle.rules.specs.Places.{tile}
 use Rattle.rules.specs.Desktop.{half_word_lem, palette_in_lem, colour_index, alphas_in_lem, alpha_index_in, bc1_pixel, bc3_alpha, bc3_pixel, replaced}
 use Rattle.laws.proofs.Between.{alphas_small}
-use Rattle.laws.proofs.Filled.{build_same, getD-build}
+use Rattle.laws.proofs.Filled.{build_same, get_or_build}
 use Rattle.laws.proofs.Word.{Word, palette_word}
 
 -- a place of sixteen, by its row and its column
@@ -55,12 +55,12 @@ shown d a w tops hues ea ew et eh =
     top : (k : ℕ) → get_or tops (alpha_index_in a k) 0 ≡ get_or (alphas_in_lem a) (alpha_index_in a k) 0 * 0x1000000
     top k =
         ap (λ (l : List ℕ). get_or l (alpha_index_in a k) 0) et
-        ∙ getD-build (λ (i : ℕ). get_or (alphas_in_lem a) i 0 * 0x1000000) 0 8 (alpha_index_in a k) (omega arith)
+        ∙ get_or_build (λ (i : ℕ). get_or (alphas_in_lem a) i 0 * 0x1000000) 0 8 (alpha_index_in a k) (omega arith)
 
     hue : (k : ℕ) → get_or hues (colour_index w k) 0 ≡ get_or (palette_in_lem true false w) (colour_index w k) 0 % 0x1000000
     hue k =
         ap (λ (l : List ℕ). get_or l (colour_index w k) 0) eh
-        ∙ getD-build (λ (i : ℕ). get_or (palette_in_lem true false w) i 0 % 0x1000000) 0 4 (colour_index w k) (omega arith)
+        ∙ get_or_build (λ (i : ℕ). get_or (palette_in_lem true false w) i 0 % 0x1000000) 0 4 (colour_index w k) (omega arith)
 
     pixel : (k : ℕ) → get_or tops (alpha_index_in a k) 0 + get_or hues (colour_index w k) 0 ≡ bc3_pixel d (k % 4) (k / 4)
     pixel k =

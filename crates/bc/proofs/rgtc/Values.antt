@@ -15,7 +15,7 @@ use Rattle.rules.specs.Desktop.{half_word_lem, eight_up_to, alphas, alpha_index_
 use Rattle.rules.specs.Rgtc.{greatest, endpoint, values_in_lem, half_byte, bc4_pixel, bc5_pixel}
 use Rattle.laws.proofs.Between.{endpoint_le}
 use Rattle.laws.proofs.Every.{every, below}
-use Rattle.laws.proofs.Filled.{build_same, getD-build}
+use Rattle.laws.proofs.Filled.{build_same, get_or_build}
 use Rattle.bc.proofs.bc1.Shown.{by_row}
 
 -- a signed byte, by one test of all
@@ -93,7 +93,7 @@ pick : (s : Bool) (g : ℕ → ℕ) (d set : List ℕ) (w k : ℕ) → w ≡ hal
 unfolding half_byte
 pick s g d set w k e f =
     ap (λ (l : List ℕ). get_or l (alpha_index_in w k) 0) f
-    ∙ getD-build (λ i. g (get_or (values_in_lem s w) i 0)) 0 8 (alpha_index_in w k) (omega arith)
+    ∙ get_or_build (λ i. g (get_or (values_in_lem s w) i 0)) 0 8 (alpha_index_in w k) (omega arith)
     ∙ ap (λ (v : ℕ). g (get_or (values_in_lem s v) (alpha_index_in v k) 0)) e
     ∙ ap (λ (i : ℕ). g (get_or (values_in_lem s (half_word_lem d)) (alpha_index_in (half_word_lem d) i) 0)) (by_row k)
 

@@ -51,26 +51,26 @@ module _ (d m : ℕ) (k : Mode) where
   within false e s h = omega arith
 
   module _ {cv av pv : List ℕ} {left : ℕ} (f : Fetched cv av pv left) where
-    p-at : (e : ℕ) → e < 2 * k.subsets → get_or pv (cond (eqb k.shared 0) e (e / 2)) 0 ≡ p_of d m k e
-    p-at e h = f.ps (cond (eqb k.shared 0) e (e / 2)) (within (eqb k.shared 0) e k.subsets h)
+    p_at : (e : ℕ) → e < 2 * k.subsets → get_or pv (cond (eqb k.shared 0) e (e / 2)) 0 ≡ p_of d m k e
+    p_at e h = f.ps (cond (eqb k.shared 0) e (e / 2)) (within (eqb k.shared 0) e k.subsets h)
 
-    pub colour-end : (c at e x : ℕ) → at ≡ c * (2 * k.subsets) → c * (2 * k.subsets) + e < 6 * k.subsets → e < 2 * k.subsets
+    pub colour_end_lem : (c at e x : ℕ) → at ≡ c * (2 * k.subsets) → c * (2 * k.subsets) + e < 6 * k.subsets → e < 2 * k.subsets
         → x ≡ expand (k.colour + p_bits m k) (get_or cv (at + e) 0 * 2 ^ p_bits m k + get_or pv (cond (eqb k.shared 0) e (e / 2)) 0)
         → x ≡ colour_end d m k c e
-    colour-end c at e x q h l y =
+    colour_end_lem c at e x q h l y =
         y
         ∙ ap (λ (z : ℕ). expand (k.colour + p_bits m k) (z * 2 ^ p_bits m k + get_or pv (cond (eqb k.shared 0) e (e / 2)) 0))
         (ap (λ (z : ℕ). get_or cv (z + e) 0) q ∙ f.colours (c * (2 * k.subsets) + e) h)
-        ∙ ap (λ (z : ℕ). expand (k.colour + p_bits m k) (field d (colour_place m k + (c * (2 * k.subsets) + e) * k.colour) k.colour * 2 ^ p_bits m k + z)) (p-at e l)
+        ∙ ap (λ (z : ℕ). expand (k.colour + p_bits m k) (field d (colour_place m k + (c * (2 * k.subsets) + e) * k.colour) k.colour * 2 ^ p_bits m k + z)) (p_at e l)
 
-    pub alpha-end : (e x : ℕ) → eqb k.alpha 0 ≡ false → e < 2 * k.subsets
+    pub alpha_end_lem : (e x : ℕ) → eqb k.alpha 0 ≡ false → e < 2 * k.subsets
         → x ≡ expand (k.alpha + p_bits m k) (get_or av (0 + e) 0 * 2 ^ p_bits m k + get_or pv (cond (eqb k.shared 0) e (e / 2)) 0)
         → x ≡ alpha_end d m k e
-    alpha-end e x t l y =
+    alpha_end_lem e x t l y =
         let z0 : 0 + e ≡ e = omega arith in
         y
         ∙ ap (λ (z : ℕ). expand (k.alpha + p_bits m k) (z * 2 ^ p_bits m k + get_or pv (cond (eqb k.shared 0) e (e / 2)) 0)) (ap (λ (z : ℕ). get_or av z 0) z0 ∙ f.alphas e l)
-        ∙ ap (λ (z : ℕ). expand (k.alpha + p_bits m k) (field d (alpha_place m k + e * k.alpha) k.alpha * 2 ^ p_bits m k + z)) (p-at e l)
+        ∙ ap (λ (z : ℕ). expand (k.alpha + p_bits m k) (field d (alpha_place m k + e * k.alpha) k.alpha * 2 ^ p_bits m k + z)) (p_at e l)
         ∙ sym (ap (λ (b : Bool). cond b 255 (expand (k.alpha + p_bits m k) (field d (alpha_place m k + e * k.alpha) k.alpha * 2 ^ p_bits m k + p_of d m k e))) t)
 
 -- the rows of the table are sane: one computed test

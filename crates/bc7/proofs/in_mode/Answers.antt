@@ -1,4 +1,4 @@
--- All the stages together: `pixels-said`.
+-- All the stages together: `pixels_said`.
 -- Assumes nothing.
 use mathlib.Core.Path.{◌∙◌, sym, ap, subst}
 use mathlib.Core.List.{List}
@@ -12,7 +12,7 @@ use Rattle.bc7.specs.rest.Whole.{whole}
 use Rattle.bc7.specs.bptc.Layout.{layout_of}
 use Rattle.bc7.specs.endpoints.Stages.{Sane}
 use Rattle.bc7.proofs.endpoints.Fetch.{sane}
-use Rattle.bc7.proofs.Pixel.{partition-below, weights_most, one_most, weights_by, pixels-said}
+use Rattle.bc7.proofs.Pixel.{partition_below, weights_most, one_most, weights_by, pixels_said}
 use borrow.Author.Rules.{rules}
 use Rattle.bc7.proofs.in_mode.Goals as goal
 
@@ -26,7 +26,7 @@ pub layout-layout-requires : goal.layout-layout-requires
 layout-layout-requires c =
     let s = (subst Sane (sym c.row-k.ensures) (sane c.args.m c.requires)) in
     let h = c.front_of-h in
-    (s.some, s.subsets, subst (λ (x : ℕ). x < 64) (sym h.ensures.partition) (partition-below (whole c.args.r) c.args.m c.row-k.result s))
+    (s.some, s.subsets, subst (λ (x : ℕ). x < 64) (sym h.ensures.partition) (partition_below (whole c.args.r) c.args.m c.row-k.result s))
 
 pub weights-first-requires : goal.weights-first-requires
 weights-first-requires c =
@@ -62,7 +62,7 @@ returns c =
     let hd = c.front_of-h.ensures in
     let en = c.ends_of-e.ensures (whole a.r) a.m hd.rest in
     c.shade.ensures
-    ∙ pixels-said (whole a.r) a.m k (subst Sane (sym c.row-k.ensures) (sane c.args.m c.requires)) (whole c.ends_of-e.result.rest) c.word_of.result en.rest
+    ∙ pixels_said (whole a.r) a.m k (subst Sane (sym c.row-k.ensures) (sane c.args.m c.requires)) (whole c.ends_of-e.result.rest) c.word_of.result en.rest
     c.word_of.ensures c.front_of-h.result hd c.ends_of-e.result en
     c.layout-layout.result c.weights-first.result c.second_weights-second.result c.chosen.result c.chosen-2.result
     (c.layout-layout.ensures ∙ ap (layout_of k.subsets) hd.partition) c.weights-first.ensures c.second_weights-second.ensures c.chosen.ensures c.chosen-2.ensures

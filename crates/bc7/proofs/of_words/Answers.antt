@@ -10,7 +10,7 @@ use lib.ListN.{replicate, get_or-replicate}
 use Rattle.rules.specs.Notation.{build}
 use Rattle.rules.specs.Bc7.{lowest, mode_of, mode_at, pixel_in, pixel_of}
 use Rattle.bc7.specs.rest.Whole.{whole}
-use Rattle.laws.proofs.Filled.{is-build}
+use Rattle.laws.proofs.Filled.{is_build}
 use borrow.Author.Rules.{rules}
 use Rattle.bc7.proofs.of_words.Goals as goal
 
@@ -26,7 +26,7 @@ returns-then-m-gt7 c =
     let m : z.result ≡ mode_of w = z.ensures ∙ ap (λ (b : ℕ). lowest 8 b 0) (first r.hi r.lo) in
     let t : ltb 7 (mode_of w) ≡ true = ap (λ (x : ℕ). ltb 7 x) (sym m) ∙ lt-ltb _ _ c.if-m-gt7.true in
     c.nothing.ensures
-    ∙ is-build (pixel_of w) 0 16 (replicate 16 0) refl
+    ∙ is_build (pixel_of w) 0 16 (replicate 16 0) refl
     (λ i h. get_or-replicate 16 i 0 0 h ∙ sym (ap (λ (b : Bool). cond b 0 (pixel_in w (mode_of w) (mode_at (mode_of w)) i)) t))
 
 pub returns : goal.returns

@@ -11,7 +11,7 @@ use lib.Seq.{get_or-set_other}
 use lib.Pow.{shr-shr}
 use Rattle.laws.proofs.Filled.{fills}
 use Rattle.laws.proofs.Filling.{Filling, in_order_lem, stored_next}
-use Rattle.laws.proofs.Shift.{whole-past, whole-low}
+use Rattle.laws.proofs.Shift.{whole_past, whole_low}
 use Rattle.bc7.specs.rest.Whole.{field_of, width_by, passed_by}
 
 -- nothing but 0
@@ -47,11 +47,11 @@ module _ (v count b : ℕ) where
       record {
         turns = omega arith;
         size = length-set out i x ∙ p.size;
-        passed = fills (field_of v b) 0 out i x (omega (arith, p.size)) p.passed (e ∙ sym (whole-low hi lo b s) ∙ ap (λ (m : ℕ). m % 2 ^ b) p.left);
+        passed = fills (field_of v b) 0 out i x (omega (arith, p.size)) p.passed (e ∙ sym (whole_low hi lo b s) ∙ ap (λ (m : ℕ). m % 2 ^ b) p.left);
         others = λ k j. get_or-set_other out i k x 0 (λ q. omega arith) ∙ p.others k (omega arith);
         left =
             ap (λ (m : ℕ). hi / 2 ^ b * 2 ^ 64 + m) f
-            ∙ whole-past hi lo b s
+            ∙ whole_past hi lo b s
             ∙ ap (λ (m : ℕ). m / 2 ^ b) p.left
             ∙ shr-shr v (i * b) b
             ∙ ap (λ (m : ℕ). v / 2 ^ m) n;

@@ -7,7 +7,7 @@ use Prim.Native.Nat.{ℕ, ◌-◌, ◌*◌, ◌/◌, ◌%◌, ◌^◌}
 use native.Mathlib.Omega.{arith}
 use lib.ListN.{get_or, replicate}
 use Rattle.rules.specs.Bc7.{rotated}
-use Rattle.laws.proofs.Filling.{Filling, in_order_lem, begun, stored_next, filled-all}
+use Rattle.laws.proofs.Filling.{Filling, in_order_lem, begun, stored_next, filled_all}
 use Rattle.bc7.specs.Shaded.{between}
 use Rattle.bc7.proofs.shade.Goals as goal
 
@@ -100,5 +100,5 @@ loop-i-preserved c =
 pub returns : goal.returns
 returns c =
     let a = c.args in
-    filled-all (shade_of a.t a.layout a.t4 a.t5 a.e.red-1 a.e.green-1 a.e.blue-1 a.e.alpha) 0 16 c.loop-i.out c.loop-i.i c.loop-i.invariant
+    filled_all (shade_of a.t a.layout a.t4 a.t5 a.e.red-1 a.e.green-1 a.e.blue-1 a.e.alpha) 0 16 c.loop-i.out c.loop-i.i c.loop-i.invariant
     c.loop-i-test.false

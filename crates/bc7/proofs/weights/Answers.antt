@@ -9,7 +9,7 @@ use lib.Dec.{lit<}
 use lib.ListN.{get_or}
 use lib.Pow.{pow_pos, pow_mono}
 use Rattle.rules.specs.Bptc.{weights_of}
-use Rattle.laws.proofs.Filled.{getD-build, build_same}
+use Rattle.laws.proofs.Filled.{get_or_build, build_same}
 use Rattle.bc7.specs.rest.Whole.{passed_by, width_by}
 use Rattle.bc7.proofs.Steps.{each}
 use borrow.Author.Rules.{rules}
@@ -31,4 +31,4 @@ returns c =
     ∙ build_same 0 (λ i. get_or (weights_of a.b) (get_or c.indices.result i 0) 0)
     (λ i. get_or (weights_of a.b) (a.v / 2 ^ passed_by a.b a.mask i % 2 ^ width_by a.b a.mask i) 0) 16
     (λ i h. ap (λ (x : ℕ). get_or (weights_of a.b) x 0) (ap (λ (l : List ℕ). get_or l i 0) c.indices.ensures
-    ∙ getD-build (λ i. a.v / 2 ^ passed_by a.b a.mask i % 2 ^ width_by a.b a.mask i) 0 16 i h))
+    ∙ get_or_build (λ i. a.v / 2 ^ passed_by a.b a.mask i % 2 ^ width_by a.b a.mask i) 0 16 i h))

@@ -1,7 +1,7 @@
 -- `blocks::paint_colour` meets its contract: without an alpha half, and with one.
 -- Assumes nothing.
 use borrow.Author.Tests.{not-true, not-false}
-use Rattle.blocks.proofs.Colour.{without, with-alpha, as_tile}
+use Rattle.blocks.proofs.Colour.{without, with_alpha_lem, as_tile}
 use borrow.Author.Rules.{rules}
 use Rattle.blocks.proofs.paint_colour.Goals as goal
 
@@ -23,7 +23,7 @@ pub returns : goal.returns
 returns c =
     let a = c.args in
     let e =
-    with-alpha a.plain a.punch a.d.now _ _ c.colour_block-px.ensures a.alpha (not-false a.alpha c.if-not-alpha.false)
+    with_alpha_lem a.plain a.punch a.d.now _ _ c.colour_block-px.ensures a.alpha (not-false a.alpha c.if-not-alpha.false)
     c.colours_from-at.ensures.0 _ c.a8_onto.ensures
     in
     as_tile a.pic a.bx a.by _ _ a.image.now _ e c.place_whole-2.ensures

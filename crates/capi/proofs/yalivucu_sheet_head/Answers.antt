@@ -16,9 +16,9 @@ returns-in-Holds c =
       sheet = c.sheet_head-told.result;
       tells = c.sheet_head-told.ensures;
       says = sym (ap (λ (s : Sheet). get_or (told s) 0 0) e);
-      the-format = sym (ap (λ (s : Sheet). head_or (λ h. h.format) s a.format.now) e);
+      the_format = sym (ap (λ (s : Sheet). head_or (λ h. h.format) s a.format.now) e);
       the_width = sym (ap (λ (s : Sheet). head_or (λ h. h.width) s a.width.now) e);
-      the-height = sym (ap (λ (s : Sheet). head_or (λ h. h.height) s a.height.now) e);
+      the_height = sym (ap (λ (s : Sheet). head_or (λ h. h.height) s a.height.now) e);
     }
 
 pub returns-in-Refused : goal.returns-in-Refused
@@ -29,7 +29,7 @@ returns-in-Refused c =
       sheet = c.sheet_head-told.result;
       tells = c.sheet_head-told.ensures;
       says = c.number.ensures ∙ sym (ap (λ (s : Sheet). get_or (told s) 0 0) e);
-      the-format = sym (ap (λ (s : Sheet). head_or (λ h. h.format) s a.format.now) e);
+      the_format = sym (ap (λ (s : Sheet). head_or (λ h. h.format) s a.format.now) e);
       the_width = sym (ap (λ (s : Sheet). head_or (λ h. h.width) s a.width.now) e);
-      the-height = sym (ap (λ (s : Sheet). head_or (λ h. h.height) s a.height.now) e);
+      the_height = sym (ap (λ (s : Sheet). head_or (λ h. h.height) s a.height.now) e);
     }

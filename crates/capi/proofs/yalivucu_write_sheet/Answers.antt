@@ -17,7 +17,7 @@ returns-in_default c =
       written = w;
       writes = c.write_sheet-wrote.ensures;
       says = c.number.ensures;
-      the-bytes = sym (ap (λ (t : Bool). cond t w.bytes stood) (refusal w.answer c.in_default.keys2));
+      the_bytes = sym (ap (λ (t : Bool). cond t w.bytes stood) (refusal w.answer c.in_default.keys2));
     }
 
 pub returns : goal.returns
@@ -29,5 +29,5 @@ returns c =
       written = w;
       writes = c.write_sheet-wrote.ensures;
       says = sym (ap answer_number e);
-      the-bytes = sym (ap (λ (a : Answer). cond (accepts (said a)) w.bytes stood) e);
+      the_bytes = sym (ap (λ (a : Answer). cond (accepts (said a)) w.bytes stood) e);
     }

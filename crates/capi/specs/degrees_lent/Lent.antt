@@ -29,6 +29,6 @@ pub record DegreesTold (legend : Legend) (named shown pixel : ℕ) (measured p m
   pub reply : Reply
   pub reads : ReadsDegrees legend named shown pixel measured reply
   pub says : number ≡ get_or (degrees_said reply) 0 0
-  pub the-predicted : p' ≡ value_or (λ r. r.predicted) reply p
-  pub the-measured : m' ≡ value_or (λ r. r.measured) reply m
-  pub the-difference : d' ≡ value_or (λ r. r.difference) reply d
+  pub the_predicted : p' ≡ value_or (λ r. r.predicted) reply p
+  pub the_measured : m' ≡ value_or (λ r. r.measured) reply m
+  pub the_difference : d' ≡ value_or (λ r. r.difference) reply d

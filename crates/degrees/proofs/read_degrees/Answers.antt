@@ -6,21 +6,21 @@ use borrow.Author.Tests.{not-true, not-false}
 use lib.Dec.{T}
 use lib.Ieee.{binary32, fits}
 use Rattle.rules.specs.Degrees.{in_degrees_lem, sound, one_digit_lem}
-use Rattle.degrees.proofs.Checks.{bad-legend, bad-digit, bad-measurement, not-measured, reads}
+use Rattle.degrees.proofs.Checks.{bad_legend, bad_digit, bad_measurement, not_measured, reads}
 use borrow.Author.Rules.{rules}
 use Rattle.degrees.proofs.read_degrees.Goals as goal
 
 pub returns-then-not-good_legend : goal.returns-then-not-good_legend
 returns-then-not-good_legend c =
     let a = c.args in
-    bad-legend a.legend a.named a.shown a.pixel a.decreases
+    bad_legend a.legend a.named a.shown a.pixel a.measured
     (sym c.sound-good_legend.ensures ∙ not-true _ c.if-not-good_legend.true)
 
 pub returns-then-not-good_digit : goal.returns-then-not-good_digit
 returns-then-not-good_digit c =
     let good-legend : sound c.args.legend ≡ true = sym c.sound-good_legend.ensures ∙ not-false _ c.if-not-good_legend.false in
     let a = c.args in
-    bad-digit a.legend a.named a.shown a.pixel a.decreases good-legend
+    bad_digit a.legend a.named a.shown a.pixel a.measured good-legend
     (sym c.one_digit-good_digit.ensures ∙ not-true _ c.if-not-good_digit.true)
 
 pub returns-then-not-good_measurement : goal.returns-then-not-good_measurement
@@ -28,7 +28,7 @@ returns-then-not-good_measurement c =
     let good-legend : sound c.args.legend ≡ true = sym c.sound-good_legend.ensures ∙ not-false _ c.if-not-good_legend.false in
     let good-digit : one_digit_lem c.args.named c.args.shown ≡ true = sym c.one_digit-good_digit.ensures ∙ not-false _ c.if-not-good_digit.false in
     let a = c.args in
-    bad-measurement a.legend a.named a.shown a.pixel a.decreases good-legend good-digit
+    bad_measurement a.legend a.named a.shown a.pixel a.measured good-legend good-digit
     (sym c.in_degrees-good_measurement.ensures ∙ not-true _ c.if-not-good_measurement.true)
 
 pub returns-then-not_seen : goal.returns-then-not_seen
@@ -37,7 +37,7 @@ returns-then-not_seen c =
     let good-digit : one_digit_lem c.args.named c.args.shown ≡ true = sym c.one_digit-good_digit.ensures ∙ not-false _ c.if-not-good_digit.false in
     let good-measurement : in_degrees_lem c.args.measured ≡ true = sym c.in_degrees-good_measurement.ensures ∙ not-false _ c.if-not-good_measurement.false in
     let a = c.args in
-    not-measured a.legend a.named a.shown a.pixel a.decreases good-legend good-digit good-measurement
+    not_measured a.legend a.named a.shown a.pixel a.measured good-legend good-digit good-measurement
     (sym c.unseen-not_seen.ensures ∙ c.if-not_seen.true)
 
 pub returns : goal.returns
@@ -47,7 +47,7 @@ returns c =
     let good-measurement : in_degrees_lem c.args.measured ≡ true = sym c.in_degrees-good_measurement.ensures ∙ not-false _ c.if-not-good_measurement.false in
     let single : T (fits binary32 c.args.measured) = subst T (sym c.well-formed.1.1.1.1.0.1) tt in
     let a = c.args in
-    reads a.legend a.named a.shown a.pixel a.decreases good-legend good-digit good-measurement
+    reads a.legend a.named a.shown a.pixel a.measured good-legend good-digit good-measurement
     (sym c.unseen-not_seen.ensures ∙ c.if-not_seen.false)
     single
     c.predicted-p.result

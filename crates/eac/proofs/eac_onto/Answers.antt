@@ -5,10 +5,10 @@ use lib.Bits.{bit_or}
 use Rattle.rules.specs.Notation.{build, byte}
 use Rattle.rules.specs.Channels.{or_channel}
 use Rattle.rules.specs.Whole.{middle}
-use Rattle.laws.proofs.Filling.{Filling, in_order_lem, begun, stored_next, filled-all}
+use Rattle.laws.proofs.Filling.{Filling, in_order_lem, begun, stored_next, filled_all}
 use Rattle.laws.proofs.Signed.{times_le}
 use Rattle.eac.specs.Eights.{eighth_of}
-use Rattle.eac.proofs.Bytes.{middle_held, eights-are-bytes, bytes_of, byte_at, byte-at, byte_small}
+use Rattle.eac.proofs.Bytes.{middle_held, eights_are_bytes, bytes_of, byte_at, byte-at, byte_small}
 use Rattle.eac.proofs.eac_onto.Goals as goal
 
 alike : (p : ℕ) {b c u v : ℕ} → b ≡ c → u ≡ v → bit_or p (b * u) ≡ bit_or p (c * v)
@@ -28,7 +28,7 @@ eight_bytes-eight-requires c =
 pub eac_bytes-bytes-requires : goal.eac_bytes-bytes-requires
 eac_bytes-bytes-requires c =
     let eight : c.eight_bytes-eight.result ≡ build 8 (λ j. pos (eighth_of c.args.signed c.args.d.now j)) = c.eight_bytes-eight.ensures ∙ ap (λ (t : Bool). build 8 (λ j. pos (eighth_of t c.args.d.now j))) c.Span-of.ensures.0 in
-    (c.pre.0, eights-are-bytes c.args.signed c.args.d.now c.eight_bytes-eight.result eight)
+    (c.pre.0, eights_are_bytes c.args.signed c.args.d.now c.eight_bytes-eight.result eight)
 
 pub loop-i-init : goal.loop-i-init
 loop-i-init c = begun in_order_lem _ 0 16 _ (search rules)
@@ -78,4 +78,4 @@ loop-i-preserved c =
 pub returns : goal.returns
 returns c =
     let l = c.loop-i in
-    filled-all _ 0 16 l.out l.i l.invariant (omega arith)
+    filled_all _ 0 16 l.out l.i l.invariant (omega arith)

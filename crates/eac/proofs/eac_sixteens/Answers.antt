@@ -4,14 +4,14 @@ use Rattle.std.proofs.Common.{◌≡◌, ℕ, ◌<◌, get_or, pos, ap, ◌∙�
 use Rattle.rules.specs.Whole.{sixteen}
 use Rattle.laws.proofs.Filled.{build_same}
 use Rattle.eac.specs.Eights.{whole_of, number_at}
-use Rattle.eac.proofs.Bytes.{small_added, small_whole, wholes-at, whole-small, whole-raised, picks, whole_picked}
+use Rattle.eac.proofs.Bytes.{small_added, small_whole, wholes_at, whole_small, whole_raised, picks, whole_picked}
 use Rattle.eac.proofs.eac_sixteens.Goals as goal
 
 pub picked-requires : goal.picked-requires
 picked-requires c =
     let g = c.args in (
       search rules,
-      λ j h. rw (wholes-at g.span.signed g.d.now g.eight c.requires.1 j h) (small_whole g.span.signed g.d.now j).small,
+      λ j h. rw (wholes_at g.span.signed g.d.now g.eight c.requires.1 j h) (small_whole g.span.signed g.d.now j).small,
     )
 
 pub narrowed-requires : goal.narrowed-requires
@@ -22,8 +22,8 @@ narrowed-requires c =
     let u = c.pre.2.raised in (
       small_added g.span.signed g.span.up u,
       λ k h. (
-        whole-raised g.span.signed g.d.now _ (number_at g.d.now k) g.span.up (pick k h) u,
-        whole-small g.span.signed g.d.now _ (number_at g.d.now k) g.span.up (pick k h) u,
+        whole_raised g.span.signed g.d.now _ (number_at g.d.now k) g.span.up (pick k h) u,
+        whole_small g.span.signed g.d.now _ (number_at g.d.now k) g.span.up (pick k h) u,
       ),
     )
 

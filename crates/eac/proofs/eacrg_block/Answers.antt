@@ -5,7 +5,7 @@ use Rattle.rules.specs.Notation.{build}
 use Rattle.rules.specs.Pixel.{word}
 use Rattle.rules.specs.Channels.{red_green_pixel}
 use Rattle.laws.proofs.Parts.{rest}
-use Rattle.eac.proofs.Bytes.{middle_held, eights-are-bytes, bytes_of, byte_at, byte_small}
+use Rattle.eac.proofs.Bytes.{middle_held, eights_are_bytes, bytes_of, byte_at, byte_small}
 use Rattle.eac.proofs.eacrg_block.Goals as goal
 
 pub eight_bytes-green-requires : goal.eight_bytes-green-requires
@@ -14,12 +14,12 @@ eight_bytes-green-requires c =
 
 pub eac_bytes-requires : goal.eac_bytes-requires
 eac_bytes-requires c =
-    (omega (arith, c.requires.0), eights-are-bytes c.args.span.signed c.args.d.now c.eight_bytes-red.result c.eight_bytes-red.ensures)
+    (omega (arith, c.requires.0), eights_are_bytes c.args.span.signed c.args.d.now c.eight_bytes-red.result c.eight_bytes-red.ensures)
 
 pub eac_bytes-requires-2 : goal.eac_bytes-requires-2
 eac_bytes-requires-2 c =
     let half : List ℕ = take (length c.args.d.now - 8) (drop 8 c.args.d.now) in
-    (search rules, eights-are-bytes c.args.span.signed half c.eight_bytes-green.result c.eight_bytes-green.ensures)
+    (search rules, eights_are_bytes c.args.span.signed half c.eight_bytes-green.result c.eight_bytes-green.ensures)
 
 pub red_green-requires : goal.red_green-requires
 red_green-requires c =

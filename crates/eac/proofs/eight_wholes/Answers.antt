@@ -2,10 +2,10 @@
 -- Assumes nothing.
 use Rattle.std.proofs.Common.{◌≡◌, ◌-◌, pos, refl, ap, ◌∙◌, arith, w16, rules}
 use Rattle.rules.specs.Channels.{multiplier}
-use Rattle.laws.proofs.Filling.{Filling, in_order_lem, begun, stored_next, filled-all}
+use Rattle.laws.proofs.Filling.{Filling, in_order_lem, begun, stored_next, filled_all}
 use Rattle.laws.proofs.Signed.{held, held_small}
 use Rattle.eac.specs.Eights.{whole_of}
-use Rattle.eac.proofs.Bytes.{step-held, step_small, in_order, whole-at}
+use Rattle.eac.proofs.Bytes.{step_held, step_small, in_order, whole_at_lem}
 use Rattle.eac.proofs.eight_wholes.Goals as goal
 
 pub bounds-d-1 : goal.bounds-d-1
@@ -48,13 +48,13 @@ pub loop-i-preserved : goal.loop-i-preserved
 loop-i-preserved c =
     let value : held w16 c.eac_whole.result ≡ whole_of c.args.span.signed c.args.d.now c.loop-i.i = let a = c.args in
     let d = a.d.now in
-    whole-at a.span.signed d a.base a.span.low a.span.high c.eac_whole.result _
+    whole_at_lem a.span.signed d a.base a.span.low a.span.high c.eac_whole.result _
     c.times_of-m.result c.loop-i.i c.pre.1.0 c.pre.1.1 (c.times_of-m.ensures.0 ∙ ap multiplier c.multiplier_of.ensures.0)
     c.pre.0.2.from c.pre.0.2.to
-    (step-held d c.steps_in-steps.result c.row_of.result c.loop-i.i c.steps_in-steps.ensures c.row_of.ensures.0)
+    (step_held d c.steps_in-steps.result c.row_of.result c.loop-i.i c.steps_in-steps.ensures c.row_of.ensures.0)
     c.eac_whole.ensures in
     let l = c.loop-i in
     stored_next _ (pos 0) 8 l.eight l.i l.invariant _ (omega arith) value
 
 pub returns : goal.returns
-returns c = filled-all _ (pos 0) 8 c.loop-i.eight c.loop-i.i c.loop-i.invariant (omega arith)
+returns c = filled_all _ (pos 0) 8 c.loop-i.eight c.loop-i.i c.loop-i.invariant (omega arith)

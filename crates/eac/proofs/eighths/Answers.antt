@@ -1,7 +1,7 @@
 -- Turn i stores the byte of value i.
 -- Assumes nothing.
 use Rattle.std.proofs.Common.{◌≡◌, ◌-◌, ◌/◌, get_or, ℤ, pos, ◌+ℤ◌, nat_abs, refl, ap, ◌∙◌, arith, w16}
-use Rattle.laws.proofs.Filling.{Filling, in_order_lem, begun, stored_next, filled-all}
+use Rattle.laws.proofs.Filling.{Filling, in_order_lem, begun, stored_next, filled_all}
 use Rattle.laws.proofs.Signed.{held, held_small, mag_add}
 use Rattle.eac.proofs.values.Whole.{as_natural}
 use Rattle.eac.proofs.eighths.Goals as goal
@@ -44,4 +44,4 @@ loop-i-preserved c =
     ∙ held_small w16 (pos (nat_abs (pos c.args.up +ℤ v) / 8)) (omega (arith, n)))
 
 pub returns : goal.returns
-returns c = filled-all _ (pos 0) 8 c.loop-i.eight c.loop-i.i c.loop-i.invariant (omega arith)
+returns c = filled_all _ (pos 0) 8 c.loop-i.eight c.loop-i.i c.loop-i.invariant (omega arith)

@@ -2,7 +2,7 @@
 -- Assumes nothing.
 use Rattle.std.proofs.Common.{◌≡◌, ◌-◌, get_or, pos, refl, ap, ◌∙◌, arith, w16}
 use Rattle.rules.specs.Whole.{sixteen}
-use Rattle.laws.proofs.Filling.{Filling, in_order_lem, begun, stored_next, filled-all}
+use Rattle.laws.proofs.Filling.{Filling, in_order_lem, begun, stored_next, filled_all}
 use Rattle.laws.proofs.Signed.{held, held_small}
 use Rattle.eac.proofs.narrowed.Goals as goal
 
@@ -40,4 +40,4 @@ loop-i-preserved c =
     stored_next _ 0 16 l.out l.i l.invariant _ (omega arith) (c.sixteen.ensures ∙ ap sixteen value)
 
 pub returns : goal.returns
-returns c = filled-all _ 0 16 c.loop-i.out c.loop-i.i c.loop-i.invariant (omega arith)
+returns c = filled_all _ 0 16 c.loop-i.out c.loop-i.i c.loop-i.invariant (omega arith)

@@ -2,7 +2,7 @@
 -- Assumes nothing.
 use Rattle.std.proofs.Common.{◌-◌, get_or, refl, arith}
 use Rattle.rules.specs.Pixel.{word}
-use Rattle.laws.proofs.Filling.{Filling, in_order_lem, begun, stored_next, filled-all}
+use Rattle.laws.proofs.Filling.{Filling, in_order_lem, begun, stored_next, filled_all}
 use Rattle.eac.proofs.red_green.Goals as goal
 
 pub loop-i-init : goal.loop-i-init
@@ -45,4 +45,4 @@ loop-i-preserved c =
 pub returns : goal.returns
 returns c =
     let l = c.loop-i in
-    filled-all _ 0 16 l.out l.i l.invariant (omega arith)
+    filled_all _ 0 16 l.out l.i l.invariant (omega arith)

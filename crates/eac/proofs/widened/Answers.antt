@@ -1,7 +1,7 @@
 -- Turn i stores byte i.
 -- Assumes nothing.
 use Rattle.std.proofs.Common.{◌≡◌, ◌-◌, ◌<◌, get_or, pos, nat_abs, refl, ap, arith, w16}
-use Rattle.laws.proofs.Filling.{Filling, in_order_lem, begun, stored_next, filled-all}
+use Rattle.laws.proofs.Filling.{Filling, in_order_lem, begun, stored_next, filled_all}
 use Rattle.laws.proofs.Signed.{held, held_small}
 use Rattle.eac.proofs.values.Whole.{as_natural}
 use Rattle.eac.proofs.widened.Goals as goal
@@ -48,4 +48,4 @@ loop-i-preserved c =
     stored_next _ 0 16 l.out-1 l.i l.invariant _ (omega arith) (ap nat_abs byte)
 
 pub returns : goal.returns
-returns c = filled-all _ 0 16 c.loop-i.out c.loop-i.i c.loop-i.invariant (omega arith)
+returns c = filled_all _ 0 16 c.loop-i.out c.loop-i.i c.loop-i.invariant (omega arith)

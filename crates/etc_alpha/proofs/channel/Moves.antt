@@ -12,7 +12,7 @@ use mir.Syntax.{w16}
 use Rattle.rules.specs.Notation.{byte, bits, build, clamp}
 use Rattle.rules.specs.Channels.{alpha_steps_lem, alpha_index, alpha_step, alpha_byte}
 use Rattle.laws.proofs.Every.{every, below}
-use Rattle.laws.proofs.Filled.{getD-build}
+use Rattle.laws.proofs.Filled.{get_or_build}
 use Rattle.laws.proofs.Signed.{small, small_at, clamp_le, held, held_small}
 use Rattle.tables.specs.products.Products.{products_of_lem}
 use Rattle.etc_alpha.specs.picks.Picks.{pick_at}
@@ -36,21 +36,21 @@ small_product m row j h g =
 pub move_picked : (d : List ℕ) (k : ℕ) → pick_at d (products_in d) k ≡ move_at d k
 unfolding pick_at alpha_step
 move_picked d k =
-    getD-build (λ i. pos (bits 7 4 (byte d 1)) *ℤ get_or (get_or alpha_steps_lem (bits 3 0 (byte d 1)) []) i (pos 0)) (pos 0) 8
+    get_or_build (λ i. pos (bits 7 4 (byte d 1)) *ℤ get_or (get_or alpha_steps_lem (bits 3 0 (byte d 1)) []) i (pos 0)) (pos 0) 8
     (alpha_index d (4 * (k % 4) + k / 4)) (omega arith)
 
 -- the eight alphas are bytes
 pub small_alpha : (base b : ℕ) (eight : List ℤ) (j : ℕ) → eight ≡ eight_alphas_lem base b → j < 8 → mag (get_or eight j (pos 0)) < 2048
 small_alpha base b eight j e h =
     let row = products_of_lem (bits 7 4 b) (bits 3 0 b) in
-    rw (e, getD-build (λ j. pos (clamp 255 (pos base +ℤ get_or row j (pos 0)))) (pos 0) 8 j h) (omega (arith, clamp_le 255 (pos base +ℤ get_or row j (pos 0))))
+    rw (e, get_or_build (λ j. pos (clamp 255 (pos base +ℤ get_or row j (pos 0)))) (pos 0) 8 j h) (omega (arith, clamp_le 255 (pos base +ℤ get_or row j (pos 0))))
 
 -- of them the pixel at place k picks its alpha
 pub alpha_picked : (d : List ℕ) (eight : List ℤ) (k : ℕ) → eight ≡ eight_alphas_lem (byte d 0) (byte d 1) → pick_at d eight k ≡ pos (alpha_byte d (k % 4) (k / 4))
 unfolding pick_at alpha_byte
 alpha_picked d eight k e =
     ap (λ (l : List ℤ). get_or l (alpha_index d (4 * (k % 4) + k / 4)) (pos 0)) e
-    ∙ getD-build (λ j. pos (clamp 255 (pos (byte d 0) +ℤ get_or (products_in d) j (pos 0)))) (pos 0) 8 (alpha_index d (4 * (k % 4) + k / 4)) (omega arith)
+    ∙ get_or_build (λ j. pos (clamp 255 (pos (byte d 0) +ℤ get_or (products_in d) j (pos 0)))) (pos 0) 8 (alpha_index d (4 * (k % 4) + k / 4)) (omega arith)
     ∙ ap (λ (z : ℤ). pos (clamp 255 (pos (byte d 0) +ℤ z))) (move_picked d k)
 
 pub small_byte : (d : List ℕ) (x y : ℕ) → alpha_byte d x y < 256
@@ -66,5 +66,5 @@ pub alpha_held : (d : List ℕ) (eight l : List ℤ) (k : ℕ) → eight ≡ eig
     → held w16 (get_or l k (pos 0)) ≡ pos (alpha_byte d (k % 4) (k / 4))
 alpha_held d eight l k e f h =
     held_pos (get_or l k (pos 0)) (alpha_byte d (k % 4) (k / 4))
-    (ap (λ (l : List ℤ). get_or l k (pos 0)) f ∙ getD-build (pick_at d eight) (pos 0) 16 k h ∙ alpha_picked d eight k e)
+    (ap (λ (l : List ℤ). get_or l k (pos 0)) f ∙ get_or_build (pick_at d eight) (pos 0) 16 k h ∙ alpha_picked d eight k e)
     (small_byte d (k % 4) (k / 4))

@@ -52,13 +52,13 @@ clear l (suc (suc (suc (suc n)))) h = absurd (omega arith)
 
 -- a pixel that is made, of RGB and of RGBA1: the sums of a differential block are in range
 module _ (k : Kind) (d : List ℕ) (fair : k ≡ Differential → wrapping d ≡ differential d) (x y : ℕ) where
-  pub opaque-pixel : made_pixel k true d x y ≡ cond (is_planar k) (planar_pixel_lem (planar_bases_lem d) x y) (indexed steps_of k d x y)
+  pub opaque_pixel : made_pixel k true d x y ≡ cond (is_planar k) (planar_pixel_lem (planar_bases_lem d) x y) (indexed steps_of k d x y)
   unfolding made_pixel indexed
-  opaque-pixel = ap (λ (l : List ℕ). cond (is_planar k) (planar_pixel_lem (planar_bases_lem d) x y) (get_or l (index d x y) 0)) (made steps_of k d (half d x y) fair)
+  opaque_pixel = ap (λ (l : List ℕ). cond (is_planar k) (planar_pixel_lem (planar_bases_lem d) x y) (get_or l (index d x y) 0)) (made steps_of k d (half d x y) fair)
 
-  pub clear-pixel : made_pixel k false d x y ≡ cond (is_planar k) (planar_pixel_lem (planar_bases_lem d) x y) (cond (eqb (index d x y) 2) 0 (indexed clear_steps k d x y))
+  pub clear_pixel : made_pixel k false d x y ≡ cond (is_planar k) (planar_pixel_lem (planar_bases_lem d) x y) (cond (eqb (index d x y) 2) 0 (indexed clear_steps k d x y))
   unfolding made_pixel indexed
-  clear-pixel =
+  clear_pixel =
       ap (λ (n : ℕ). cond (is_planar k) (planar_pixel_lem (planar_bases_lem d) x y) n)
       (ap (λ (l : List ℕ). get_or (punched false l) (index d x y) 0) (made clear_steps k d (half d x y) fair) ∙ clear (colours_of_lem clear_steps k d (half d x y)) (index d x y) (omega arith))
 
@@ -70,29 +70,29 @@ module _ (d : List ℕ) (x y : ℕ) where
   by_bit true = refl
   by_bit false = refl
 
-  etc1-pixel : made_pixel (etc1_kind_lem d) true d x y ≡ etc1_pixel d x y
+  etc1_pixel_lem : made_pixel (etc1_kind_lem d) true d x y ≡ etc1_pixel d x y
   unfolding etc1_pixel
-  etc1-pixel = by_bit (differs d)
+  etc1_pixel_lem = by_bit (differs d)
 
-  rgb-pixel : made_pixel (kind_of d) true d x y ≡ rgb_pixel d x y
+  rgb_pixel_lem : made_pixel (kind_of d) true d x y ≡ rgb_pixel d x y
   unfolding rgb_pixel
-  rgb-pixel = opaque-pixel (kind_of d) d (fair d) x y
+  rgb_pixel_lem = opaque_pixel (kind_of d) d (fair d) x y
 
-  rgba1-made : (t : Bool) → made_pixel (kind_by_sums_lem d) t d x y
+  rgba1_made : (t : Bool) → made_pixel (kind_by_sums_lem d) t d x y
       ≡ cond (is_planar (kind_by_sums_lem d)) (planar_pixel_lem (planar_bases_lem d) x y)
       (cond t (indexed steps_of (kind_by_sums_lem d) d x y) (cond (eqb (index d x y) 2) 0 (indexed clear_steps (kind_by_sums_lem d) d x y)))
-  rgba1-made true = opaque-pixel (kind_by_sums_lem d) d (fair_by_sums d) x y
-  rgba1-made false = clear-pixel (kind_by_sums_lem d) d (fair_by_sums d) x y
+  rgba1_made true = opaque_pixel (kind_by_sums_lem d) d (fair_by_sums d) x y
+  rgba1_made false = clear_pixel (kind_by_sums_lem d) d (fair_by_sums d) x y
 
-  rgba1-pixel : made_pixel (kind_by_sums_lem d) (differs d) d x y ≡ rgba1_pixel d x y
+  rgba1_pixel_lem : made_pixel (kind_by_sums_lem d) (differs d) d x y ≡ rgba1_pixel d x y
   unfolding rgba1_pixel
-  rgba1-pixel = rgba1-made (differs d)
+  rgba1_pixel_lem = rgba1_made (differs d)
 
   pub pixel : (plain punch : Bool) → made_pixel (kind_in_lem plain punch d) (opaque_in_lem punch d) d x y ≡ colour_pixel plain punch d x y
-  pixel true true = rgba1-pixel
-  pixel true false = etc1-pixel
-  pixel false true = rgba1-pixel
-  pixel false false = rgb-pixel
+  pixel true true = rgba1_pixel_lem
+  pixel true false = etc1_pixel_lem
+  pixel false true = rgba1_pixel_lem
+  pixel false false = rgb_pixel_lem
 
 -- the pick of eight colours is the tile
 pub picked : (k : Kind) (opaque : Bool) (d p : List ℕ) → is_planar k ≡ false → p ≡ eight (λ h. punched opaque (made_colours (steps_where opaque) k d h))

@@ -23,13 +23,13 @@ module _ (m : ℕ) (h : m < 65) where
   down : mag (minus m) < 1024
   down = omega (arith, mag-neg m)
 
-  pub steps-t : (opaque : Bool) → Steps opaque (pos 0 ∷ pos m ∷ third_where opaque (pos 0) ∷ minus m ∷ [])
-  steps-t true = steps_opaque (pos 0 ∷ pos m ∷ pos 0 ∷ minus m ∷ []) (small_four (pos 0) (pos m) (pos 0) (minus m) (omega arith) up (omega arith) down)
-  steps-t false = steps_clear (pos 0 ∷ pos m ∷ minus 512 ∷ minus m ∷ []) (small_four (pos 0) (pos m) (minus 512) (minus m) (omega arith) up (omega arith) down) refl
+  pub steps_t : (opaque : Bool) → Steps opaque (pos 0 ∷ pos m ∷ third_where opaque (pos 0) ∷ minus m ∷ [])
+  steps_t true = steps_opaque (pos 0 ∷ pos m ∷ pos 0 ∷ minus m ∷ []) (small_four (pos 0) (pos m) (pos 0) (minus m) (omega arith) up (omega arith) down)
+  steps_t false = steps_clear (pos 0 ∷ pos m ∷ minus 512 ∷ minus m ∷ []) (small_four (pos 0) (pos m) (minus 512) (minus m) (omega arith) up (omega arith) down) refl
 
-  pub steps-h : (opaque : Bool) → Steps opaque (pos m ∷ minus m ∷ third_where opaque (pos m) ∷ minus m ∷ [])
-  steps-h true = steps_opaque (pos m ∷ minus m ∷ pos m ∷ minus m ∷ []) (small_four (pos m) (minus m) (pos m) (minus m) up down up down)
-  steps-h false = steps_clear (pos m ∷ minus m ∷ minus 512 ∷ minus m ∷ []) (small_four (pos m) (minus m) (minus 512) (minus m) up down (omega arith) down) refl
+  pub steps_h : (opaque : Bool) → Steps opaque (pos m ∷ minus m ∷ third_where opaque (pos m) ∷ minus m ∷ [])
+  steps_h true = steps_opaque (pos m ∷ minus m ∷ pos m ∷ minus m ∷ []) (small_four (pos m) (minus m) (pos m) (minus m) up down up down)
+  steps_h false = steps_clear (pos m ∷ minus m ∷ minus 512 ∷ minus m ∷ []) (small_four (pos m) (minus m) (minus 512) (minus m) up down (omega arith) down) refl
 
 -- four bases with their steps
 abbrev pub four : Bool → List (List ℕ) → List ℤ → List ℕ
@@ -47,22 +47,22 @@ h_toned true c m = refl
 h_toned false c m = refl
 
 module _ (opaque : Bool) (d : List ℕ) (c : List (List ℕ)) (steps : List ℤ) (m : ℕ) where
-  pub t-four : c ≡ t_fields_lem (byte d 0) (byte d 1) (byte d 2) (byte d 3) → m ≡ distance_at (2 * (byte d 3 / 4 % 4) + byte d 3 % 2)
+  pub t_four : c ≡ t_fields_lem (byte d 0) (byte d 1) (byte d 2) (byte d 3) → m ≡ distance_at (2 * (byte d 3 / 4 % 4) + byte d 3 % 2)
       → steps ≡ pos 0 ∷ pos m ∷ third_where opaque (pos 0) ∷ minus m ∷ []
       → four opaque (get_or c 0 [] ∷ get_or c 1 [] ∷ get_or c 1 [] ∷ get_or c 1 [] ∷ []) steps ≡ punched opaque (t_colours_lem (t_bases d) (t_distance d))
   unfolding t_bases t_distance
-  t-four p q e =
+  t_four p q e =
       ap (four opaque (get_or c 0 [] ∷ get_or c 1 [] ∷ get_or c 1 [] ∷ get_or c 1 [] ∷ [])) e
       ∙ t_toned opaque c m
       ∙ ap (λ (c : List (List ℕ)). punched opaque (t_colours_lem c m)) p
       ∙ ap (λ (m : ℕ). punched opaque (t_colours_lem (t_bases d) m)) (q ∙ ap (λ (n : ℕ). distance_at (2 * (byte d 3 / 4 % 4) + n % 2)) (sym (div-one (byte d 3))))
 
-  pub h-four : c ≡ h_fields_lem (byte d 0) (byte d 1) (byte d 2) (byte d 3)
+  pub h_four : c ≡ h_fields_lem (byte d 0) (byte d 1) (byte d 2) (byte d 3)
       → m ≡ distance_at (4 * bit 2 (byte d 3) + 2 * bit 0 (byte d 3) + cond (not_less_lem (get_or c 0 []) (get_or c 1 [])) 1 0)
       → steps ≡ pos m ∷ minus m ∷ third_where opaque (pos m) ∷ minus m ∷ []
       → four opaque (get_or c 0 [] ∷ get_or c 0 [] ∷ get_or c 1 [] ∷ get_or c 1 [] ∷ []) steps ≡ punched opaque (h_colours_lem (h_bases d) (h_distance d))
   unfolding h_bases h_distance
-  h-four p q e =
+  h_four p q e =
       ap (four opaque (get_or c 0 [] ∷ get_or c 0 [] ∷ get_or c 1 [] ∷ get_or c 1 [] ∷ [])) e
       ∙ h_toned opaque c m
       ∙ ap (λ (c : List (List ℕ)). punched opaque (h_colours_lem c m)) p

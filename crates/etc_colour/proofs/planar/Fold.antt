@@ -2,7 +2,7 @@
 -- Assumes nothing.
 use Rattle.std.proofs.Common.{◌≡◌, ℕ, ◌+◌, ◌-◌, ◌*◌, ◌/◌, ◌<◌, ◌≤◌, min, add-mul, arith}
 use Rattle.laws.proofs.Signed.{times_le}
-use Rattle.laws.proofs.Diff.{is_pos, is_gap, is-plus, is-times, is_sum, is-quartered}
+use Rattle.laws.proofs.Diff.{is_pos, is_gap, is_plus, is_times, is_sum, is_quartered}
 use Rattle.rules.specs.Modes.{planar_channel}
 
 -- what is added, and what is taken away
@@ -15,8 +15,8 @@ fewer o x y = x * o + y * o
 pub planar_is : (o h v x y : ℕ) → planar_channel o h v x y ≡ min ((more o h v x y - fewer o x y) / 4) 255
 unfolding planar_channel
 planar_is o h v x y =
-    is-quartered
-    (is-plus (is-plus (is_sum (is-times (is_pos x) (is_gap (is_pos h) (is_pos o))) (is-times (is_pos y) (is_gap (is_pos v) (is_pos o)))) (is_pos (4 * o))) (is_pos 2))
+    is_quartered
+    (is_plus (is_plus (is_sum (is_times (is_pos x) (is_gap (is_pos h) (is_pos o))) (is_times (is_pos y) (is_gap (is_pos v) (is_pos o)))) (is_pos (4 * o))) (is_pos 2))
 
 pub taken : (o x y : ℕ) → (x + y) * o ≡ fewer o x y
 taken o x y = add-mul x y o

@@ -2,7 +2,7 @@
 -- Assumes nothing.
 use Rattle.std.proofs.Common.{ℕ, ◌+◌, ◌*◌, ◌<◌, ℤ, pos, ◌+ℤ◌, ◌-ℤ◌, ◌*ℤ◌, arith, w16, to_z}
 use Rattle.laws.proofs.Signed.{held}
-use Rattle.laws.proofs.Diff.{Is, is_pos, is-cast, is_gap, is-plus, is-times, is_sum, is_held}
+use Rattle.laws.proofs.Diff.{Is, is_pos, is_cast, is_gap, is_plus, is_times, is_sum, is_held}
 use Rattle.etc_colour.proofs.planar.Fold.{more, fewer, product}
 
 abbrev gap_m : ℕ → ℕ → ℤ
@@ -24,13 +24,13 @@ abbrev pub all_m : ℕ → ℕ → ℕ → ℕ → ℕ → ℤ
 all_m o h v x y = held w16 (three_m o h v x y) +ℤ pos 2
 
 pub gap : (h o : ℕ) → h < 256 → o < 256 → Is (gap_m h o) h o
-gap h o p q = is_gap (is-cast w16 h (omega arith)) (is-cast w16 o (omega arith))
+gap h o p q = is_gap (is_cast w16 h (omega arith)) (is_cast w16 o (omega arith))
 
 pub part : (x h o : ℕ) → x < 4 → h < 256 → o < 256 → Is (part_m x h o) (x * h) (x * o)
-part x h o p q r = is-times (is-cast w16 x (omega arith)) (is_held w16 (gap h o q r) (omega arith) (omega arith))
+part x h o p q r = is_times (is_cast w16 x (omega arith)) (is_held w16 (gap h o q r) (omega arith) (omega arith))
 
 pub four : (o : ℕ) → o < 256 → Is (four_m o) (4 * o) 0
-four o p = is-times (is_pos 4) (is-cast w16 o (omega arith))
+four o p = is_times (is_pos 4) (is_cast w16 o (omega arith))
 
 module _ (o h v x y : ℕ) (po : o < 256) (ph : h < 256) (pv : v < 256) (px : x < 4) (py : y < 4) where
   kept : (x h : ℕ) → x < 4 → h < 256 → Is (held w16 (part_m x h o)) (x * h) (x * o)
@@ -41,14 +41,14 @@ module _ (o h v x y : ℕ) (po : o < 256) (ph : h < 256) (pv : v < 256) (px : x 
 
   pub three : Is (three_m o h v x y) (x * h + y * v + 4 * o) (fewer o x y)
   three =
-      is-plus (is_held w16 two (omega (arith, product x h px ph, product y v py pv)) (omega (arith, product x o px po, product y o py po)))
+      is_plus (is_held w16 two (omega (arith, product x h px ph, product y v py pv)) (omega (arith, product x o px po, product y o py po)))
       (is_held w16 (four o po) (omega arith) (omega arith))
 
   pub all : Is (all_m o h v x y) (more o h v x y) (fewer o x y)
-  all = is-plus (is_held w16 three (omega (arith, product x h px ph, product y v py pv)) (omega (arith, product x o px po, product y o py po))) (is_pos 2)
+  all = is_plus (is_held w16 three (omega (arith, product x h px ph, product y v py pv)) (omega (arith, product x o px po, product y o py po))) (is_pos 2)
 
-  pub small-more : more o h v x y < 3000
-  small-more = omega (arith, product x h px ph, product y v py pv)
+  pub small_more : more o h v x y < 3000
+  small_more = omega (arith, product x h px ph, product y v py pv)
 
-  pub small-fewer : fewer o x y < 3000
-  small-fewer = omega (arith, product x o px po, product y o py po)
+  pub small_fewer : fewer o x y < 3000
+  small_fewer = omega (arith, product x o px po, product y o py po)

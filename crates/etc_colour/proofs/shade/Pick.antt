@@ -3,7 +3,7 @@
 use Rattle.std.proofs.Common.{◌≡◌, ℕ, ◌+◌, ◌*◌, ◌/◌, ◌%◌, ◌<◌, Bool, true, false, cond, eqb, List, [], ◌∷◌, get_or, ap, ◌∙◌, arith, eqb→eq}
 use Rattle.rules.specs.Notation.{build, bit}
 use Rattle.rules.specs.Colour.{flipped, half, index}
-use Rattle.laws.proofs.Filled.{is-build, length-build, getD-build}
+use Rattle.laws.proofs.Filled.{is_build, length_build, get_or_build}
 use Rattle.laws.proofs.Every.{below}
 use Rattle.etc_colour.specs.shade.Pick.{low_word, high_word, second_half_lem, eight, number_at, taken}
 
@@ -39,17 +39,17 @@ one colours h i p q =
     let n = h * 4 + i in
     let a : n / 4 ≡ h = omega arith in
     let b : n % 4 ≡ i = omega arith in
-    getD-build (λ n. get_or (colours (n / 4)) (n % 4) 0) 0 8 n (omega arith) ∙ rw (a, b)
+    get_or_build (λ n. get_or (colours (n / 4)) (n % 4) 0) 0 8 n (omega arith) ∙ rw (a, b)
 
 -- the pick of eight colours is, at each pixel, the colour of its half and its index
 pub picks : (d : List ℕ) (colours : ℕ → List ℕ) (set : List ℕ) → set ≡ eight colours → build 16 (taken d set) ≡ build 16 (λ k. get_or (colours (half d (k % 4) (k / 4))) (index d (k % 4) (k / 4)) 0)
 unfolding taken
 picks d colours set e =
-    is-build (λ k. get_or (colours (half d (k % 4) (k / 4))) (index d (k % 4) (k / 4)) 0) 0 16 (build 16 (taken d set)) (length-build (taken d set) 0 16)
+    is_build (λ k. get_or (colours (half d (k % 4) (k / 4))) (index d (k % 4) (k / 4)) 0) 0 16 (build 16 (taken d set)) (length_build (taken d set) 0 16)
     (λ k h.
     let x = k % 4 in
     let y = k / 4 in
-    getD-build (taken d set) 0 16 k h
+    get_or_build (taken d set) 0 16 k h
     ∙ ap (λ (s : List ℕ). taken d s k) e
     ∙ one colours (half d x y) (index d x y) (small_half (flipped d) x y (omega arith) (omega arith)) (omega arith))
 

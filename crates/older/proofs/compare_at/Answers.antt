@@ -8,7 +8,7 @@ use lib.ListN.{get_or}
 use Rattle.rules.specs.Places.{across, blocks, tile, bytes_of}
 use Rattle.rules.specs.Formats.{size_of, shows_of}
 use Rattle.rules.specs.declared.Format.{Format}
-use Rattle.laws.proofs.Filled.{getD-build}
+use Rattle.laws.proofs.Filled.{get_or_build}
 use Rattle.guard.specs.Viewers.{guard_of}
 use Rattle.guard.specs.declared.Viewer.{Viewer}
 use Rattle.guard.proofs.Scan.{eight, sound}
@@ -31,7 +31,7 @@ shown-eight viewer = sym (sound viewer).one_size ∙ eight viewer
 at_place : (f g : Format) (d t : List ℕ) (n k : ℕ) → f ≡ g → size_of g ≡ 8 → t ≡ tile (shows_of f) (bytes_of (size_of f) d n) → k < 16 → get_or t k 0 ≡ shows_of g (bytes_of 8 d n) (k % 4) (k / 4)
 at_place f g d t n k e s h l =
     ap (λ (z : List ℕ). get_or z k 0) h
-    ∙ getD-build (λ k. shows_of f (bytes_of (size_of f) d n) (k % 4) (k / 4)) 0 16 k l
+    ∙ get_or_build (λ k. shows_of f (bytes_of (size_of f) d n) (k % 4) (k / 4)) 0 16 k l
     ∙ ap (λ (z : Format). shows_of z (bytes_of (size_of z) d n) (k % 4) (k / 4)) e
     ∙ ap (λ (z : ℕ). shows_of g (bytes_of z d n) (k % 4) (k / 4)) s
 

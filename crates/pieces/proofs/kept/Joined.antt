@@ -14,7 +14,7 @@ use lib.ListN.{length, get_or, take, drop, set, length-set, length-take, length-
 use lib.Seq.{ext_get_or, length-take-le, get_or-take, get_or-drop, get_or-append-add, get_or-set_same, get_or-set_other}
 use Rattle.rules.specs.Notation.{build, byte}
 use Rattle.rules.specs.Places.{bytes_of}
-use Rattle.laws.proofs.Filled.{is-build, length-build, getD-build}
+use Rattle.laws.proofs.Filled.{is_build, length_build, get_or_build}
 use Rattle.rules.specs.Pieces.{padded}
 
 module _ (kept e : List ℕ) (h : ℕ) (long : h ≤ length kept) where
@@ -42,10 +42,10 @@ module _ (l : List ℕ) (at i : ℕ) where
         | no q ↦ ap (λ (t : Bool). cond t x 0) (le-ltb k i (omega (arith, q))) ∙ sym (ap (λ (t : Bool). cond t x 0) (le-ltb k (i + 1) (omega (arith, q, ne))))
       ]
 
-  pub padded-more : (out : List ℕ) (v : ℕ) → i < 15 → out ≡ padded l at i → v ≡ byte l (at + i) → set out i v ≡ padded l at (i + 1)
-  padded-more out v b p e =
+  pub padded_more : (out : List ℕ) (v : ℕ) → i < 15 → out ≡ padded l at i → v ≡ byte l (at + i) → set out i v ≡ padded l at (i + 1)
+  padded_more out v b p e =
       let n : length out ≡ 15 = ap length p in
-      is-build (λ k. cond (ltb k (i + 1)) (byte l (at + k)) 0) 0 15 (set out i v) (length-set out i v ∙ n)
+      is_build (λ k. cond (ltb k (i + 1)) (byte l (at + k)) 0) 0 15 (set out i v) (length-set out i v ∙ n)
       (λ k h.
       elim (ℕ_discrete k i) [
         | yes s ↦
@@ -57,7 +57,7 @@ module _ (l : List ℕ) (at i : ℕ) where
         | no s ↦
             get_or-set_other out i k v 0 s
             ∙ ap (λ (z : List ℕ). get_or z k 0) p
-            ∙ getD-build (λ j. cond (ltb j i) (byte l (at + j)) 0) 0 15 k h
+            ∙ get_or_build (λ j. cond (ltb j i) (byte l (at + j)) 0) 0 15 k h
             ∙ choose k (byte l (at + k)) s
       ])
 
@@ -81,8 +81,8 @@ same_bytes s m n d l a b e =
 pub joint_block : (s m : ℕ) (l : List ℕ) → s ≤ 16 → s ≤ length l → m ≡ 0 → bytes_of s (build 16 (byte l)) m ≡ bytes_of s l m
 joint_block s m l h k z =
     let o : m * s ≡ 0 = ap (λ (x : ℕ). x * s) z ∙ zero-mul s in
-    let w : length (build 16 (byte l)) ≡ 16 = length-build (byte l) 0 16 in
-    same_bytes s m m (build 16 (byte l)) l (omega arith) (omega arith) (λ i q. getD-build (byte l) 0 16 (m * s + i) (omega arith))
+    let w : length (build 16 (byte l)) ≡ 16 = length_build (byte l) 0 16 in
+    same_bytes s m m (build 16 (byte l)) l (omega arith) (omega arith) (λ i q. get_or_build (byte l) 0 16 (m * s + i) (omega arith))
 
 -- a later one, from the new bytes without those that went to it
 pub later_block : (s m n h : ℕ) (kept e : List ℕ) → h ≤ s → h ≤ length kept → n ≡ m + 1 → n * s + s ≤ h + length e → bytes_of s (drop (s - h) e) m ≡ bytes_of s (take h kept ++ e) n

@@ -10,18 +10,18 @@ pub sub_times : (a b s : ℕ) → (a - b) * s ≡ a * s - b * s
 sub_times a b s = mul_comm (a - b) s ∙ mul-sub s a b ∙ ap (λ (x : ℕ). x - s * b) (mul_comm s a) ∙ ap (λ (x : ℕ). a * s - x) (mul_comm s b)
 
 module _ (s B G L : ℕ) (some : 0 < s) (up : G ≤ L) (top : L ≤ B * s) where
-  pub blocks-up : G / s ≤ L / s
-  blocks-up = (le-div_iff_mul-le some).1 (omega (arith, div-mul-le_self G s))
+  pub blocks_up : G / s ≤ L / s
+  blocks_up = (le-div_iff_mul-le some).1 (omega (arith, div-mul-le_self G s))
 
-  pub blocks-top : L / s ≤ B
-  blocks-top = div-le_of_le-mul s (omega (arith, mul_comm s B))
+  pub blocks_top : L / s ≤ B
+  blocks_top = div-le_of_le-mul s (omega (arith, mul_comm s B))
 
   -- the bytes that are at hand go to the new blocks, and the rest is kept
   pub shared : (L / s - G / s) * s + L % s ≡ G % s + (L - G)
   shared =
       let a : L / s * s + L % s ≡ L = div-add-mod' L s in
       let b : G / s * s + G % s ≡ G = div-add-mod' G s in
-      let c : G / s * s ≤ L / s * s = mul-le-mul_right s blocks-up in
+      let c : G / s * s ≤ L / s * s = mul-le-mul_right s blocks_up in
       let d : (L / s - G / s) * s ≡ L / s * s - G / s * s = sub_times (L / s) (G / s) s in
       omega arith
 

@@ -8,7 +8,7 @@ use lib.ListN.{length}
 use Rattle.rules.specs.Places.{blocks}
 use Rattle.rules.specs.Pieces.{whole, got, later}
 use Rattle.rules.specs.declared.Progress.{Progress}
-use Rattle.pieces.proofs.kept.Numbers.{blocks-up, blocks-top, shared}
+use Rattle.pieces.proofs.kept.Numbers.{blocks_up, blocks_top, shared}
 use Rattle.pieces.proofs.Promise.{took}
 use borrow.Author.Rules.{rules}
 use Rattle.pieces.proofs.take_piece.Goals as goal
@@ -35,7 +35,7 @@ overflow_sub-count c =
     let L-of : ℕ = c.least-got.result + c.least-used.result in
     let some : 0 < s-of = c.size-s.ensures.2 in
     let top : L-of ≤ B-of * s-of = omega (arith, c.least-got.ensures, c.least-used.ensures) in
-    blocks-up s-of B-of G-of L-of some (omega arith) top
+    blocks_up s-of B-of G-of L-of some (omega arith) top
 
 pub paint_joined-requires : goal.paint_joined-requires
 paint_joined-requires c =
@@ -50,8 +50,8 @@ paint_joined-requires c =
       (
         c.pre.0,
         c.pre.1,
-        blocks-up s-of B-of G-of L-of some (omega arith) top,
-        omega (arith, blocks-top s-of B-of G-of L-of some (omega arith) top, c.blocks_of.ensures.0),
+        blocks_up s-of B-of G-of L-of some (omega arith) top,
+        omega (arith, blocks_top s-of B-of G-of L-of some (omega arith) top, c.blocks_of.ensures.0),
         c.pre.2,
       ),
       (
@@ -92,11 +92,11 @@ returns c =
     let B-of : ℕ = c.blocks_of.result in
     let whole_is : B-of * s-of ≡ whole p-of = ap (λ (x : ℕ). x * s-of) c.blocks_of.ensures.0
     ∙ ap (λ (x : ℕ). blocks p-of.picture * x) c.size-s.ensures.0 in
-    let got-is : G-of ≡ got p-of = c.least-got.ensures ∙ ap (min p-of.taken) whole_is in
-    let later-is : L-of ≡ later p-of c.args.bytes.now = reckon _ _ _ _ _ _ whole_is got-is c.least-used.ensures (omega (arith, c.least-got.ensures))
+    let got_is : G-of ≡ got p-of = c.least-got.ensures ∙ ap (min p-of.taken) whole_is in
+    let later_is : L-of ≡ later p-of c.args.bytes.now = reckon _ _ _ _ _ _ whole_is got_is c.least-used.ensures (omega (arith, c.least-got.ensures))
   where
     reckon : (w W g G u n : ℕ) → w ≡ W → g ≡ G → u ≡ min n (w - g) → g ≤ w → g + u ≡ min (G + n) W
     reckon w W g G u n a b c d = omega arith in
     let a = c.args in
     took a.p a.bytes.now a.image-1.now s-of G-of L-of c.rest_of-rest.result _ _
-    c.size-s.ensures.0 got-is later-is c.rest_of-rest.ensures (omega arith) c.paint_joined.ensures
+    c.size-s.ensures.0 got_is later_is c.rest_of-rest.ensures (omega arith) c.paint_joined.ensures

@@ -58,8 +58,8 @@ not_so false h = refl
 
 module _ (pic : Picture) where
   -- the picture's own elements have a column and a row of it
-  pub column-in : (k : ℕ) → T (inside pic k) → column pic k < pic.width
-  column-in k t = ltb→lt (column pic k) pic.width (fst (ltb (column pic k) pic.width) (ltb (row pic k) pic.height) t)
+  pub column_in : (k : ℕ) → T (inside pic k) → column pic k < pic.width
+  column_in k t = ltb→lt (column pic k) pic.width (fst (ltb (column pic k) pic.width) (ltb (row pic k) pic.height) t)
 
   pub row_in : (k : ℕ) → T (inside pic k) → row pic k < pic.height
   row_in k t = ltb→lt (row pic k) pic.height (snd (ltb (column pic k) pic.width) (ltb (row pic k) pic.height) t)
@@ -76,39 +76,39 @@ module _ (pic : Picture) where
   beside x y i = omega arith
 
   -- a place of a row, in its gap too, is in its column and its row
-  pub column-at : (x y : ℕ) → x < pic.pitch → column pic (element pic x y) ≡ x
-  column-at x y i = rem_at pic.pitch x y i
+  pub column_at : (x y : ℕ) → x < pic.pitch → column pic (element pic x y) ≡ x
+  column_at x y i = rem_at pic.pitch x y i
 
   pub row_at : (x y : ℕ) → x < pic.pitch → row pic (element pic x y) ≡ y
   row_at x y i = div_at pic.pitch x y i
 
   -- and so is the pixel (x, y), which is the picture's own, where a row fits into the pitch
-  pub inside-at : pic.width ≤ pic.pitch → (x y : ℕ) → x < pic.width → y < pic.height → T (inside pic (element pic x y))
-  inside-at f x y i j =
+  pub inside_at : pic.width ≤ pic.pitch → (x y : ℕ) → x < pic.width → y < pic.height → T (inside pic (element pic x y))
+  inside_at f x y i j =
       both (ltb (column pic (element pic x y)) pic.width) (ltb (row pic (element pic x y)) pic.height)
-      (lt→ltb (column pic (element pic x y)) pic.width (omega (arith, column-at x y (omega arith))))
+      (lt→ltb (column pic (element pic x y)) pic.width (omega (arith, column_at x y (omega arith))))
       (lt→ltb (row pic (element pic x y)) pic.height (omega (arith, row_at x y (omega arith))))
 
   -- the image has the pixel (x, y)
   pub reached : (x y n : ℕ) → Room pic n → x < pic.width → y < pic.height → element pic x y < n
-  reached x y n r i j = r.reach (element pic x y) (inside-at r.fits x y i j)
+  reached x y n r i j = r.reach (element pic x y) (inside_at r.fits x y i j)
 
   -- and n pixels of its row, from that one on
-  pub reached-all : (x y n m : ℕ) → Room pic m → 0 < n → x + n ≤ pic.width → y < pic.height → element pic x y + n ≤ m
-  reached-all x y n m r p i j = let t = reached (x + (n - 1)) y m r (omega arith) j in omega (arith, beside x y (n - 1))
+  pub reached_all : (x y n m : ℕ) → Room pic m → 0 < n → x + n ≤ pic.width → y < pic.height → element pic x y + n ≤ m
+  reached_all x y n m r p i j = let t = reached (x + (n - 1)) y m r (omega arith) j in omega (arith, beside x y (n - 1))
 
   -- a picture with a pixel needs its rows but the last by their pitch, and the last by its width
-  pub some-needed : 0 < pic.width → 0 < pic.height → needed pic ≡ (pic.height - 1) * pic.pitch + pic.width
+  pub some_needed : 0 < pic.width → 0 < pic.height → needed pic ≡ (pic.height - 1) * pic.pitch + pic.width
   unfolding needed
-  some-needed i j = rw (ne_eqb pic.width 0 (λ z. omega (arith, z)), ne_eqb pic.height 0 (λ z. omega (arith, z)))
+  some_needed i j = rw (ne_eqb pic.width 0 (λ z. omega (arith, z)), ne_eqb pic.height 0 (λ z. omega (arith, z)))
 
   -- each of its own elements is one of those that it needs
   pub within : (k : ℕ) → T (inside pic k) → k < needed pic
   within k t =
-      let x = column-in k t in
+      let x = column_in k t in
       let y = row_in k t in
       let a : row pic k * pic.pitch ≤ (pic.height - 1) * pic.pitch = mul-le-mul_right pic.pitch (omega arith) in
-      omega (arith, div-add-mod' k pic.pitch, some-needed (omega arith) (omega arith))
+      omega (arith, div-add-mod' k pic.pitch, some_needed (omega arith) (omega arith))
 
   -- and one without a pixel needs none
   pub none_needed : (pic.width ≡ 0) ⊎ (pic.height ≡ 0) → needed pic ≡ 0
@@ -123,9 +123,9 @@ module _ (pic : Picture) where
   pub beyond : (k : ℕ) → needed pic ≤ k → inside pic k ≡ false
   beyond k h = not_so (inside pic k) (λ t. omega (arith, within k t))
 
-  pub in-gap : (x y : ℕ) → pic.width ≤ x → x < pic.pitch → inside pic (element pic x y) ≡ false
-  in-gap x y h i =
-      not_so (inside pic (element pic x y)) (λ t. omega (arith, column-in (element pic x y) t, column-at x y i))
+  pub in_gap : (x y : ℕ) → pic.width ≤ x → x < pic.pitch → inside pic (element pic x y) ≡ false
+  in_gap x y h i =
+      not_so (inside pic (element pic x y)) (λ t. omega (arith, column_in (element pic x y) t, column_at x y i))
 
   -- an image as long as the picture needs has every element of it
   pub roomy : (n : ℕ) → pic.width ≤ pic.pitch → needed pic ≤ n → Room pic n

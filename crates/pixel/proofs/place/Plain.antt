@@ -30,9 +30,9 @@ rows w (suc h) p =
 rows w zero p = absurd (omega arith)
 
 module _ (w h : ℕ) where
-  pub needed-plain : needed (sized w h) ≡ w * h
+  pub needed_plain : needed (sized w h) ≡ w * h
   unfolding needed
-  needed-plain =
+  needed_plain =
       ⊎_elim (λ e. rw e (sym (zero-mul h)))
       (λ p.
       ⊎_elim (λ e. rw (ne_eqb w 0 (λ z. omega (arith, z)), e) (sym (mul-zero w)))
@@ -40,8 +40,8 @@ module _ (w h : ℕ) where
       (eq-zero-or-pos h))
       (eq-zero-or-pos w)
 
-  pub inside-plain : (k : ℕ) → inside (sized w h) k ≡ ltb k (w * h)
-  inside-plain k =
+  pub inside_plain : (k : ℕ) → inside (sized w h) k ≡ ltb k (w * h)
+  inside_plain k =
       elim (dec_lt k (w * h)) [
         | yes l ↦
             let m : k < h * w = omega (arith, l, mul_comm w h) in
@@ -54,6 +54,6 @@ module _ (w h : ℕ) where
       ]
 
   -- so a picture without gaps is painted over the first width * height elements
-  pub painted-plain : (v : ℕ → ℕ) (old : List ℕ) → painted (inside (sized w h)) v old ≡ painted (λ k. ltb k (w * h)) v old
+  pub painted_plain : (v : ℕ → ℕ) (old : List ℕ) → painted (inside (sized w h)) v old ≡ painted (λ k. ltb k (w * h)) v old
   unfolding painted
-  painted-plain v old = build_same 0 _ _ (length old) (λ k l. ap (λ (t : Bool). cond t (v k) (get_or old k 0)) (inside-plain k))
+  painted_plain v old = build_same 0 _ _ (length old) (λ k l. ap (λ (t : Bool). cond t (v k) (get_or old k 0)) (inside_plain k))

@@ -13,7 +13,7 @@ use Rattle.rules.specs.declared.Picture.{Picture}
 use Rattle.laws.specs.Painted.{Painted}
 use Rattle.laws.proofs.Paint.{none, said, also, lent}
 use Rattle.pixel.specs.place.Tile.{InPiece, InTile, Room, number_in, shown, in_row}
-use Rattle.pixel.proofs.place.Grid.{column-at, row_at, inside-at, only, column-in, row_in, beside, reached-all}
+use Rattle.pixel.proofs.place.Grid.{column_at, row_at, inside_at, only, column_in, row_in, beside, reached_all}
 
 -- x in column bx of fours is bx * 4 and its place there
 four : (x bx : ℕ) → x / 4 ≡ bx → x ≡ bx * 4 + x % 4
@@ -23,13 +23,13 @@ module _ (pic : Picture) where
   -- the elements of a row piece: the n pixels from the first of column bx of tiles on
   module _ (bx y n : ℕ) (w : bx * 4 < pic.width) (e : n ≡ shown pic.width bx) (j : y < pic.height) where
     pub enough : (m : ℕ) → Room pic m → element pic (bx * 4) y + n ≤ m
-    enough m r = reached-all pic (bx * 4) y n m r (omega arith) (omega arith) j
+    enough m r = reached_all pic (bx * 4) y n m r (omega arith) (omega arith) j
 
     at : (k : ℕ) → InPiece pic bx y k → (k ≡ element pic (bx * 4) y + column pic k % 4) × (column pic k % 4 < n)
     at k z =
         let f = four (column pic k) bx z.across in (
           only pic k (bx * 4 + column pic k % 4) y f z.down ∙ beside pic (bx * 4) y (column pic k % 4),
-          omega (arith, column-in pic k z.within),
+          omega (arith, column_in pic k z.within),
         )
 
     back : pic.width ≤ pic.pitch → (k : ℕ) → element pic (bx * 4) y ≤ k → k < element pic (bx * 4) y + n → InPiece pic bx y k
@@ -38,8 +38,8 @@ module _ (pic : Picture) where
         let x : bx * 4 + i < pic.width = omega arith in
         let s : k ≡ element pic (bx * 4 + i) y = omega (arith, beside pic (bx * 4) y i) in
         record {
-          within = subst (λ (m : ℕ). T (inside pic m)) (sym s) (inside-at pic f (bx * 4 + i) y x j);
-          across = ap (λ (m : ℕ). column pic m / 4) s ∙ ap (λ (m : ℕ). m / 4) (column-at pic (bx * 4 + i) y (omega arith)) ∙ omega arith;
+          within = subst (λ (m : ℕ). T (inside pic m)) (sym s) (inside_at pic f (bx * 4 + i) y x j);
+          across = ap (λ (m : ℕ). column pic m / 4) s ∙ ap (λ (m : ℕ). m / 4) (column_at pic (bx * 4 + i) y (omega arith)) ∙ omega arith;
           down = ap (row pic) s ∙ row_at pic (bx * 4 + i) y (omega arith);
         }
 
@@ -91,4 +91,4 @@ module _ (pic : Picture) where
 
   -- a tile beside the picture has no pixel
   pub nothing : (bx by : ℕ) (v : ℕ → ℕ) (l : List ℕ) → pic.width ≤ bx * 4 → Painted (InTile pic bx by) v l l
-  nothing bx by v l o = none _ _ l (λ k z. omega (arith, column-in pic k z.within, z.across))
+  nothing bx by v l o = none _ _ l (λ k z. omega (arith, column_in pic k z.within, z.across))

@@ -54,44 +54,44 @@ module _ (d : List ℕ) (k s n : ℕ) (t : Turn all d 0 k s n) where
   long : length (take n (drop s d)) ≡ n
   long = length-take-le n (drop s d) (omega (arith, length-drop s d, t.within))
 
-  no-head : is_head r ≡ false → Refuses (walk d) NoHead
-  no-head e =
+  no_head : is_head r ≡ false → Refuses (walk d) NoHead
+  no_head e =
       record {
         says = λ then. sym (ap (walk_verdict then) t.meets ∙ ap (λ (b : Bool). by b (too_large_lem sheet_limit (size_in r)) r rest then) e);
         refused = refl;
       }
 
-  pub wrong-kind : (k ≡ 1 → ⊥) → Refuses (walk d) NoHead
-  wrong-kind h = no-head (rw (ne_eqb k 1 h))
+  pub wrong_kind : (k ≡ 1 → ⊥) → Refuses (walk d) NoHead
+  wrong_kind h = no_head (rw (ne_eqb k 1 h))
 
-  pub wrong-length : k ≡ 1 → (n ≡ 9 → ⊥) → Refuses (walk d) NoHead
-  wrong-length e h = no-head (rw (eq-eqb k 1 e, ne_eqb (length (take n (drop s d))) 9 (λ z. h (sym long ∙ z))))
+  pub wrong_length : k ≡ 1 → (n ≡ 9 → ⊥) → Refuses (walk d) NoHead
+  wrong_length e h = no_head (rw (eq-eqb k 1 e, ne_eqb (length (take n (drop s d))) 9 (λ z. h (sym long ∙ z))))
 
   module _ (one : k ≡ 1) (nine : n ≡ 9) (f : ℕ) (e : f ≡ get_or d s 0) where
-    format-at : get_or (take n (drop s d)) 0 0 ≡ f
-    format-at =
+    format_at_said : get_or (take n (drop s d)) 0 0 ≡ f
+    format_at_said =
         get_or-take n (drop s d) 0 0 (omega arith) ∙ get_or-drop s d 0 0 ∙ ap (λ (z : ℕ). get_or d z 0) (add-zero s) ∙ sym e
 
-    pub wrong-format : 7 < f → Refuses (walk d) NoHead
-    wrong-format h =
-        no-head
+    pub wrong_format : 7 < f → Refuses (walk d) NoHead
+    wrong_format h =
+        no_head
         (rw (
           eq-eqb k 1 one,
           eq-eqb (length (take n (drop s d))) 9 (long ∙ nine),
-          le-ltb (get_or (take n (drop s d)) 0 0) 8 (omega (arith, format-at)),
+          le-ltb (get_or (take n (drop s d)) 0 0) 8 (omega (arith, format_at_said)),
         ))
 
     module _ (known : f ≤ 7) (w h : ℕ) (we : w ≡ little 4 (s + 1) d) (he : h ≡ little 4 (s + 5) d) where
-      is-head : is_head r ≡ true
-      is-head =
+      is_head_lem : is_head r ≡ true
+      is_head_lem =
           rw (
             eq-eqb k 1 one,
             eq-eqb (length (take n (drop s d))) 9 (long ∙ nine),
-            lt-ltb (get_or (take n (drop s d)) 0 0) 8 (omega (arith, format-at)),
+            lt-ltb (get_or (take n (drop s d)) 0 0) 8 (omega (arith, format_at_said)),
           )
 
-      size-at : size_in r ≡ sized w h
-      size-at =
+      size_at : size_in r ≡ sized w h
+      size_at =
           let a : little 4 1 (take n (drop s d)) ≡ w = inside 4 1 n (drop s d) (omega arith) ∙ moved 4 1 s d ∙ sym we in
           let b : little 4 5 (take n (drop s d)) ≡ h = inside 4 5 n (drop s d) (omega arith) ∙ moved 4 5 s d ∙ sym he in
           ap (λ (z : ℕ). sized z (little 4 5 (take n (drop s d)))) a ∙ ap (λ (z : ℕ). sized w z) b
@@ -102,8 +102,8 @@ module _ (d : List ℕ) (k s n : ℕ) (t : Turn all d 0 k s n) where
             says =
                 λ then.
                 sym (ap (walk_verdict then) t.meets
-                ∙ ap (λ (b : Bool). by b (too_large_lem sheet_limit (size_in r)) r rest then) is-head
-                ∙ ap (λ (b : Bool). by true b r rest then) (ap (too_large_lem sheet_limit) size-at ∙ x));
+                ∙ ap (λ (b : Bool). by b (too_large_lem sheet_limit (size_in r)) r rest then) is_head_lem
+                ∙ ap (λ (b : Bool). by true b r rest then) (ap (too_large_lem sheet_limit) size_at ∙ x));
             refused = refl;
           }
 
@@ -119,12 +119,12 @@ module _ (d : List ℕ) (k s n : ℕ) (t : Turn all d 0 k s n) where
           record {
             begins =
                 record {
-                  format = ap format_in i ∙ format-at;
-                  size = ap size_in i ∙ size-at;
+                  format = ap format_in i ∙ format_at_said;
+                  size = ap size_in i ∙ size_at;
                   sound = record { known = omega arith; narrow = l.0; low = l.1 };
                 };
-            is-head = ap is_head i ∙ is-head;
-            fits = ap (λ (z : Record). too_large_lem sheet_limit (size_in z)) i ∙ ap (too_large_lem sheet_limit) size-at ∙ x;
+            is_head_lem = ap is_head i ∙ is_head_lem;
+            fits = ap (λ (z : Record). too_large_lem sheet_limit (size_in z)) i ∙ ap (too_large_lem sheet_limit) size_at ∙ x;
             meets = t.meets ∙ ap (λ (z : Record). more z rest) (sym i);
             within = t.within;
             fifteen = omega (arith, sixth);

@@ -29,14 +29,14 @@ module _ (d : List ℕ) (from : ℕ) where
   pub none : seen ≡ ended → Last Done
   none e then = ap (after_blocks_lem then) e
 
-  pub cut-behind : seen ≡ short → Last CutShort
-  cut-behind e then = ap (after_blocks_lem then) e
+  pub cut_behind : seen ≡ short → Last CutShort
+  cut_behind e then = ap (after_blocks_lem then) e
 
   pub second : (k s n : ℕ) → Turn kept d from k s n → k ≡ 2 → Last WrongBlocks
   second k s n t e then = ap (after_blocks_lem then) t.meets ∙ rw (eq-eqb k 2 e)
 
-  pub other-behind : (k s n : ℕ) → Turn kept d from k s n → (k ≡ 2 → ⊥) → Last OtherKind
-  other-behind k s n t e then = ap (after_blocks_lem then) t.meets ∙ rw (ne_eqb k 2 e)
+  pub other_behind : (k s n : ℕ) → Turn kept d from k s n → (k ≡ 2 → ⊥) → Last OtherKind
+  other_behind k s n t e then = ap (after_blocks_lem then) t.meets ∙ rw (ne_eqb k 2 e)
 
   -- behind the head, where the blocks are m bytes
   module _ (m : ℕ) where
@@ -53,8 +53,8 @@ module _ (d : List ℕ) (from : ℕ) where
       long : length (take n (drop s d)) ≡ n
       long = length-take-le n (drop s d) (omega (arith, length-drop s d, t.within))
 
-      pub wrong-length : k ≡ 2 → (n ≡ m → ⊥) → Refuses (behind d from m) WrongBlocks
-      wrong-length e h =
+      pub wrong_length : k ≡ 2 → (n ≡ m → ⊥) → Refuses (behind d from m) WrongBlocks
+      wrong_length e h =
           record {
             says =
                 λ then.
@@ -72,8 +72,8 @@ module _ (d : List ℕ) (from : ℕ) where
         through then =
             ap (after_head m then) t.meets ∙ rw (eq-eqb k 2 two, eq-eqb (length (take n (drop s d))) m (long ∙ exact))
 
-        pub later-refused : (a : Answer) → Judges (λ then. after_blocks_lem then rest) a → accepts (said a) ≡ false → Refuses (behind d from m) a
-        later-refused a g h =
+        pub later_refused : (a : Answer) → Judges (λ then. after_blocks_lem then rest) a → accepts (said a) ≡ false → Refuses (behind d from m) a
+        later_refused a g h =
             record {
               says = λ then. sym (through then ∙ g then ∙ ap (λ (b : Bool). cond b then (said a)) h);
               refused = h;

@@ -26,11 +26,11 @@ module _ (d : List ℕ) (from : ℕ) (h : from ≤ length d) where
   told : length_in (drop from d) ≡ little 4 from d
   told = moved 4 0 from d ∙ ap (λ (z : ℕ). little 4 z d) (add-zero from)
 
-  pub is-end : length d - from ≡ 0 → records_of (drop from d) ≡ ended
-  is-end e = at_the_end (drop from d) (left ∙ e)
+  pub is_end : length d - from ≡ 0 → records_of (drop from d) ≡ ended
+  is_end e = at_the_end (drop from d) (left ∙ e)
 
-  pub is-short : (0 < length d - from) → length d - from < 6 → records_of (drop from d) ≡ short
-  is-short p q = cut_short (drop from d) (omega (arith, left)) (omega (arith, left))
+  pub is_short_lem : (0 < length d - from) → length d - from < 6 → records_of (drop from d) ≡ short
+  is_short_lem p q = cut_short (drop from d) (omega (arith, left)) (omega (arith, left))
 
   module _ (n : ℕ) (e : n ≡ little 4 from d) (six : 6 ≤ length d - from) where
     pub is_cut : length d - from - 6 < n → records_of (drop from d) ≡ short
@@ -77,9 +77,9 @@ module _ (see : Records → Records) (d : List ℕ) (from k s n : ℕ) (t : Turn
   unfolding payload_at
   begins h = t.passed ∙ ap (payload_at t.front) t.there ∙ rw (lt-leb 32768 k h) (sym t.six)
 
-  pub begins-behind : 32768 ≤ k → payload_at from (records_of (drop from d)) ≡ payload_at (s + n) (records_of (drop (s + n) d))
+  pub begins_behind : 32768 ≤ k → payload_at from (records_of (drop from d)) ≡ payload_at (s + n) (records_of (drop (s + n) d))
   unfolding payload_at
-  begins-behind h =
+  begins_behind h =
       let long : length (take n (drop s d)) ≡ n = length-take-le n (drop s d) (omega (arith, length-drop s d, t.within)) in
       let e : t.front + 6 + length (take n (drop s d)) ≡ s + n = omega (arith, t.six) in
       t.passed

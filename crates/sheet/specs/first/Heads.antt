@@ -11,7 +11,7 @@ use Rattle.sheet.specs.declared.first.Found as found
 -- a head, with the place behind it and how many bytes its blocks are
 pub record Headed (d : List ℕ) (h : Head) (from n : ℕ) : Type 0 where
   pub begins : Begins d h
-  pub is-head : is_head (head_in d) ≡ true
+  pub is_head_lem : is_head (head_in d) ≡ true
   pub fits : too_large_lem sheet_limit (size_in (head_in d)) ≡ false
   pub meets : records_of d ≡ more (head_in d) (records_of (drop from d))
   pub within : from ≤ length d

@@ -2,7 +2,7 @@
 -- Assumes nothing.
 use Prim.Native.Nat.{◌-◌}
 use Rattle.sheet.proofs.Shown.{tells}
-use Rattle.sheet_read.proofs.Sheets.{tells-refusal}
+use Rattle.sheet_read.proofs.Sheets.{tells_refusal}
 use borrow.Author.Rules.{rules}
 use Rattle.sheet_read.proofs.sheet_head.Goals as goal
 
@@ -13,4 +13,4 @@ returns-in-At c =
 
 pub returns-in-Refused : goal.returns-in-Refused
 returns-in-Refused c =
-    tells-refusal _ _ (rw c.in-Refused.is at c.find-found.ensures)
+    tells_refusal _ _ (rw c.in-Refused.is at c.find-found.ensures)

@@ -11,7 +11,7 @@ use Rattle.pixel.specs.place.Tile.{Room}
 use Rattle.pixel.proofs.place.Grid.{kept}
 use Rattle.eac.proofs.Bytes.{middle_held}
 use Rattle.whole.specs.Lanes.{twice}
-use Rattle.whole.proofs.Lanes.{value_at, room_twice, both-tiles}
+use Rattle.whole.proofs.Lanes.{value_at, room_twice, both_tiles}
 use borrow.Author.Rules.{rules}
 use Rattle.whole.proofs.paint_red_green.Goals as goal
 
@@ -46,7 +46,7 @@ place-requires-2 c =
 pub returns : goal.returns
 returns c =
     let a = c.args in
-    both-tiles a.pic c.pre.0.2.fits a.span.signed a.d.now c.eac_sixteens-red.result c.eac_sixteens-green.result
+    both_tiles a.pic c.pre.0.2.fits a.span.signed a.d.now c.eac_sixteens-red.result c.eac_sixteens-green.result
     c.eac_sixteens-red.ensures
     (c.eac_sixteens-green.ensures ∙ ap (λ (l : List ℕ). build 16 (value_at a.span.signed l)) (rest 8 a.d.now))
     a.bx a.by _ c.pairs.result c.pairs-2.result a.image-1.now _ _ (omega arith)

@@ -5,7 +5,7 @@ use mathlib.Core.List.{[]}
 use Prim.Native.Nat.{◌+◌, ◌-◌, ◌*◌, ◌/◌, ◌%◌}
 use native.Mathlib.Omega.{arith}
 use lib.ListN.{get_or}
-use Rattle.laws.proofs.Filling.{Filling, in_order_lem, begun, stored_next, filled-all}
+use Rattle.laws.proofs.Filling.{Filling, in_order_lem, begun, stored_next, filled_all}
 use Rattle.whole.specs.Lanes.{paired}
 use Rattle.whole.proofs.pairs.Goals as goal
 
@@ -59,4 +59,4 @@ pub returns : goal.returns
 unfolding paired
 returns c =
     let l = c.loop-i in
-    filled-all _ 0 16 l.out l.i l.invariant (omega arith)
+    filled_all _ 0 16 l.out l.i l.invariant (omega arith)

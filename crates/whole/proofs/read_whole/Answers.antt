@@ -11,7 +11,7 @@ use Rattle.laws.proofs.Outcome.{unchanged, done}
 use Rattle.laws.proofs.Unique.{refusal}
 use Rattle.checks.proofs.Checks.{passed_by_lem}
 use Rattle.whole.specs.Lanes.{lanes}
-use Rattle.whole.proofs.Checked.{same-verdict}
+use Rattle.whole.proofs.Checked.{same_verdict}
 use borrow.Author.Rules.{rules}
 use Rattle.whole.proofs.read_whole.Goals as goal
 
@@ -19,7 +19,7 @@ pub returns-in_default : goal.returns-in_default
 returns-in_default c =
     let checked : said c.verify-answer.result ≡ verdict (picture_checks (lanes c.args.green * 8) c.args.pic (length c.args.«data».now) (length c.args.image.now / lanes c.args.green)) = rw (c.lanes_of.ensures.0, c.lanes_of-2.ensures.0) at c.verify-answer.ensures in
     let told : said c.verify-answer.result ≡ whole_verdict (lanes c.args.green) c.args.pic c.args.«data».now c.args.image.now = let a = c.args in
-    checked ∙ same-verdict a.green a.pic (length a.«data».now) (length a.image.now) in
+    checked ∙ same_verdict a.green a.pic (length a.«data».now) (length a.image.now) in
     let a = c.args in
     let l = a.image.now in
     unchanged (whole_verdict (lanes a.green) a.pic a.«data».now l) (whole_picture a.signed (lanes a.green) a.pic a.«data».now l) l
@@ -36,7 +36,7 @@ pub returns : goal.returns
 returns c =
     let checked : said c.verify-answer.result ≡ verdict (picture_checks (lanes c.args.green * 8) c.args.pic (length c.args.«data».now) (length c.args.image-1.now / lanes c.args.green)) = rw (c.lanes_of.ensures.0, c.lanes_of-2.ensures.0) at c.verify-answer.ensures in
     let told : said c.verify-answer.result ≡ whole_verdict (lanes c.args.green) c.args.pic c.args.«data».now c.args.image-1.now = let a = c.args in
-    checked ∙ same-verdict a.green a.pic (length a.«data».now) (length a.image-1.now) in
+    checked ∙ same_verdict a.green a.pic (length a.«data».now) (length a.image-1.now) in
     let a = c.args in
     let l = a.image-1.now in
     done (whole_verdict (lanes a.green) a.pic a.«data».now l) (whole_picture a.signed (lanes a.green) a.pic a.«data».now l) l _

@@ -2,7 +2,7 @@
 -- Assumes nothing.
 use native.Mathlib.Omega.{arith}
 use Rattle.pixel.proofs.place.Grid.{roomy}
-use Rattle.whole.proofs.Lanes.{one-tile}
+use Rattle.whole.proofs.Lanes.{one_tile}
 use borrow.Author.Rules.{rules}
 use Rattle.whole.proofs.whole_red.Goals as goal
 
@@ -14,5 +14,5 @@ place_whole-requires c =
 pub returns : goal.returns
 returns c =
     let a = c.args in
-    one-tile a.pic a.span.signed a.d.now a.bx a.by c.eac_sixteens.result a.image-1.now _ c.eac_sixteens.ensures
+    one_tile a.pic a.span.signed a.d.now a.bx a.by c.eac_sixteens.result a.image-1.now _ c.eac_sixteens.ensures
     c.place_whole.ensures

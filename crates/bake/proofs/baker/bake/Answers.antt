@@ -6,25 +6,25 @@ use mathlib.Core.List.{List}
 use Prim.Native.Nat.{ℕ}
 use native.Mathlib.Omega.{arith}
 use Rattle.rules.specs.Baking.{above, no_base, eight_over}
-use Rattle.bake.proofs.baking.Bases.{four, bad-first, bad-second, bad-flip, good}
-use Rattle.bake.proofs.baker.Verdict.{no-base, short-block, short-tile, done}
+use Rattle.bake.proofs.baking.Bases.{four, bad_first, bad_second, bad_flip, good}
+use Rattle.bake.proofs.baker.Verdict.{no_base_lem, short_block, short_tile, done}
 use borrow.Author.Rules.{rules}
 use Rattle.bake.proofs.baker.bake.Goals as goal
 
 pub returns-then-above : goal.returns-then-above
 returns-then-above c =
     let a = c.args in
-    no-base a.first a.second a.flip a.tile.now a.block.now (bad-first a.first a.second a.flip (sym c.above.ensures ∙ c.if-above.true))
+    no_base_lem a.first a.second a.flip a.tile.now a.block.now (bad_first a.first a.second a.flip (sym c.above.ensures ∙ c.if-above.true))
 
 pub returns-then-above-2 : goal.returns-then-above-2
 returns-then-above-2 c =
     let a = c.args in
-    no-base a.first a.second a.flip a.tile.now a.block.now (bad-second a.first a.second a.flip (sym c.above-2.ensures ∙ c.if-above-2.true))
+    no_base_lem a.first a.second a.flip a.tile.now a.block.now (bad_second a.first a.second a.flip (sym c.above-2.ensures ∙ c.if-above-2.true))
 
 pub returns-then-flip-gt1 : goal.returns-then-flip-gt1
 returns-then-flip-gt1 c =
     let a = c.args in
-    no-base a.first a.second a.flip a.tile.now a.block.now (bad-flip a.first a.second a.flip c.if-flip-gt1.true)
+    no_base_lem a.first a.second a.flip a.tile.now a.block.now (bad_flip a.first a.second a.flip c.if-flip-gt1.true)
 
 pub returns-then-block-lt8 : goal.returns-then-block-lt8
 returns-then-block-lt8 c =
@@ -32,7 +32,7 @@ returns-then-block-lt8 c =
     let second-good : above c.args.second ≡ false = sym c.above-2.ensures ∙ c.if-above-2.false in
     let all-good : no_base c.args.first c.args.second c.args.flip ≡ false = good c.args.first c.args.second c.args.flip first_good second-good c.if-flip-gt1.false in
     let a = c.args in
-    short-block a.first a.second a.flip a.tile.now a.block.now all-good c.if-block-lt8.true
+    short_block a.first a.second a.flip a.tile.now a.block.now all-good c.if-block-lt8.true
 
 pub returns-then-tile-lt16 : goal.returns-then-tile-lt16
 returns-then-tile-lt16 c =
@@ -40,7 +40,7 @@ returns-then-tile-lt16 c =
     let second-good : above c.args.second ≡ false = sym c.above-2.ensures ∙ c.if-above-2.false in
     let all-good : no_base c.args.first c.args.second c.args.flip ≡ false = good c.args.first c.args.second c.args.flip first_good second-good c.if-flip-gt1.false in
     let a = c.args in
-    short-tile a.first a.second a.flip a.tile.now a.block.now all-good c.if-block-lt8.false c.if-tile-lt16.true
+    short_tile a.first a.second a.flip a.tile.now a.block.now all-good c.if-block-lt8.false c.if-tile-lt16.true
 
 pub baked-requires : goal.baked-requires
 baked-requires c =

@@ -5,7 +5,7 @@ use Prim.Native.Nat.{ℕ, ◌-◌, ◌*◌, ◌/◌, ◌%◌, ◌^◌}
 use native.Mathlib.Omega.{arith}
 use lib.ListN.{get_or}
 use borrow.Author.Rules.{rules}
-use Rattle.laws.proofs.Filling.{Filling, in_order_lem, begun, stored_next, filled-all}
+use Rattle.laws.proofs.Filling.{Filling, in_order_lem, begun, stored_next, filled_all}
 use Rattle.laws.proofs.Order.{shifted}
 use lib.Pow.{shr-shr}
 use Rattle.rules.specs.Desktop.{colour_index}
@@ -42,4 +42,4 @@ loop-i-preserved c =
     )
 
 pub returns : goal.returns
-returns c = filled-all _ 0 16 c.loop-i.out c.loop-i.i c.loop-i.invariant.1 (omega arith)
+returns c = filled_all _ 0 16 c.loop-i.out c.loop-i.i c.loop-i.invariant.1 (omega arith)

@@ -3,7 +3,7 @@
 use mathlib.Core.Path.{refl}
 use Prim.Native.Nat.{◌-◌}
 use native.Mathlib.Omega.{arith}
-use Rattle.laws.proofs.Filling.{Filling, in_order_lem, begun, stored_next, filled-all}
+use Rattle.laws.proofs.Filling.{Filling, in_order_lem, begun, stored_next, filled_all}
 use Rattle.bc.specs.bc1.Lanes.{lane}
 use borrow.Author.Rules.{rules}
 use Rattle.bc.proofs.bc2.four_lanes.Goals as goal
@@ -29,4 +29,4 @@ loop-i-preserved c =
     stored_next _ 0 16 l.out l.i l.invariant _ (omega arith) c.lane.ensures
 
 pub returns : goal.returns
-returns c = filled-all _ 0 16 c.loop-i.out c.loop-i.i c.loop-i.invariant (omega arith)
+returns c = filled_all _ 0 16 c.loop-i.out c.loop-i.i c.loop-i.invariant (omega arith)

@@ -6,7 +6,7 @@ use native.Mathlib.Omega.{arith}
 use lib.ListN.{get_or}
 use lib.Pow.{shr-shr}
 use borrow.Author.Rules.{rules}
-use Rattle.laws.proofs.Filling.{Filling, in_order_lem, begun, stored_next, filled-all}
+use Rattle.laws.proofs.Filling.{Filling, in_order_lem, begun, stored_next, filled_all}
 use Rattle.laws.proofs.Order.{shifted}
 use Rattle.rules.specs.Desktop.{alpha_index_in, colour_index}
 use Rattle.bc.proofs.bc3.both.Goals as goal
@@ -56,4 +56,4 @@ loop-i-preserved c =
     )
 
 pub returns : goal.returns
-returns c = filled-all _ 0 16 c.loop-i.out c.loop-i.i c.loop-i.invariant.2 (omega arith)
+returns c = filled_all _ 0 16 c.loop-i.out c.loop-i.i c.loop-i.invariant.2 (omega arith)

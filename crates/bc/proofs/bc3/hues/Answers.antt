@@ -4,7 +4,7 @@ use mathlib.Core.Path.{refl}
 use Prim.Native.Nat.{◌-◌, ◌%◌}
 use native.Mathlib.Omega.{arith}
 use lib.ListN.{get_or}
-use Rattle.laws.proofs.Filling.{Filling, in_order_lem, begun, stored_next, filled-all}
+use Rattle.laws.proofs.Filling.{Filling, in_order_lem, begun, stored_next, filled_all}
 use Rattle.bc.proofs.bc3.hues.Goals as goal
 
 pub loop-i-init : goal.loop-i-init
@@ -33,4 +33,4 @@ loop-i-preserved c =
     stored_next _ 0 4 c.loop-i.out c.loop-i.i c.loop-i.invariant _ (omega arith) refl
 
 pub returns : goal.returns
-returns c = filled-all _ 0 4 c.loop-i.out c.loop-i.i c.loop-i.invariant (omega arith)
+returns c = filled_all _ 0 4 c.loop-i.out c.loop-i.i c.loop-i.invariant (omega arith)

@@ -3,7 +3,7 @@ use mathlib.Core.Path.{refl}
 use Prim.Native.Nat.{◌-◌, ◌*◌, ◌%◌}
 use native.Mathlib.Omega.{arith}
 use lib.ListN.{get_or}
-use Rattle.laws.proofs.Filling.{Filling, in_order_lem, begun, stored_next, filled-all}
+use Rattle.laws.proofs.Filling.{Filling, in_order_lem, begun, stored_next, filled_all}
 use Rattle.bc.proofs.bc3.tops.Given as goal
 
 abbrev pub invariant-loop-i : goal.invariant-loop-i

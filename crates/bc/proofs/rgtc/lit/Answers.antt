@@ -6,7 +6,7 @@ use native.Mathlib.Omega.{arith}
 use native.Mathlib.Nat.{mul-le-mul}
 use lib.ListN.{get_or}
 use borrow.Author.Rules.{rules}
-use Rattle.laws.proofs.Filling.{Filling, in_order_lem, begun, stored_next, filled-all}
+use Rattle.laws.proofs.Filling.{Filling, in_order_lem, begun, stored_next, filled_all}
 use Rattle.bc.proofs.rgtc.lit.Goals as goal
 
 -- a byte of a channel
@@ -49,4 +49,4 @@ loop-i-preserved c =
     stored_next _ 0 8 l.out l.i l.invariant _ (omega arith) (ap (λ (n : ℕ). n * a.unit + a.rest) c.least.ensures)
 
 pub returns : goal.returns
-returns c = filled-all _ 0 8 c.loop-i.out c.loop-i.i c.loop-i.invariant (omega arith)
+returns c = filled_all _ 0 8 c.loop-i.out c.loop-i.i c.loop-i.invariant (omega arith)

@@ -7,8 +7,8 @@ use native.Mathlib.Omega.{arith}
 use borrow.Author.Rules.{rules}
 use lib.ListN.{get_or, replicate}
 use Rattle.rules.specs.Bptc.{weights_of}
-use Rattle.laws.proofs.Filled.{getD-build}
-use Rattle.laws.proofs.Filling.{Filling, in_order_lem, begun, stored_next, filled-all}
+use Rattle.laws.proofs.Filled.{get_or_build}
+use Rattle.laws.proofs.Filling.{Filling, in_order_lem, begun, stored_next, filled_all}
 use Rattle.bc7.proofs.bptc.weigh.Goals as goal
 
 abbrev weight_by : ℕ → List ℕ → ℕ → ℕ
@@ -37,8 +37,8 @@ loop-i-preserved c =
     let l = c.loop-i in
     let k = get_or c.args.indices l.i 0 in
     stored_next (weight_by c.args.n c.args.indices) 0 16 l.out l.i l.invariant (get_or c.weights-t.result k 0) c.loop-i-test.true
-    (ap (λ (t : List ℕ). get_or t k 0) c.weights-t.ensures ∙ getD-build (λ i. get_or (weights_of c.args.n) i 0) 0 16 k (c.requires.1 l.i))
+    (ap (λ (t : List ℕ). get_or t k 0) c.weights-t.ensures ∙ get_or_build (λ i. get_or (weights_of c.args.n) i 0) 0 16 k (c.requires.1 l.i))
 
 pub returns : goal.returns
-returns c = filled-all (weight_by c.args.n c.args.indices) 0 16 c.loop-i.out c.loop-i.i c.loop-i.invariant
+returns c = filled_all (weight_by c.args.n c.args.indices) 0 16 c.loop-i.out c.loop-i.i c.loop-i.invariant
     c.loop-i-test.false

@@ -6,8 +6,8 @@ use native.Mathlib.Omega.{arith}
 use borrow.Author.Rules.{rules}
 use lib.ListN.{get_or, replicate}
 use Rattle.rules.specs.Bptc.{weights_of}
-use Rattle.laws.proofs.Filled.{getD-build}
-use Rattle.laws.proofs.Filling.{Filling, in_order_lem, begun, stored_next, filled-all}
+use Rattle.laws.proofs.Filled.{get_or_build}
+use Rattle.laws.proofs.Filling.{Filling, in_order_lem, begun, stored_next, filled_all}
 use Rattle.bc7.proofs.bptc.weigh.Given as goal
 
 abbrev pub invariant-loop-i : goal.invariant-loop-i

@@ -4,7 +4,7 @@ use mathlib.Core.Path.{◌∙◌, ap}
 use Prim.Native.Nat.{ℕ, ◌+◌}
 use native.Mathlib.Omega.{arith}
 use Rattle.rules.specs.Bc7.{expand}
-use Rattle.laws.proofs.Shades.{put_up, with-p, with-p-byte}
+use Rattle.laws.proofs.Shades.{put_up, with_p, with_p_byte}
 use borrow.Author.Rules.{rules}
 use Rattle.bc7.proofs.endpoints.endpoint.Goals as goal
 
@@ -14,14 +14,14 @@ overflow_shl-v c = omega arith
 pub overflow_add-v : goal.overflow_add-v
 overflow_add-v c = record {
   fits = rw (put_up c.args.v c.args.p c.args.w c.args.pb c.requires.0 c.requires.2 c.requires.3)
-      (with-p-byte c.args.v c.args.p c.args.w c.args.pb c.requires.0 c.requires.2 c.requires.3);
+      (with_p_byte c.args.v c.args.p c.args.w c.args.pb c.requires.0 c.requires.2 c.requires.3);
 }
 
 pub expand-requires : goal.expand-requires
 expand-requires c = (
   c.requires.0,
   rw (put_up c.args.v c.args.p c.args.w c.args.pb c.requires.0 c.requires.2 c.requires.3)
-      (with-p c.args.v c.args.p c.args.w c.args.pb c.requires.0 c.requires.2 c.requires.3),
+      (with_p c.args.v c.args.p c.args.w c.args.pb c.requires.0 c.requires.2 c.requires.3),
 )
 
 pub returns : goal.returns

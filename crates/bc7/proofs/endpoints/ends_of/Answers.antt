@@ -9,7 +9,7 @@ use Rattle.rules.specs.Bits.{field}
 use Rattle.rules.specs.Bc7.{expand, alpha_place, p_bits, p_of}
 use Rattle.bc7.specs.rest.Whole.{whole}
 use Rattle.bc7.proofs.endpoints.Steps.{below_all}
-use Rattle.bc7.proofs.endpoints.Fetch.{fetched, colour-end, alpha-end}
+use Rattle.bc7.proofs.endpoints.Fetch.{fetched, colour_end_lem, alpha_end_lem}
 use borrow.Author.Rules.{rules}
 use Rattle.bc7.proofs.endpoints.ends_of.Goals as goal
 
@@ -62,9 +62,9 @@ returns-then-solid c =
     (whole c.several-alphas.result.rest) (whole c.several-ps.result.rest) c.p_count.result w c.several-colours.ensures.0 c.several-colours.ensures.1.1 c.several-alphas.ensures.0
     c.several-alphas.ensures.1.1 c.p_count.ensures.0 c.several-ps.ensures.0 c.several-ps.ensures.1.1 in
     record {
-      red = λ e h. colour-end d m k f 0 0 e _ (omega arith) (omega arith) h (c.channel-red.ensures e h);
-      green = λ e h. colour-end d m k f 1 (2 * k.subsets) e _ (omega arith) (omega arith) h (c.channel-green.ensures e h);
-      blue = λ e h. colour-end d m k f 2 (2 * (2 * k.subsets)) e _ (omega arith) (omega arith) h (c.channel-blue.ensures e h);
+      red = λ e h. colour_end_lem d m k f 0 0 e _ (omega arith) (omega arith) h (c.channel-red.ensures e h);
+      green = λ e h. colour_end_lem d m k f 1 (2 * k.subsets) e _ (omega arith) (omega arith) h (c.channel-green.ensures e h);
+      blue = λ e h. colour_end_lem d m k f 2 (2 * (2 * k.subsets)) e _ (omega arith) (omega arith) h (c.channel-blue.ensures e h);
       alpha = λ e h. get_or-replicate 8 e 255 0 (omega (arith, p.subsets))
           ∙ sym (ap (λ (t : Bool). cond t 255 (expand (k.alpha + p_bits m k) (field d (alpha_place m k + e * k.alpha) k.alpha * 2 ^ p_bits m k + p_of d m k e))) c.if-solid.true);
       rest = f.rest;
@@ -79,9 +79,9 @@ returns-else-solid c =
     (whole c.several-alphas.result.rest) (whole c.several-ps.result.rest) c.p_count.result w c.several-colours.ensures.0 c.several-colours.ensures.1.1 c.several-alphas.ensures.0
     c.several-alphas.ensures.1.1 c.p_count.ensures.0 c.several-ps.ensures.0 c.several-ps.ensures.1.1 in
     record {
-      red = λ e h. colour-end d m k f 0 0 e _ (omega arith) (omega arith) h (c.channel-red.ensures e h);
-      green = λ e h. colour-end d m k f 1 (2 * k.subsets) e _ (omega arith) (omega arith) h (c.channel-green.ensures e h);
-      blue = λ e h. colour-end d m k f 2 (2 * (2 * k.subsets)) e _ (omega arith) (omega arith) h (c.channel-blue.ensures e h);
-      alpha = λ e h. alpha-end d m k f e _ c.if-solid.false h (c.channel-alpha.ensures e h);
+      red = λ e h. colour_end_lem d m k f 0 0 e _ (omega arith) (omega arith) h (c.channel-red.ensures e h);
+      green = λ e h. colour_end_lem d m k f 1 (2 * k.subsets) e _ (omega arith) (omega arith) h (c.channel-green.ensures e h);
+      blue = λ e h. colour_end_lem d m k f 2 (2 * (2 * k.subsets)) e _ (omega arith) (omega arith) h (c.channel-blue.ensures e h);
+      alpha = λ e h. alpha_end_lem d m k f e _ c.if-solid.false h (c.channel-alpha.ensures e h);
       rest = f.rest;
     }

@@ -2,7 +2,7 @@
 -- Assumes nothing.
 use Prim.Native.Nat.{◌-◌}
 use native.Mathlib.Omega.{arith}
-use Rattle.laws.proofs.Filling.{filled-all}
+use Rattle.laws.proofs.Filling.{filled_all}
 use Rattle.bc7.proofs.rest.Loops.{Indexed, index_of, started, indexed}
 use Rattle.bc7.proofs.rest.indices.Goals as goal
 
@@ -35,4 +35,4 @@ loop-i-preserved c =
 pub returns : goal.returns
 returns c =
     let a = c.args in
-    filled-all (index_of a.v a.b a.mask) 0 16 c.loop-i.out c.loop-i.i c.loop-i.invariant.filling c.loop-i-test.false
+    filled_all (index_of a.v a.b a.mask) 0 16 c.loop-i.out c.loop-i.i c.loop-i.invariant.filling c.loop-i-test.false

@@ -2,9 +2,9 @@
 -- Assumes nothing.
 use mathlib.Core.Path.{sym, ◌∙◌}
 use native.Mathlib.Omega.{arith}
-use Rattle.laws.proofs.Shift.{whole-low}
+use Rattle.laws.proofs.Shift.{whole_low}
 use borrow.Author.Rules.{rules}
 use Rattle.bc7.proofs.rest.next.Goals as goal
 
 pub returns : goal.returns
-returns c = c.lowest.ensures ∙ sym (whole-low c.args.r.hi c.args.r.lo c.args.n (omega arith))
+returns c = c.lowest.ensures ∙ sym (whole_low c.args.r.hi c.args.r.lo c.args.n (omega arith))

@@ -16,7 +16,7 @@ returns c =
       reads =
           subst (λ (x : Legend). ReadsDegrees x a.named a.shown a.pixel a.decreases reply) c.legend_at-legend.ensures c.read_degrees.ensures;
       says = h.0;
-      the-predicted = h.1;
-      the-measured = h.2;
-      the-difference = h.3;
+      the_predicted = h.1;
+      the_measured = h.2;
+      the_difference = h.3;
     }

@@ -6,7 +6,7 @@ use lib.Signed.{mag}
 use Rattle.rules.specs.Channels.{signed_base}
 use Rattle.rules.specs.Whole.{middle}
 use Rattle.laws.proofs.Every.{below}
-use Rattle.laws.proofs.Signed.{held, held_is, held_small, mag_add, mag_mul, by_fits, on_fits, on-held}
+use Rattle.laws.proofs.Signed.{held, held_is, held_small, mag_add, mag_mul, by_fits, on_fits, on_held}
 use Rattle.eac.proofs.values.middle_of.Goals as goal
 
 fits : (z : ℤ) → mag z < 1024 → SFits w16 z
@@ -21,7 +21,7 @@ module _ (n : ℕ) (z : ℤ) (h : n < 1024) (b : mag z < 256) where
       → (held w16 (held w16 (pos n) +ℤ held w16 (pos 8 *ℤ held w16 z)) ≡ middle t m) × (mag (held w16 (held w16 (pos n) +ℤ held w16 (pos 8 *ℤ held w16 z))) < 4096)
   ends t m e =
       let r : held w16 (held w16 (pos n) +ℤ held w16 (pos 8 *ℤ held w16 z)) ≡ pos n +ℤ pos 8 *ℤ z =
-      on-held w16 (pos n) (pos 8) z 8 refl (fits (pos n) h) (fits (pos 8) (omega arith)) (fits z (omega arith)) (omega arith) in
+      on_held w16 (pos n) (pos 8) z 8 refl (fits (pos n) h) (fits (pos 8) (omega arith)) (fits z (omega arith)) (omega arith) in
       (r ∙ +ℤ_comm (pos n) (pos 8 *ℤ z) ∙ e, subst (λ (y : ℤ). mag y < 4096) (sym r) (omega (arith, mag_add n (pos 8 *ℤ z), mag_mul 8 z)))
 
 -- eight times a number

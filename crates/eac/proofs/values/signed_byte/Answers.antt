@@ -4,7 +4,7 @@ use Rattle.std.proofs.Common.{◌≡◌, ℕ, ◌<◌, Bool, true, false, cond, 
 use Rattle.rules.specs.Channels.{signed_base}
 use Rattle.laws.proofs.Every.{below}
 use Rattle.laws.proofs.Signed.{held}
-use Rattle.laws.proofs.Diff.{is_gap, is-cast, is_pos, is-fits}
+use Rattle.laws.proofs.Diff.{is_gap, is_cast, is_pos, is_fits}
 use Rattle.eac.proofs.values.signed_byte.Goals as goal
 
 -- two signed numbers are equal: a test, and what it says
@@ -43,7 +43,7 @@ second : {t : Bool} → t ≡ false → (y z : ℤ) → z ≡ cond t y z
 second e y z = sym (ap (λ (t : Bool). cond t y z) e)
 
 pub overflow_sub-result : goal.overflow_sub-result
-overflow_sub-result c = is-fits w16 (is_gap (is-cast w16 c.args.b (omega arith)) (is_pos 256)) (omega arith) (omega arith)
+overflow_sub-result c = is_fits w16 (is_gap (is_cast w16 c.args.b (omega arith)) (is_pos 256)) (omega arith) (omega arith)
 
 pub returns-then-b-eq128 : goal.returns-then-b-eq128
 returns-then-b-eq128 c = let b = c.args.b in first (eq-eqb b 128 c.if-b-eq128.true) (negsuc 126) (plain b) ∙ right b (omega arith)

@@ -9,7 +9,7 @@ use lib.ListN.{get_or}
 use mir.Syntax.{w16}
 use Rattle.rules.specs.Notation.{byte}
 use Rattle.rules.specs.Channels.{alpha_byte, with_alpha}
-use Rattle.laws.proofs.Filling.{Filling, in_order_lem, begun, stored_next, filled-all}
+use Rattle.laws.proofs.Filling.{Filling, in_order_lem, begun, stored_next, filled_all}
 use Rattle.laws.proofs.Signed.{held}
 use Rattle.etc_alpha.proofs.channel.Moves.{small_alpha, small_byte, alpha_held}
 use Rattle.etc_alpha.proofs.channel.a8_onto.Goals as goal
@@ -63,4 +63,4 @@ loop-i-preserved c =
 pub returns : goal.returns
 returns c =
     let l = c.loop-i in
-    filled-all _ 0 16 l.out l.i l.invariant (omega arith)
+    filled_all _ 0 16 l.out l.i l.invariant (omega arith)

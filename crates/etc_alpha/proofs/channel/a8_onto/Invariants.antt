@@ -8,7 +8,7 @@ use lib.ListN.{get_or}
 use mir.Syntax.{w16}
 use Rattle.rules.specs.Notation.{byte}
 use Rattle.rules.specs.Channels.{alpha_byte, with_alpha}
-use Rattle.laws.proofs.Filling.{Filling, in_order_lem, begun, stored_next, filled-all}
+use Rattle.laws.proofs.Filling.{Filling, in_order_lem, begun, stored_next, filled_all}
 use Rattle.laws.proofs.Signed.{held}
 use Rattle.etc_alpha.proofs.channel.Moves.{small_alpha, small_byte, alpha_held}
 use Rattle.etc_alpha.proofs.channel.a8_onto.Given as goal

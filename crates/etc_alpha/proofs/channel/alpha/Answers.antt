@@ -5,7 +5,7 @@ use native.Mathlib.Omega.{arith}
 use borrow.Author.Rules.{rules}
 use mir.Syntax.{w16}
 use Rattle.rules.specs.Notation.{clamp}
-use Rattle.laws.proofs.Signed.{sum_fits, sum-held}
+use Rattle.laws.proofs.Signed.{sum_fits, sum_held}
 use Rattle.etc_alpha.proofs.channel.alpha.Goals as goal
 
 pub overflow_add-base : goal.overflow_add-base
@@ -13,4 +13,4 @@ overflow_add-base c = sum_fits w16 c.args.base c.args.product c.ranges.product (
 
 pub returns : goal.returns
 returns c =
-    (c.clamp.ensures.0 ∙ ap (clamp 255) (sum-held w16 c.args.base c.args.product c.ranges.product (omega arith)), c.clamp.ensures.1)
+    (c.clamp.ensures.0 ∙ ap (clamp 255) (sum_held w16 c.args.base c.args.product c.ranges.product (omega arith)), c.clamp.ensures.1)

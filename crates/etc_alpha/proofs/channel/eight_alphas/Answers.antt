@@ -10,8 +10,8 @@ use lib.ListN.{get_or}
 use lib.Signed.{mag}
 use mir.Syntax.{w16}
 use Rattle.rules.specs.Notation.{bits, clamp}
-use Rattle.laws.proofs.Filling.{Filling, in_order_lem, begun, stored_next, filled-all}
-use Rattle.laws.proofs.Signed.{held, held_small, cast-pos}
+use Rattle.laws.proofs.Filling.{Filling, in_order_lem, begun, stored_next, filled_all}
+use Rattle.laws.proofs.Signed.{held, held_small, cast_pos}
 use Rattle.tables.specs.products.Products.{products_of_lem}
 use Rattle.etc_alpha.proofs.channel.Moves.{small_product}
 use Rattle.etc_alpha.proofs.channel.eight_alphas.Goals as goal
@@ -61,8 +61,8 @@ loop-i-preserved c =
     let l = c.loop-i in
     let base = c.args.base in
     stored_next _ (pos 0) 8 l.eight l.i l.invariant _ (omega arith)
-    (cast-pos w16 c.alpha.result (omega (arith, c.alpha.ensures.1))
+    (cast_pos w16 c.alpha.result (omega (arith, c.alpha.ensures.1))
     ∙ ap pos (c.alpha.ensures.0 ∙ ap (λ (z : ℤ). clamp 255 (pos base +ℤ z)) (product l.i)))
 
 pub returns : goal.returns
-returns c = filled-all _ (pos 0) 8 c.loop-i.eight c.loop-i.i c.loop-i.invariant (omega arith)
+returns c = filled_all _ (pos 0) 8 c.loop-i.eight c.loop-i.i c.loop-i.invariant (omega arith)

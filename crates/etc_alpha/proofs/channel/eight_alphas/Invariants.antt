@@ -9,8 +9,8 @@ use lib.ListN.{get_or}
 use lib.Signed.{mag}
 use mir.Syntax.{w16}
 use Rattle.rules.specs.Notation.{bits, clamp}
-use Rattle.laws.proofs.Filling.{Filling, in_order_lem, begun, stored_next, filled-all}
-use Rattle.laws.proofs.Signed.{held, held_small, cast-pos}
+use Rattle.laws.proofs.Filling.{Filling, in_order_lem, begun, stored_next, filled_all}
+use Rattle.laws.proofs.Signed.{held, held_small, cast_pos}
 use Rattle.tables.specs.products.Products.{products_of_lem}
 use Rattle.etc_alpha.proofs.channel.Moves.{small_product}
 use Rattle.etc_alpha.proofs.channel.eight_alphas.Given as goal

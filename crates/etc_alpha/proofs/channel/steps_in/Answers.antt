@@ -9,8 +9,8 @@ use lib.ListN.{get_or}
 use lib.Signed.{mag}
 use mir.Syntax.{w8, w16}
 use Rattle.rules.specs.Channels.{alpha_steps_lem}
-use Rattle.laws.proofs.Filled.{is-build}
-use Rattle.laws.proofs.Filling.{Filling, in_order_lem, begun, stored_next, filled-all}
+use Rattle.laws.proofs.Filled.{is_build}
+use Rattle.laws.proofs.Filling.{Filling, in_order_lem, begun, stored_next, filled_all}
 use Rattle.laws.proofs.Signed.{held_small, held_twice}
 use Rattle.etc_alpha.proofs.channel.Steps.{small_row, eight_in_row}
 use Rattle.etc_alpha.proofs.channel.steps_in.Goals as goal
@@ -60,5 +60,5 @@ loop-i-preserved c =
 pub returns : goal.returns
 returns c =
     let row = c.args.row in
-    filled-all _ (pos 0) 8 c.loop-i.out c.loop-i.i c.loop-i.invariant (omega arith)
-    ∙ sym (is-build _ (pos 0) 8 (get_or alpha_steps_lem row []) (eight_in_row row c.requires.0) (λ k h. refl))
+    filled_all _ (pos 0) 8 c.loop-i.out c.loop-i.i c.loop-i.invariant (omega arith)
+    ∙ sym (is_build _ (pos 0) 8 (get_or alpha_steps_lem row []) (eight_in_row row c.requires.0) (λ k h. refl))

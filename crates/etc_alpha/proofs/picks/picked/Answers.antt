@@ -9,7 +9,7 @@ use lib.IntN.{pos}
 use lib.ListN.{get_or}
 use mir.Syntax.{w16}
 use Rattle.tables.specs.consts.Tables.{write_order_lem}
-use Rattle.laws.proofs.Filled.{getD-build}
+use Rattle.laws.proofs.Filled.{get_or_build}
 use Rattle.laws.proofs.Filling.{Filling, begun, stored, filled}
 use Rattle.laws.proofs.Order.{shifted, place, place_only}
 use Rattle.laws.proofs.Signed.{held_small}
@@ -43,14 +43,14 @@ pub offset_bounds-out-order : goal.offset_bounds-out-order
 unfolding write_order_lem
 offset_bounds-out-order c =
     let at : get_or c.write_order-order.result (15 - c.loop-i.i) 0 ≡ place (15 - c.loop-i.i) = let j = 15 - c.loop-i.i in
-    ap (λ (a : List ℕ). get_or a j 0) c.write_order-order.ensures ∙ getD-build place 0 16 j (omega arith) in
+    ap (λ (a : List ℕ). get_or a j 0) c.write_order-order.ensures ∙ get_or_build place 0 16 j (omega arith) in
     omega (arith, at)
 
 pub bounds-out-order : goal.bounds-out-order
 unfolding write_order_lem
 bounds-out-order c =
     let at : get_or c.write_order-order.result (15 - c.loop-i.i) 0 ≡ place (15 - c.loop-i.i) = let j = 15 - c.loop-i.i in
-    ap (λ (a : List ℕ). get_or a j 0) c.write_order-order.ensures ∙ getD-build place 0 16 j (omega arith) in
+    ap (λ (a : List ℕ). get_or a j 0) c.write_order-order.ensures ∙ get_or_build place 0 16 j (omega arith) in
     omega (arith, at)
 
 pub overflow_add-i : goal.overflow_add-i
@@ -63,7 +63,7 @@ pub loop-i-preserved : goal.loop-i-preserved
 unfolding write_order_lem
 loop-i-preserved c =
     let at : get_or c.write_order-order.result (15 - c.loop-i.i) 0 ≡ place (15 - c.loop-i.i) = let j = 15 - c.loop-i.i in
-    ap (λ (a : List ℕ). get_or a j 0) c.write_order-order.ensures ∙ getD-build place 0 16 j (omega arith) in
+    ap (λ (a : List ℕ). get_or a j 0) c.write_order-order.ensures ∙ get_or_build place 0 16 j (omega arith) in
     let l = c.loop-i in
     let w = c.index-IsWord in
     let o = at in (

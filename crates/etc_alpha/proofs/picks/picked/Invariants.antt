@@ -8,7 +8,7 @@ use lib.IntN.{pos}
 use lib.ListN.{get_or}
 use mir.Syntax.{w16}
 use Rattle.tables.specs.consts.Tables.{write_order_lem}
-use Rattle.laws.proofs.Filled.{getD-build}
+use Rattle.laws.proofs.Filled.{get_or_build}
 use Rattle.laws.proofs.Filling.{Filling, begun, stored, filled}
 use Rattle.laws.proofs.Order.{shifted, place, place_only}
 use Rattle.laws.proofs.Signed.{held_small}

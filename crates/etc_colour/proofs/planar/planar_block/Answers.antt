@@ -2,7 +2,7 @@
 -- Assumes nothing.
 use Rattle.std.proofs.Common.{ℕ, ◌-◌, ◌/◌, ◌%◌, List, refl, ap, ◌∙◌, arith, rules}
 use Rattle.rules.specs.Modes.{planar_pixel_lem, planar_bases_lem}
-use Rattle.laws.proofs.Filling.{Filling, in_order_lem, begun, stored_next, filled-all}
+use Rattle.laws.proofs.Filling.{Filling, in_order_lem, begun, stored_next, filled_all}
 use Rattle.etc_colour.proofs.planar.planar_block.Goals as goal
 
 pub loop-i-init : goal.loop-i-init
@@ -39,4 +39,4 @@ loop-i-preserved c =
 pub returns : goal.returns
 returns c =
     let l = c.loop-i in
-    filled-all _ 0 16 l.out l.i l.invariant (omega arith)
+    filled_all _ 0 16 l.out l.i l.invariant (omega arith)

@@ -2,7 +2,7 @@
 -- Assumes nothing.
 use Rattle.std.proofs.Common.{◌≡◌, ℕ, ◌-◌, [], get_or, pos, refl, ◌∙◌, arith, w16, rules}
 use Rattle.laws.proofs.Signed.{held, held_small}
-use Rattle.laws.proofs.Filling.{Filling, in_order_lem, begun, stored_next, filled-all}
+use Rattle.laws.proofs.Filling.{Filling, in_order_lem, begun, stored_next, filled_all}
 use Rattle.etc_colour.specs.shade.Tone.{toned}
 use Rattle.etc_colour.proofs.shade.Tone.{small_alpha, tone}
 use Rattle.etc_colour.proofs.shade.four_colours.Goals as goal
@@ -61,4 +61,4 @@ loop-i-preserved c =
 pub returns : goal.returns
 returns c =
     let l = c.loop-i in
-    filled-all _ 0 4 l.colours l.i l.invariant (omega arith)
+    filled_all _ 0 4 l.colours l.i l.invariant (omega arith)

@@ -3,7 +3,7 @@
 use Rattle.std.proofs.Common.{◌≡◌, ℕ, ◌+◌, ◌-◌, ◌*◌, ◌/◌, ◌%◌, refl, ap, ◌∙◌, div-one, arith, rules}
 use Rattle.rules.specs.Notation.{bit}
 use Rattle.rules.specs.Colour.{flipped}
-use Rattle.laws.proofs.Filling.{Filling, in_order_lem, begun, stored_next, filled-all}
+use Rattle.laws.proofs.Filling.{Filling, in_order_lem, begun, stored_next, filled_all}
 use Rattle.etc_colour.specs.shade.Pick.{second_half_lem, number_at}
 use Rattle.etc_colour.proofs.shade.Pick.{number}
 use Rattle.etc_colour.proofs.shade.numbers.Goals as goal
@@ -77,4 +77,4 @@ loop-k-preserved c =
 pub returns : goal.returns
 returns c =
     let l = c.loop-k in
-    filled-all _ 0 16 l.out l.k l.invariant (omega arith)
+    filled_all _ 0 16 l.out l.k l.invariant (omega arith)

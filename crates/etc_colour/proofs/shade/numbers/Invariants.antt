@@ -2,7 +2,7 @@
 use Rattle.std.proofs.Common.{◌≡◌, ℕ, ◌+◌, ◌-◌, ◌*◌, ◌/◌, ◌%◌, refl, ap, ◌∙◌, div-one, arith, rules}
 use Rattle.rules.specs.Notation.{bit}
 use Rattle.rules.specs.Colour.{flipped}
-use Rattle.laws.proofs.Filling.{Filling, in_order_lem, begun, stored_next, filled-all}
+use Rattle.laws.proofs.Filling.{Filling, in_order_lem, begun, stored_next, filled_all}
 use Rattle.etc_colour.specs.shade.Pick.{second_half_lem, number_at}
 use Rattle.etc_colour.proofs.shade.Pick.{number}
 use Rattle.etc_colour.proofs.shade.numbers.Given as goal

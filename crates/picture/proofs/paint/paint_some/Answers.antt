@@ -27,9 +27,9 @@ returns-then-n-eq0 c =
 
 pub run-requires : goal.run-requires
 run-requires c =
-    let in-it = c.whole-n.ensures.1 (omega (arith, c.if-n-eq0.false)) in (
+    let in_it = c.whole-n.ensures.1 (omega (arith, c.if-n-eq0.false)) in (
       omega (arith, mul-le-mul_right (size_of c.args.f) c.whole-n.ensures.0, c.requires.0.1),
-      record { narrow = in-it.0; low = in-it.1; room = c.requires.0.3 },
+      record { narrow = in_it.0; low = in_it.1; room = c.requires.0.3 },
     )
 
 pub returns : goal.returns

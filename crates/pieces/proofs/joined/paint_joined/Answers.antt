@@ -12,7 +12,7 @@ use Rattle.laws.proofs.Parts.{rest}
 use Rattle.pixel.proofs.place.Grid.{kept}
 use Rattle.blocks.proofs.Blocks.{room}
 use Rattle.pieces.proofs.kept.Joined.{joint_block, later_block}
-use Rattle.blocks.proofs.Runs.{two_runs, other-bytes}
+use Rattle.blocks.proofs.Runs.{two_runs, other_bytes}
 use Rattle.pieces.proofs.kept.Numbers.{peel, one_block}
 use borrow.Author.Rules.{rules}
 use Rattle.pieces.proofs.joined.paint_joined.Goals as goal
@@ -63,10 +63,10 @@ returns c =
     let size : length hand ≡ a.held + length a.bytes.now =
     length-append (take a.held a.kept) a.bytes.now ∙ ap (λ (x : ℕ). x + length a.bytes.now) (length-take-le a.held a.kept long) in
     two_runs a.pic a.first (a.first + 1) a.last _ a.image.now _ _ (omega arith) (omega (arith, some))
-    (other-bytes a.pic (shows_of a.f) a.first (a.first + 1) _ (bytes_from w a.first hand) a.image.now _
+    (other_bytes a.pic (shows_of a.f) a.first (a.first + 1) _ (bytes_from w a.first hand) a.image.now _
     (λ n i j. ap (λ (l : List ℕ). bytes_of w l (n - a.first)) c.first_block-joint.ensures ∙ joint_block w (n - a.first) hand (omega (arith, e.0)) (omega (arith, size, parted)) (omega arith))
     c.paint-2.ensures)
-    (other-bytes a.pic (shows_of a.f) (a.first + 1) a.last _ (bytes_from w a.first hand) _ _
+    (other_bytes a.pic (shows_of a.f) (a.first + 1) a.last _ (bytes_from w a.first hand) _ _
     (λ n i j.
     ap (λ (l : List ℕ). bytes_of w l (n - (a.first + 1))) (rest (c.size.result - a.held) a.bytes.now ∙ ap (λ (x : ℕ). drop (x - a.held) a.bytes.now) e.0)
     ∙ later_block w (n - (a.first + 1)) (n - a.first) a.held a.kept a.bytes.now (omega (arith, c.pre.1.0)) long (omega arith)

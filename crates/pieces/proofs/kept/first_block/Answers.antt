@@ -4,7 +4,7 @@ use mathlib.Core.List.{◌++◌}
 use Prim.Native.Nat.{◌-◌}
 use lib.ListN.{take}
 use Rattle.rules.specs.Notation.{byte}
-use Rattle.laws.proofs.Filling.{Filling, in_order_lem, begun, stored_next, filled-all}
+use Rattle.laws.proofs.Filling.{Filling, in_order_lem, begun, stored_next, filled_all}
 use borrow.Author.Rules.{rules}
 use Rattle.pieces.proofs.kept.first_block.Goals as goal
 
@@ -19,4 +19,4 @@ loop-i-preserved c =
 pub returns : goal.returns
 returns c =
     let l = c.loop-i in
-    filled-all _ 0 16 l.out l.i l.invariant c.loop-i-test.false
+    filled_all _ 0 16 l.out l.i l.invariant c.loop-i-test.false

@@ -6,7 +6,7 @@ use Prim.Native.Nat.{◌-◌, ◌≤◌}
 use native.Mathlib.Omega.{arith}
 use lib.ListN.{take}
 use Rattle.rules.specs.Pieces.{padded}
-use Rattle.pieces.proofs.kept.Joined.{padded-more}
+use Rattle.pieces.proofs.kept.Joined.{padded_more}
 use borrow.Author.Rules.{rules}
 use Rattle.pieces.proofs.kept.rest_of.Goals as goal
 
@@ -17,7 +17,7 @@ pub loop-i-preserved : goal.loop-i-preserved
 loop-i-preserved c =
     let a = c.args in (
       omega (arith, c.loop-i-test.true),
-      padded-more (take a.held a.kept ++ a.bytes.now) a.at c.loop-i.i c.loop-i.out c.byte_at.result (omega arith) c.loop-i.invariant.1 c.byte_at.ensures,
+      padded_more (take a.held a.kept ++ a.bytes.now) a.at c.loop-i.i c.loop-i.out c.byte_at.result (omega arith) c.loop-i.invariant.1 c.byte_at.ensures,
     )
 
 pub returns : goal.returns

@@ -5,7 +5,7 @@ use Prim.Native.Nat.{◌-◌, ◌≤◌}
 use native.Mathlib.Omega.{arith}
 use lib.ListN.{take}
 use Rattle.rules.specs.Pieces.{padded}
-use Rattle.pieces.proofs.kept.Joined.{padded-more}
+use Rattle.pieces.proofs.kept.Joined.{padded_more}
 use borrow.Author.Rules.{rules}
 use Rattle.pieces.proofs.kept.rest_of.Given as goal
 

@@ -4,7 +4,7 @@ use mathlib.Core.Path.{refl}
 use Prim.Native.Nat.{◌-◌}
 use native.Mathlib.Omega.{arith}
 use lib.ListN.{get_or}
-use Rattle.laws.proofs.Filling.{Filling, in_order_lem, begun, stored_next, filled-all}
+use Rattle.laws.proofs.Filling.{Filling, in_order_lem, begun, stored_next, filled_all}
 use borrow.Author.Rules.{rules}
 use Rattle.pixel.proofs.fill.first_sixteen.Goals as goal
 
@@ -19,4 +19,4 @@ loop-i-preserved c =
 pub returns : goal.returns
 returns c =
     let l = c.loop-i in
-    filled-all _ 0 16 l.first l.i l.invariant (omega arith)
+    filled_all _ 0 16 l.first l.i l.invariant (omega arith)

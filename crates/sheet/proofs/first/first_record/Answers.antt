@@ -8,7 +8,7 @@ use Rattle.rules.specs.Sheets.{sheet_limit}
 use Rattle.checks.proofs.Checks.{within}
 use Rattle.sheet.specs.records.Turns.{all, Turn}
 use Rattle.sheet.proofs.records.Turns.{turn_of}
-use Rattle.sheet.proofs.first.Heads.{nothing, wrong-kind, wrong-length, wrong-format, too_large, headed}
+use Rattle.sheet.proofs.first.Heads.{nothing, wrong_kind, wrong_length, wrong_format, too_large, headed}
 use borrow.Author.Rules.{rules}
 use Rattle.sheet.proofs.first.first_record.Goals as goal
 
@@ -18,12 +18,12 @@ returns-in_default c = nothing _ c.record_at-met.result c.record_at-met.ensures 
 pub returns-then-kind-ne1 : goal.returns-then-kind-ne1
 returns-then-kind-ne1 c =
     let turn : Turn all c.args.d.now 0 c.in-Whole.kind c.in-Whole.start c.in-Whole.len = turn_of all _ 0 c.record_at-met.result c.in-Whole.is c.record_at-met.ensures in
-    wrong-kind _ _ _ _ turn c.if-kind-ne1.true
+    wrong_kind _ _ _ _ turn c.if-kind-ne1.true
 
 pub returns-then-len-ne9 : goal.returns-then-len-ne9
 returns-then-len-ne9 c =
     let turn : Turn all c.args.d.now 0 c.in-Whole.kind c.in-Whole.start c.in-Whole.len = turn_of all _ 0 c.record_at-met.result c.in-Whole.is c.record_at-met.ensures in
-    wrong-length _ _ _ _ turn c.if-kind-ne1.false c.if-len-ne9.true
+    wrong_length _ _ _ _ turn c.if-kind-ne1.false c.if-len-ne9.true
 
 pub bounds-d-start : goal.bounds-d-start
 bounds-d-start c =
@@ -33,7 +33,7 @@ bounds-d-start c =
 pub returns-then-format-gt7 : goal.returns-then-format-gt7
 returns-then-format-gt7 c =
     let turn : Turn all c.args.d.now 0 c.in-Whole.kind c.in-Whole.start c.in-Whole.len = turn_of all _ 0 c.record_at-met.result c.in-Whole.is c.record_at-met.ensures in
-    wrong-format _ _ _ _ turn c.if-kind-ne1.false c.if-len-ne9.false _ c.wide-format.ensures.0 (omega (arith, c.if-format-gt7.true))
+    wrong_format _ _ _ _ turn c.if-kind-ne1.false c.if-len-ne9.false _ c.wide-format.ensures.0 (omega (arith, c.if-format-gt7.true))
 
 pub overflow_add-start : goal.overflow_add-start
 overflow_add-start c =

@@ -4,7 +4,7 @@ use Prim.Native.Nat.{◌-◌}
 use Rattle.rules.specs.Records.{kept}
 use Rattle.sheet.specs.records.Turns.{Turn}
 use Rattle.sheet.proofs.records.Turns.{turn_of, ended_of, short_of}
-use Rattle.sheet.proofs.later.Follow.{none, cut-behind, second, other-behind}
+use Rattle.sheet.proofs.later.Follow.{none, cut_behind, second, other_behind}
 use borrow.Author.Rules.{rules}
 use Rattle.sheet.proofs.later.after_blocks.Goals as goal
 
@@ -16,7 +16,7 @@ returns-then-kind-eq2 c =
 pub returns-else-kind-eq2 : goal.returns-else-kind-eq2
 returns-else-kind-eq2 c =
     let turn : let a = c.args in let g = c.met-1.given.0 in Turn kept a.d.now a.at g.0 g.1.0 g.1.1.0 = turn_of kept _ _ c.next-met.result c.in-Whole.is c.next-met.ensures in
-    other-behind _ _ _ _ _ turn c.if-kind-eq2.false
+    other_behind _ _ _ _ _ turn c.if-kind-eq2.false
 
 pub returns-in-End : goal.returns-in-End
 returns-in-End c =
@@ -26,4 +26,4 @@ returns-in-End c =
 pub returns-in-Cut : goal.returns-in-Cut
 returns-in-Cut c =
     let a = c.args in
-    cut-behind a.d.now a.at (short_of kept _ _ c.next-met.result c.in-Cut.is c.next-met.ensures)
+    cut_behind a.d.now a.at (short_of kept _ _ c.next-met.result c.in-Cut.is c.next-met.ensures)

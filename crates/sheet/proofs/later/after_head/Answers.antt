@@ -6,7 +6,7 @@ use Rattle.rules.specs.Records.{kept}
 use Rattle.laws.proofs.Unique.{refusal}
 use Rattle.sheet.specs.records.Turns.{Turn}
 use Rattle.sheet.proofs.records.Turns.{turn_of, ended_of, short_of}
-use Rattle.sheet.proofs.later.Follow.{missing, cut, other, wrong-length, later-refused, blocked}
+use Rattle.sheet.proofs.later.Follow.{missing, cut, other, wrong_length, later_refused, blocked}
 use borrow.Author.Rules.{rules}
 use Rattle.sheet.proofs.later.after_head.Goals as goal
 
@@ -19,7 +19,7 @@ pub returns-then-len-n : goal.returns-then-len-n
 returns-then-len-n c =
     let turn : let a = c.args in let g = c.met-1.given.0 in Turn kept a.d.now a.at g.0 g.1.0 g.1.1.0 = turn_of kept _ _ c.next-met.result c.in-Whole.is c.next-met.ensures in
     let a = c.args in
-    wrong-length a.d.now a.at a.n _ _ _ turn c.if-kind-ne2.false (λ z. omega (arith, c.if-len-n.true, z))
+    wrong_length a.d.now a.at a.n _ _ _ turn c.if-kind-ne2.false (λ z. omega (arith, c.if-len-n.true, z))
 
 pub overflow_add-start : goal.overflow_add-start
 overflow_add-start c =
@@ -35,7 +35,7 @@ pub returns-in_default : goal.returns-in_default
 returns-in_default c =
     let turn : let a = c.args in let g = c.met-1.given.0 in Turn kept a.d.now a.at g.0 g.1.0 g.1.1.0 = turn_of kept _ _ c.next-met.result c.in-Whole.is c.next-met.ensures in
     let a = c.args in
-    later-refused a.d.now a.at a.n _ _ _ turn c.if-kind-ne2.false (omega (arith, c.if-len-n.false))
+    later_refused a.d.now a.at a.n _ _ _ turn c.if-kind-ne2.false (omega (arith, c.if-len-n.false))
     c.after_blocks-answer.result c.after_blocks-answer.ensures (refusal c.after_blocks-answer.result c.in_default.keys2)
 
 pub returns-in-Done : goal.returns-in-Done

@@ -8,7 +8,7 @@ use borrow.Author.Rules.{rules}
 use Rattle.rules.specs.Records.{records_of, kept, payload_at}
 use Rattle.sheet.specs.records.Turns.{all, Turn}
 use Rattle.sheet.specs.declared.records.Met.TheVariants.{Whole}
-use Rattle.sheet.proofs.records.Turns.{is-end, skips, stays, begins-behind, none_kept, sooner, turn_of}
+use Rattle.sheet.proofs.records.Turns.{is_end, skips, stays, begins_behind, none_kept, sooner, turn_of}
 use Rattle.sheet.proofs.records.next.Goals as goal
 
 pub loop-at-init : goal.loop-at-init
@@ -46,11 +46,11 @@ loop-at-preserved c =
       t.within,
       omega (arith, t.beyond),
       c.loop-at.invariant.2 ∙ skips a.d.now c.loop-at.at _ _ _ t (omega (arith, c.if-kind-lt32768.false)),
-      c.loop-at.invariant.3 ∙ begins-behind all a.d.now c.loop-at.at _ _ _ t (omega (arith, c.if-kind-lt32768.false)),
+      c.loop-at.invariant.3 ∙ begins_behind all a.d.now c.loop-at.at _ _ _ t (omega (arith, c.if-kind-lt32768.false)),
     )
 
 pub returns : goal.returns
 unfolding kept
 returns c =
     let a = c.args in
-    c.loop-at.invariant.2 ∙ ap kept (is-end a.d.now c.loop-at.at c.loop-at.invariant.0 (omega arith))
+    c.loop-at.invariant.2 ∙ ap kept (is_end a.d.now c.loop-at.at c.loop-at.invariant.0 (omega arith))

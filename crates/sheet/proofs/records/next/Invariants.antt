@@ -7,7 +7,7 @@ use borrow.Author.Rules.{rules}
 use Rattle.rules.specs.Records.{records_of, kept, payload_at}
 use Rattle.sheet.specs.records.Turns.{all, Turn}
 use Rattle.sheet.specs.declared.records.Met.TheVariants.{Whole}
-use Rattle.sheet.proofs.records.Turns.{is-end, skips, stays, begins-behind, none_kept, sooner, turn_of}
+use Rattle.sheet.proofs.records.Turns.{is_end, skips, stays, begins_behind, none_kept, sooner, turn_of}
 use Rattle.sheet.proofs.records.next.Given as goal
 
 abbrev pub invariant-loop-at : goal.invariant-loop-at

@@ -6,14 +6,14 @@ use native.Mathlib.Omega.{arith}
 use Rattle.rules.specs.Answers.{too_large_lem}
 use Rattle.rules.specs.Sheets.{sheet_limit}
 use Rattle.checks.proofs.Checks.{within}
-use Rattle.sheet.proofs.Checks.{no-format, too_large, wrong-blocks, no_room, accepted}
+use Rattle.sheet.proofs.Checks.{no_format, too_large, wrong_blocks_lem, no_room, accepted}
 use borrow.Author.Rules.{rules}
 use Rattle.sheet.proofs.write.verify.Goals as goal
 
 pub returns-then-format-gt7 : goal.returns-then-format-gt7
 returns-then-format-gt7 c =
     let a = c.args in
-    λ b e. no-format a.format a.pic b a.room c.if-format-gt7.true
+    λ b e. no_format a.format a.pic b a.room c.if-format-gt7.true
 
 pub returns-then-too_large : goal.returns-then-too_large
 returns-then-too_large c =
@@ -31,7 +31,7 @@ returns-then-n-exact c =
     let small : too_large_lem sheet_limit c.args.pic ≡ false = sym c.too_large.ensures ∙ c.if-too_large.false in
     let a = c.args in
     λ b e.
-    wrong-blocks a.format a.pic b a.room c.if-format-gt7.false small
+    wrong_blocks_lem a.format a.pic b a.room c.if-format-gt7.false small
     (λ z. omega (arith, c.if-n-exact.true, sym e ∙ z ∙ sym c.block_bytes-exact.ensures.0))
 
 pub returns-then-room-n : goal.returns-then-room-n
