@@ -13,7 +13,7 @@ use Rattle.block_readers.proofs.read_alpha.Goals as goal
 
 pub returns-in_default : goal.returns-in_default
 returns-in_default c =
-    unchanged _ _ c.args.image.now c.verify-answer.result c.verify-answer.ensures (refusal c.verify-answer.result c.in_default.keys2)
+    unchanged _ _ c.args.image.now c.verify-answer.result c.verify-answer.ensures (refusal c.verify-answer.result c.in_default.in_default-own.keys2)
 
 pub a8_over-requires : goal.a8_over-requires
 a8_over-requires c =
@@ -22,7 +22,7 @@ a8_over-requires c =
 
 pub returns : goal.returns
 returns c =
-    let clear : Passed 8 (length c.args.«data».now) (length c.args.image-1.now) = passed _ _ _ _ c.verify-answer.ensures c.in-Done.is in
+    let clear : Passed 8 (length c.args.«data».now) (length c.args.image.now) = passed _ _ _ _ c.verify-answer.ensures c.in-Done.is in
     let a = c.args in
     let d = a.«data».now in
     let l = a.image-1.now in

@@ -14,7 +14,7 @@ use Rattle.block_readers.proofs.read_block.Goals as goal
 
 pub returns-in_default : goal.returns-in_default
 returns-in_default c =
-    unchanged _ _ c.args.image.now c.verify-answer.result (rw c.size.ensures.0 at c.verify-answer.ensures) (refusal c.verify-answer.result c.in_default.keys2)
+    unchanged _ _ c.args.image.now c.verify-answer.result (rw c.size.ensures.0 at c.verify-answer.ensures) (refusal c.verify-answer.result c.in_default.in_default-own.keys2)
 
 pub block_at-requires : goal.block_at-requires
 block_at-requires c =
@@ -28,7 +28,7 @@ place_block-requires c =
 
 pub returns : goal.returns
 returns c =
-    let clear : Passed (size_of c.args.f) (length c.args.«data».now) (length c.args.image-1.now) = passed _ _ _ _ (rw c.size.ensures.0 at c.verify-answer.ensures) c.in-Done.is in
+    let clear : Passed (size_of c.args.f) (length c.args.«data».now) (length c.args.image.now) = passed _ _ _ _ (rw c.size.ensures.0 at c.verify-answer.ensures) c.in-Done.is in
     let a = c.args in
     let d = a.«data».now in
     done _ _ a.image-1.now _ clear.zero

@@ -26,7 +26,7 @@ returns-then-channel-gt3 c =
 pub returns-in_default : goal.returns-in_default
 returns-in_default c =
     let four : block_verdict 8 c.args.«data».now c.args.image.now ≡ channel_verdict c.args.channel c.args.«data».now c.args.image.now = channel_checked c.args.channel (length c.args.«data».now) (length c.args.image.now) c.if-channel-gt3.false in
-    unchanged _ _ c.args.image.now c.verify-answer.result (c.verify-answer.ensures ∙ four) (refusal c.verify-answer.result c.in_default.keys2)
+    unchanged _ _ c.args.image.now c.verify-answer.result (c.verify-answer.ensures ∙ four) (refusal c.verify-answer.result c.in_default.in_default-own.keys2)
 
 pub first_sixteen-stood-requires : goal.first_sixteen-stood-requires
 first_sixteen-stood-requires c =
@@ -45,8 +45,8 @@ place_block-requires c =
 
 pub returns : goal.returns
 returns c =
-    let clear : Passed 8 (length c.args.«data».now) (length c.args.image-1.now) = passed _ _ _ _ c.verify-answer.ensures c.in-Done.is in
-    let four : block_verdict 8 c.args.«data».now c.args.image-1.now ≡ channel_verdict c.args.channel c.args.«data».now c.args.image-1.now = channel_checked c.args.channel (length c.args.«data».now) (length c.args.image-1.now) c.if-channel-gt3.false in
+    let clear : Passed 8 (length c.args.«data».now) (length c.args.image.now) = passed _ _ _ _ c.verify-answer.ensures c.in-Done.is in
+    let four : block_verdict 8 c.args.«data».now c.args.image.now ≡ channel_verdict c.args.channel c.args.«data».now c.args.image.now = channel_checked c.args.channel (length c.args.«data».now) (length c.args.image.now) c.if-channel-gt3.false in
     let a = c.args in
     let d = a.«data».now in
     let l = a.image-1.now in

@@ -47,10 +47,7 @@ pub paint_colour-requires : goal.paint_colour-requires
 paint_colour-requires c =
     let enough : c.loop-i.i * c.colour_size-size.result + c.colour_size-size.result ≤ length c.args.«data».now = room c.colour_size-size.result c.args.n c.loop-i.i (length c.args.«data».now) c.loop-i-test.true
     (subst (λ (m : ℕ). c.args.n * m ≤ length c.args.«data».now) (sym c.colour_size-size.ensures.0) c.requires.0) in
-    let e = c.colour_size-size.ensures.0 in (
-      (simp (length-take, length-drop) (omega (arith, e, enough)), c.modifiers-table.ensures),
-      (omega (arith, c.requires.1.narrow), c.requires.1.low, kept c.args.pic _ _ c.requires.1.room c.loop-i.invariant.1.same),
-    )
+    let e = c.colour_size-size.ensures.0 in record { alpha_in_bounds = (simp (length-take, length-drop) (omega (arith, e, enough)), c.modifiers-table.ensures); bx_bound = (omega (arith, c.requires.1.narrow), c.requires.1.low, kept c.args.pic _ _ c.requires.1.room c.loop-i.invariant.1.same) }
 
 pub loop-i-preserved : goal.loop-i-preserved
 loop-i-preserved c =

@@ -17,7 +17,7 @@ returns-in_default c =
       written = w;
       writes = c.write_sheet-wrote.ensures;
       says = c.number.ensures;
-      the_bytes = sym (ap (λ (t : Bool). cond t w.bytes stood) (refusal w.answer c.in_default.keys2));
+      the_bytes = sym (ap (λ (t : Bool). cond t w.bytes stood) (refusal w.answer c.in_default.in_default-own.keys2));
     }
 
 pub returns : goal.returns

@@ -45,11 +45,11 @@ returns c =
     let good-legend : sound c.args.legend ≡ true = sym c.sound-good_legend.ensures ∙ not-false _ c.if-not-good_legend.false in
     let good-digit : one_digit_lem c.args.named c.args.shown ≡ true = sym c.one_digit-good_digit.ensures ∙ not-false _ c.if-not-good_digit.false in
     let good-measurement : in_degrees_lem c.args.measured ≡ true = sym c.in_degrees-good_measurement.ensures ∙ not-false _ c.if-not-good_measurement.false in
-    let single : T (fits binary32 c.args.measured) = subst T (sym c.well-formed.1.1.1.1.0.1) tt in
+    let single : T (fits binary32 c.args.measured) = subst T (sym c.well_formed.1.1.1.1.0.1) tt in
     let a = c.args in
     reads a.legend a.named a.shown a.pixel a.measured good-legend good-digit good-measurement
     (sym c.unseen-not_seen.ensures ∙ c.if-not_seen.false)
     single
     c.predicted-p.result
-    (subst T (sym c.predicted-p.type-inv) tt)
+    (subst T (sym c.predicted-p.type_inv) tt)
     c.predicted-p.ensures

@@ -26,10 +26,10 @@ bounds-steps-i c = omega arith
 pub eac_whole-requires : goal.eac_whole-requires
 eac_whole-requires c =
     let a = c.args in (
-      rw (held_small w16 a.base (omega arith)) c.requires.1.1,
+      rw (held_small w16 a.base (omega arith)) c.requires.base_value.1,
       omega arith,
       step_small a.d.now c.steps_in-steps.result c.row_of.result c.loop-i.i c.steps_in-steps.ensures c.row_of.ensures.0,
-      in_order a.span.signed a.span.low a.span.high c.requires.0.2.from c.requires.0.2.to,
+      in_order a.span.signed a.span.low a.span.high c.requires.in_bounds.2.from c.requires.in_bounds.2.to,
     )
 
 pub offset_bounds-eight-i : goal.offset_bounds-eight-i

@@ -20,5 +20,5 @@ returns-in-2 c = (power _ 2 c.in-2.is, omega arith)
 
 pub returns-in_default : goal.returns-in_default
 returns-in_default c =
-    let r = c.in_default.rest in
+    let r = c.in_default.in_default-own.rest in
     (power _ 3 (last _ r.0.0.1 r.0.1 r.1 (omega arith)), omega arith)

@@ -26,7 +26,7 @@ wild H t = refl
 wild Planar t = refl
 
 pub returns-in_default : goal.returns-in_default
-returns-in_default c = rw (wild c.args.kind c.in_default.keys2)
+returns-in_default c = rw (wild c.args.kind c.in_default.in_default-own.keys2)
 
 pub returns : goal.returns
-returns c = rw (tame c.args.kind c.in-Individual.keys1)
+returns c = rw (tame c.args.kind c.in-Individual.in-Individual-own.keys1)

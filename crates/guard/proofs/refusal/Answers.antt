@@ -22,7 +22,7 @@ pub returns-in_default : goal.returns-in_default
 returns-in_default c =
     let a = c.args in
     stops a.viewer a.«data».now a.from a.n c.loop-b.b c.judged-answer.result c.loop-b.invariant c.loop-b-test.true c.judged-answer.ensures
-    (refusal c.judged-answer.result c.in_default.keys2)
+    (refusal c.judged-answer.result c.in_default.in_default-own.keys2)
 
 pub loop-b-preserved : goal.loop-b-preserved
 loop-b-preserved c =

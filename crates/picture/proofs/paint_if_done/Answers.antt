@@ -13,7 +13,7 @@ pub returns-in_default : goal.returns-in_default
 returns-in_default c =
     let a = c.args in
     let l = a.image.now in
-    unchanged (said a.answer) (picture_of a.f a.pic a.«data».now l) l a.answer refl (refusal a.answer c.in_default.keys2)
+    unchanged (said a.answer) (picture_of a.f a.pic a.«data».now l) l a.answer refl (refusal a.answer c.in_default.in_default-own.keys2)
 
 pub paint_all-requires : goal.paint_all-requires
 paint_all-requires c =

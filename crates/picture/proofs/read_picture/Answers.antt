@@ -18,7 +18,7 @@ paint_if_done-requires c =
 
 pub returns : goal.returns
 returns c =
-    let told : said c.verify-answer.result ≡ picture_verdict c.args.f c.args.pic c.args.«data».now c.args.image-1.now = rw c.size.ensures.0 at c.verify-answer.ensures in
+    let told : said c.verify-answer.result ≡ picture_verdict c.args.f c.args.pic c.args.«data».now c.args.image.now = rw c.size.ensures.0 at c.verify-answer.ensures in
     let a = c.args in
     let d = a.«data».now in
     let l = a.image-1.now in

@@ -18,7 +18,7 @@ use Rattle.pieces.proofs.piece.Goals as goal
 pub returns-in_default : goal.returns-in_default
 returns-in_default c =
     let a = c.args in
-    refused a.p a.bytes.now a.image.now c.check-answer.result c.check-answer.ensures (refusal c.check-answer.result c.in_default.keys2)
+    refused a.p a.bytes.now a.image.now c.check-answer.result c.check-answer.ensures (refusal c.check-answer.result c.in_default.in_default-own.keys2)
 
 pub take_piece-requires : goal.take_piece-requires
 take_piece-requires c =
@@ -32,6 +32,6 @@ take_piece-requires c =
 
 pub returns : goal.returns
 returns c =
-    let clear : 0 ∷ [] ≡ piece_verdict c.args.p c.args.image-1.now = sym (ap said c.in-Done.is) ∙ c.check-answer.ensures in
+    let clear : 0 ∷ [] ≡ piece_verdict c.args.p c.args.image.now = sym (ap said c.in-Done.is) ∙ c.check-answer.ensures in
     let a = c.args in
     accepted a.p a.bytes.now a.image-1.now c.take_piece.result _ clear c.take_piece.ensures

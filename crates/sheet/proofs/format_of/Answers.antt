@@ -46,4 +46,4 @@ returns-in-6 c = sym (ap format_of c.in-6.is)
 
 pub returns-in_default : goal.returns-in_default
 unfolding format_of
-returns-in_default c = sym (ap format_of (seven _ c.requires c.in_default.rest))
+returns-in_default c = sym (ap format_of (seven _ c.requires c.in_default.in_default-own.rest))

@@ -8,8 +8,8 @@ use Rattle.whole.proofs.paint_red.Goals as goal
 
 pub place-requires : goal.place-requires
 place-requires c =
-    let r = c.requires.0.2 in
-    (omega (arith, c.requires.1.0), omega (arith, c.requires.1.1), roomy c.args.pic _ r.fits (omega (arith, r.roomy)))
+    let r = c.requires.in_bounds.2 in
+    (omega (arith, c.requires.bx_bound.0), omega (arith, c.requires.bx_bound.1), roomy c.args.pic _ r.fits (omega (arith, r.roomy)))
 
 pub returns : goal.returns
 returns c =

@@ -17,11 +17,11 @@ use Rattle.whole.proofs.paint_red_green.Goals as goal
 
 pub eight_wholes-red_eight-requires : goal.eight_wholes-red_eight-requires
 eight_wholes-red_eight-requires c =
-    ((omega (arith, c.requires.0.0), c.requires.0.1, c.requires.1.2), middle_held c.middle_of-red_base.result c.middle_of-red_base.ensures.0 c.middle_of-red_base.ensures.1)
+    ((omega (arith, c.requires.in_bounds.0), c.requires.in_bounds.1, c.requires.bx_bound.2), middle_held c.middle_of-red_base.result c.middle_of-red_base.ensures.0 c.middle_of-red_base.ensures.1)
 
 pub eight_wholes-green_eight-requires : goal.eight_wholes-green_eight-requires
 eight_wholes-green_eight-requires c =
-    ((search rules, c.requires.0.1, c.requires.1.2), middle_held c.middle_of-green_base.result c.middle_of-green_base.ensures.0 c.middle_of-green_base.ensures.1)
+    ((search rules, c.requires.in_bounds.1, c.requires.bx_bound.2), middle_held c.middle_of-green_base.result c.middle_of-green_base.ensures.0 c.middle_of-green_base.ensures.1)
 
 -- the column of a tile is small
 pub overflow_mul-bx : goal.overflow_mul-bx
@@ -29,7 +29,7 @@ overflow_mul-bx c = omega (arith, c.pre.1.0, c.pre.0.2.narrow)
 
 pub place-requires : goal.place-requires
 place-requires c =
-    let wide : Room (twice c.args.pic) (length c.args.image.now) = room_twice c.args.pic c.requires.0.2.fits _ c.requires.0.2.roomy in
+    let wide : Room (twice c.args.pic) (length c.args.image.now) = room_twice c.args.pic c.requires.in_bounds.2.fits _ c.requires.in_bounds.2.roomy in
     rw c.doubled-wide.ensures (omega (arith, c.pre.1.0), omega (arith, c.pre.1.1), wide)
 
 pub overflow_mul-bx-2 : goal.overflow_mul-bx-2
@@ -40,7 +40,7 @@ overflow_add-bx c = omega (arith, c.pre.1.0, c.pre.0.2.narrow)
 
 pub place-requires-2 : goal.place-requires-2
 place-requires-2 c =
-    let wide : Room (twice c.args.pic) (length c.args.image-1.now) = room_twice c.args.pic c.requires.0.2.fits _ c.requires.0.2.roomy in
+    let wide : Room (twice c.args.pic) (length c.args.image.now) = room_twice c.args.pic c.requires.in_bounds.2.fits _ c.requires.in_bounds.2.roomy in
     rw c.doubled-wide.ensures (omega (arith, c.pre.1.0), omega (arith, c.pre.1.1), kept (twice c.args.pic) _ _ wide c.place.ensures.same)
 
 pub returns : goal.returns

@@ -23,7 +23,7 @@ overflow_mul-s c = omega (arith, c.lanes_of-s.ensures.2)
 
 pub overflow_mul-first : goal.overflow_mul-first
 overflow_mul-first c =
-    omega (arith, small c.args.pic c.args.by c.across-row.result c.across-row.ensures c.requires.1.narrow c.requires.0.2 c.requires.0.1)
+    omega (arith, small c.args.pic c.args.by c.across-row.result c.across-row.ensures c.requires.ready.narrow c.requires.green_in_bounds.2 c.requires.green_in_bounds.1)
 
 pub loop-bx-init : goal.loop-bx-init
 loop-bx-init c =
@@ -61,14 +61,11 @@ paint_block-requires c =
     let size : c.lanes-of.result * 8 ≡ lanes c.args.green * 8 = ap (λ (z : ℕ). z * 8) c.lanes-of.ensures.0 in
     let there : (c.args.by * c.across.result + c.loop-bx.bx) * (c.lanes-of.result * 8) + c.lanes-of.result * 8 ≤ length c.args.«data».now = fits c.args.pic c.args.by c.loop-bx.bx c.across.result (c.lanes-of.result * 8) (lanes c.args.green) _
     c.across.ensures size c.loop-bx-test.true c.pre.0.1 c.pre.0.0 in
-    let e = c.across.ensures in (
-      (
+    let e = c.across.ensures in record { green_in_bounds = (
         simp (length-take, length-drop) (omega (arith, there, size)),
         c.before.alpha_steps-table.ensures,
         subst (Ready (lanes c.args.green) c.args.pic) (sym (c.loop-bx.invariant.2.same ∙ c.paint-whole.ensures.1.same)) c.pre.1,
-      ),
-      (omega (arith, c.loop-bx-test.true, e, c.pre.1.narrow), omega (arith, c.pre.0.1, c.pre.0.2), c.pre.0.3),
-    )
+      ); bx_bound = (omega (arith, c.loop-bx-test.true, e, c.pre.1.narrow), omega (arith, c.pre.0.1, c.pre.0.2), c.pre.0.3) }
 
 pub loop-bx-preserved : goal.loop-bx-preserved
 loop-bx-preserved c =

@@ -19,14 +19,14 @@ use Rattle.whole.proofs.paint_whole.Goals as goal
 
 pub whole_in-n-requires : goal.whole_in-n-requires
 whole_in-n-requires c =
-    omega (arith, c.requires.0.1, c.requires.0.2)
+    omega (arith, c.requires.green_in_bounds.1, c.requires.green_in_bounds.2)
 
 pub overflow_mul-s : goal.overflow_mul-s
 overflow_mul-s c = omega (arith, c.lanes_of-s.ensures.2)
 
 pub overflow_mul-first : goal.overflow_mul-first
 overflow_mul-first c =
-    omega (arith, small c.args.pic c.args.by c.across-row.result c.across-row.ensures c.requires.1.narrow c.requires.0.2 c.requires.0.1)
+    omega (arith, small c.args.pic c.args.by c.across-row.result c.across-row.ensures c.requires.ready.narrow c.requires.green_in_bounds.2 c.requires.green_in_bounds.1)
 
 pub loop-bx-init : goal.loop-bx-init
 loop-bx-init c =
@@ -69,14 +69,11 @@ whole_block-requires c =
     let in_row : c.loop-bx.bx < c.across.result = omega (arith, c.loop-bx-test.true, c.whole_in.ensures.0, c.across.ensures) in
     let there : (c.args.by * c.across.result + c.loop-bx.bx) * (c.lanes_of-s.result * 8) + c.lanes_of-s.result * 8 ≤ length c.args.«data».now = fits c.args.pic c.args.by c.loop-bx.bx c.across.result (c.lanes_of-s.result * 8) (lanes c.args.green) _
     c.across.ensures size in_row c.pre.0.1 c.pre.0.0 in
-    let w = c.whole_in.ensures in (
-      (
+    let w = c.whole_in.ensures in record { green_in_bounds = (
         simp (length-take, length-drop) (omega (arith, there, size)),
         c.alpha_steps-table.ensures,
         subst (Ready (lanes c.args.green) c.args.pic) (sym c.loop-bx.invariant.1.2.same) c.pre.1,
-      ),
-      (omega (arith, c.loop-bx-test.true, w.0), w.1 (omega (arith, c.loop-bx-test.true)), c.pre.0.3),
-    )
+      ); bx_bound = (omega (arith, c.loop-bx-test.true, w.0), w.1 (omega (arith, c.loop-bx-test.true)), c.pre.0.3) }
 
 pub loop-bx-preserved : goal.loop-bx-preserved
 loop-bx-preserved c =

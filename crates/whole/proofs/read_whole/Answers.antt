@@ -23,7 +23,7 @@ returns-in_default c =
     let a = c.args in
     let l = a.image.now in
     unchanged (whole_verdict (lanes a.green) a.pic a.«data».now l) (whole_picture a.signed (lanes a.green) a.pic a.«data».now l) l
-    c.verify-answer.result told (refusal c.verify-answer.result c.in_default.keys2)
+    c.verify-answer.result told (refusal c.verify-answer.result c.in_default.in_default-own.keys2)
 
 pub paint-requires : goal.paint-requires
 paint-requires c =
@@ -34,8 +34,8 @@ paint-requires c =
 
 pub returns : goal.returns
 returns c =
-    let checked : said c.verify-answer.result ≡ verdict (picture_checks (lanes c.args.green * 8) c.args.pic (length c.args.«data».now) (length c.args.image-1.now / lanes c.args.green)) = rw (c.lanes_of.ensures.0, c.lanes_of-2.ensures.0) at c.verify-answer.ensures in
-    let told : said c.verify-answer.result ≡ whole_verdict (lanes c.args.green) c.args.pic c.args.«data».now c.args.image-1.now = let a = c.args in
+    let checked : said c.verify-answer.result ≡ verdict (picture_checks (lanes c.args.green * 8) c.args.pic (length c.args.«data».now) (length c.args.image.now / lanes c.args.green)) = rw (c.lanes_of.ensures.0, c.lanes_of-2.ensures.0) at c.verify-answer.ensures in
+    let told : said c.verify-answer.result ≡ whole_verdict (lanes c.args.green) c.args.pic c.args.«data».now c.args.image.now = let a = c.args in
     checked ∙ same_verdict a.green a.pic (length a.«data».now) (length a.image-1.now) in
     let a = c.args in
     let l = a.image-1.now in

@@ -5,8 +5,7 @@ use Rattle.whole.proofs.whole_block.Goals as goal
 
 pub whole_red_green-requires : goal.whole_red_green-requires
 whole_red_green-requires c =
-    let p = c.requires in
-    ((rw c.if-green.true at p.0.0, p.0.1, rw c.if-green.true at p.0.2), p.1)
+    let p = c.requires in record { in_bounds = (rw c.if-green.true at p.0.0, p.0.1, rw c.if-green.true at p.0.2); bx_bound = p.1 }
 
 pub returns-then-green : goal.returns-then-green
 returns-then-green c =
@@ -14,8 +13,7 @@ returns-then-green c =
 
 pub whole_red-requires : goal.whole_red-requires
 whole_red-requires c =
-    let p = c.requires in
-    ((rw c.if-green.false at p.0.0, p.0.1, rw c.if-green.false at p.0.2), p.1)
+    let p = c.requires in record { in_bounds = (rw c.if-green.false at p.0.0, p.0.1, rw c.if-green.false at p.0.2); bx_bound = p.1 }
 
 pub returns : goal.returns
 returns c =

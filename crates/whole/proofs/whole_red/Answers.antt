@@ -8,8 +8,8 @@ use Rattle.whole.proofs.whole_red.Goals as goal
 
 pub place_whole-requires : goal.place_whole-requires
 place_whole-requires c =
-    let r = c.requires.0.2 in
-    (c.requires.1.0, c.requires.1.1, roomy c.args.pic _ r.fits (omega (arith, r.roomy)))
+    let r = c.requires.in_bounds.2 in
+    (c.requires.bx_bound.0, c.requires.bx_bound.1, roomy c.args.pic _ r.fits (omega (arith, r.roomy)))
 
 pub returns : goal.returns
 returns c =

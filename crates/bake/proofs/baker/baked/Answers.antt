@@ -7,7 +7,7 @@ use Rattle.bake.proofs.baker.baked.Goals as goal
 pub returns : goal.returns
 returns c =
     let a = c.args in
-    assembled a.t1 a.t2 a.flip a.tile.now _ _ _ _ _ _ _ _ _ _ _ _
+    assembled a.first a.second a.flip a.tile.now _ _ _ _ _ _ _ _ _ _ _ _
     c.widened-a.ensures
     c.widened-b.ensures
     c.best_code-first_code.ensures.0

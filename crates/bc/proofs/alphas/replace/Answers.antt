@@ -24,6 +24,6 @@ returns-in-2 c =
 
 pub returns-in_default : goal.returns-in_default
 returns-in_default c =
-    let r = c.in_default.rest in
+    let r = c.in_default.in_default-own.rest in
     let e : c.args.channel ≡ 3 = last _ r.0.0.1 r.0.1 r.1 (omega arith) in
     known 3 c.args.p c.args.b e (omega arith)

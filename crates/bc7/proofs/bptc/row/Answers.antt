@@ -38,5 +38,5 @@ returns-in-6 c = c.made-in-6.ensures ∙ ap mode_at (sym c.in-6.is)
 pub returns-in_default : goal.returns-in_default
 unfolding mode_table
 returns-in_default c =
-    let e : 7 ≡ c.args.m = omega (arith, at_least 7 c.args.m c.in_default.rest) in
+    let e : 7 ≡ c.args.m = omega (arith, at_least 7 c.args.m c.in_default.in_default-own.rest) in
     c.made-in_default.ensures ∙ ap mode_at e

@@ -15,13 +15,13 @@ abbrev weight_by : ℕ → List ℕ → ℕ → ℕ
 weight_by n indices i = get_or (weights_of n) (get_or indices i 0) 0
 
 pub weights-t-requires : goal.weights-t-requires
-weights-t-requires c = c.requires.0
+weights-t-requires c = c.requires.le_n
 
 pub loop-i-init : goal.loop-i-init
 loop-i-init c = begun in_order_lem _ 0 16 (replicate 16 0) refl
 
 pub bounds-t-indices : goal.bounds-t-indices
-bounds-t-indices c = c.requires.1 c.loop-i.i
+bounds-t-indices c = c.requires.by_index c.loop-i.i
 
 pub bounds-out-i : goal.bounds-out-i
 bounds-out-i c = omega (arith, c.loop-i.invariant.size)
@@ -37,7 +37,7 @@ loop-i-preserved c =
     let l = c.loop-i in
     let k = get_or c.args.indices l.i 0 in
     stored_next (weight_by c.args.n c.args.indices) 0 16 l.out l.i l.invariant (get_or c.weights-t.result k 0) c.loop-i-test.true
-    (ap (λ (t : List ℕ). get_or t k 0) c.weights-t.ensures ∙ get_or_build (λ i. get_or (weights_of c.args.n) i 0) 0 16 k (c.requires.1 l.i))
+    (ap (λ (t : List ℕ). get_or t k 0) c.weights-t.ensures ∙ get_or_build (λ i. get_or (weights_of c.args.n) i 0) 0 16 k (c.requires.by_index l.i))
 
 pub returns : goal.returns
 returns c = filled_all (weight_by c.args.n c.args.indices) 0 16 c.loop-i.out c.loop-i.i c.loop-i.invariant

@@ -26,5 +26,5 @@ pub returns-in_default : goal.returns-in_default
 unfolding of_bits div
 returns-in_default c =
     let k = c.args.kind in
-    let r = c.in_default.rest in
+    let r = c.in_default.in_default-own.rest in
     rw (ne_eqb k 0 r.0.0.1, ne_eqb k 1 r.0.1, ne_eqb k 2 r.1)

@@ -16,7 +16,7 @@ returns c = ap make c.format_at-f.ensures
         let a = c.args in
         record {
           format = f;
-          picture = pitched (get_or a.t1 1 0) (get_or a.t1 2 0) (get_or a.t1 3 0);
-          taken = get_or a.t1 4 0;
+          picture = pitched (get_or a.numbers 1 0) (get_or a.numbers 2 0) (get_or a.numbers 3 0);
+          taken = get_or a.numbers 4 0;
           kept = a.kept;
         }

@@ -15,5 +15,5 @@ pub returns : goal.returns
 returns c =
     let a = c.args in
     c.joined.ensures
-    ∙ halves (λ h. shades a.opaque (get_or a.t1 h []) (of_half_lem a.first.now a.second.now h)) _ _ c.four_colours-a.ensures
+    ∙ halves (λ h. shades a.opaque (get_or a.c h []) (of_half_lem a.first.now a.second.now h)) _ _ c.four_colours-a.ensures
     c.four_colours-b.ensures

@@ -14,4 +14,4 @@ returns-in-Individual c =
 pub returns : goal.returns
 returns c =
     let a = c.args in
-    c.differential_bases.ensures ∙ sym (not_individual a.kind a.d.now c.in_default.keys2)
+    c.differential_bases.ensures ∙ sym (not_individual a.kind a.d.now c.in_default.in_default-own.keys2)

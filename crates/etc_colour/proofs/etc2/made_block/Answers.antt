@@ -15,9 +15,9 @@ returns-in-Planar c =
 
 pub colours_of-requires : goal.colours_of-requires
 colours_of-requires c =
-    (c.requires.0, c.requires.1, not_planar c.args.kind c.in_default.keys2)
+    (c.requires.0, c.requires.1, not_planar c.args.kind c.in_default.in_default-own.keys2)
 
 pub returns : goal.returns
 returns c =
     let a = c.args in
-    c.picked.ensures ∙ picked a.kind a.opaque a.d.now _ (not_planar a.kind c.in_default.keys2) c.colours_of.ensures
+    c.picked.ensures ∙ picked a.kind a.opaque a.d.now _ (not_planar a.kind c.in_default.in_default-own.keys2) c.colours_of.ensures

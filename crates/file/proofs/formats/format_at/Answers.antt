@@ -113,4 +113,4 @@ returns-in-16 c = sym (ap format_at_lem c.in-16.is)
 
 pub returns-in_default : goal.returns-in_default
 unfolding Lower Middle
-returns-in_default c = others _ c.in_default.rest
+returns-in_default c = others _ c.in_default.in_default-own.rest

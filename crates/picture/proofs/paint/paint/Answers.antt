@@ -30,7 +30,7 @@ pub loop-b-init : goal.loop-b-init
 loop-b-init c =
     let a = c.args in (
       search rules,
-      c.requires.0.2,
+      c.requires.width_le_limit.2,
       stands c.across-row.result a.first (omega (arith, c.if-row-eq0.false)),
       start a.pic (shows_of a.f) (bytes_from (size_of a.f) a.first a.«data».now) a.first a.image.now,
     )
@@ -84,7 +84,7 @@ after-spot-requires c =
     let low : c.loop-b.spot.by < 0x10000 = let l = c.loop-b in
     omega (arith, high (across c.args.pic.width) (across c.args.pic.height) l.b l.spot.bx l.spot.by at (omega (arith, c.loop-b-test.true, c.pre.0.3)), c.pre.0.1) in
     let e = c.across-row.ensures in
-    (omega (arith, e, c.paint_some-n.ensures.2), omega (arith, e, c.requires.0.0), low)
+    (omega (arith, e, c.paint_some-n.ensures.2), omega (arith, e, c.requires.width_le_limit.0), low)
 
 pub loop-b-preserved : goal.loop-b-preserved
 loop-b-preserved c =

@@ -13,23 +13,23 @@ use Rattle.picture.proofs.paint.paint_some.Goals as goal
 pub block_at-tile-requires : goal.block_at-tile-requires
 block_at-tile-requires c =
     let a = c.args in
-    room (size_of a.f) a.false 0 (length a.«data».now) c.requires.0.0 c.requires.0.1
+    room (size_of a.f) a.false 0 (length a.«data».now) c.requires.left_nonzero.0 c.requires.left_nonzero.1
 
 pub returns-then-n-eq0 : goal.returns-then-n-eq0
 returns-then-n-eq0 c =
     let a = c.args in (
       omega arith,
-      c.requires.0.0,
-      omega (arith, c.requires.1.0),
+      c.requires.left_nonzero.0,
+      omega (arith, c.requires.bx_bound.0),
       one (shows_of a.f) (size_of a.f) a.«data».now a.pic a.spot.bx a.spot.by 1 c.block_at-tile.result a.image-1.now _
-          c.requires.1.0 c.block_at-tile.ensures c.place.ensures,
+          c.requires.bx_bound.0 c.block_at-tile.ensures c.place.ensures,
     )
 
 pub run-requires : goal.run-requires
 run-requires c =
     let in_it = c.whole-n.ensures.1 (omega (arith, c.if-n-eq0.false)) in (
-      omega (arith, mul-le-mul_right (size_of c.args.f) c.whole-n.ensures.0, c.requires.0.1),
-      record { narrow = in_it.0; low = in_it.1; room = c.requires.0.3 },
+      omega (arith, mul-le-mul_right (size_of c.args.f) c.whole-n.ensures.0, c.requires.left_nonzero.1),
+      record { narrow = in_it.0; low = in_it.1; room = c.requires.left_nonzero.3 },
     )
 
 pub returns : goal.returns

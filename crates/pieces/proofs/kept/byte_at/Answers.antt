@@ -11,16 +11,16 @@ pub returns-then-i-held : goal.returns-then-i-held
 returns-then-i-held c =
     let fifteen : length c.args.kept ≡ 15 = search rules in
     let a = c.args in
-    low a.t1 a.bytes.now a.held (omega (arith, fifteen)) a.i c.if-i-held.true
+    low a.kept a.bytes.now a.held (omega (arith, fifteen)) a.i c.if-i-held.true
 
 pub returns-then-j-bytes : goal.returns-then-j-bytes
 returns-then-j-bytes c =
     let fifteen : length c.args.kept ≡ 15 = search rules in
     let a = c.args in
-    high a.t1 a.bytes.now a.held (omega (arith, fifteen)) a.i c.if-i-held.false
+    high a.kept a.bytes.now a.held (omega (arith, fifteen)) a.i c.if-i-held.false
 
 pub returns : goal.returns
 returns c =
     let fifteen : length c.args.kept ≡ 15 = search rules in
     let a = c.args in
-    past a.t1 a.bytes.now a.held (omega (arith, fifteen)) a.i c.if-i-held.false c.if-j-bytes.false
+    past a.kept a.bytes.now a.held (omega (arith, fifteen)) a.i c.if-i-held.false c.if-j-bytes.false

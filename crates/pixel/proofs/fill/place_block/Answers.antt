@@ -14,4 +14,4 @@ fill-requires c = simp length-take (omega arith)
 
 pub returns : goal.returns
 returns c =
-    sixteen c.args.tile c.args.image-1.now _ c.requires c.fill.ensures
+    sixteen c.args.tile c.args.image.now _ c.requires c.fill.ensures

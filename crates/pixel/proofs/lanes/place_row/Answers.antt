@@ -30,7 +30,7 @@ overflow_add-end c =
 pub offset_bounds-image-at : goal.offset_bounds-image-at
 offset_bounds-image-at c =
     let there : element c.args.pic (c.args.bx * 4) c.args.y + c.args.n ≤ length c.args.image.now = enough c.args.pic c.args.bx c.args.y c.args.n c.requires.2 c.requires.3 c.requires.1 _ c.requires.4 in
-    scaled_Fits _ _ _ (omega (arith, there, c.requires.2, c.requires.3)) c.well-formed.1.1.1.1.1.1.0.1
+    scaled_Fits _ _ _ (omega (arith, there, c.requires.2, c.requires.3)) c.well_formed.1.1.1.1.1.1.0.1
 
 pub returns : goal.returns
 returns c =

@@ -36,7 +36,7 @@ returns-in_default c =
     let turn : let a = c.args in let g = c.met-1.given.0 in Turn kept a.d.now a.at g.0 g.1.0 g.1.1.0 = turn_of kept _ _ c.next-met.result c.in-Whole.is c.next-met.ensures in
     let a = c.args in
     later_refused a.d.now a.at a.n _ _ _ turn c.if-kind-ne2.false (omega (arith, c.if-len-n.false))
-    c.after_blocks-answer.result c.after_blocks-answer.ensures (refusal c.after_blocks-answer.result c.in_default.keys2)
+    c.after_blocks-answer.result c.after_blocks-answer.ensures (refusal c.after_blocks-answer.result c.in_default.in_default-own.keys2)
 
 pub returns-in-Done : goal.returns-in-Done
 returns-in-Done c =

@@ -33,7 +33,7 @@ returns-in_default c =
     let a = c.args in
     refuses a.format (sized a.width a.height) a.blocks.now a.out.now c.verify-answer.result
     (c.verify-answer.ensures a.blocks.now refl)
-    (refusal c.verify-answer.result c.in_default.keys2)
+    (refusal c.verify-answer.result c.in_default.in_default-own.keys2)
 
 pub put_front-requires : goal.put_front-requires
 put_front-requires c =
@@ -41,10 +41,7 @@ put_front-requires c =
     let good : let a = c.args in Accepted a.format (sized a.width a.height) a.blocks.now (length a.out.now) = passed _ _ _ _ done in
     let t = good in
     let a = c.args in
-    let n = bytes a.format (sized a.width a.height) t.narrow t.low in (
-      (omega (arith, t.known), omega (arith, t.narrow), omega (arith, t.low)),
-      (omega (arith, t.exact, n), omega (arith, t.roomy)),
-    )
+    let n = bytes a.format (sized a.width a.height) t.narrow t.low in record { format_bound = (omega (arith, t.known), omega (arith, t.narrow), omega (arith, t.low)); n_bound = (omega (arith, t.exact, n), omega (arith, t.roomy)) }
 
 pub returns : goal.returns
 returns c =

@@ -780,4 +780,4 @@ pub returns-in-254 : goal.returns-in-254
 returns-in-254 c = ap rule {x = 254} {y = c.args.b} (omega arith)
 
 pub returns-in_default : goal.returns-in_default
-returns-in_default c = ap rule {x = 255} {y = c.args.b} (missing 255 _ c.in_default.rest (omega arith))
+returns-in_default c = ap rule {x = 255} {y = c.args.b} (missing 255 _ c.in_default.in_default-own.rest (omega arith))
