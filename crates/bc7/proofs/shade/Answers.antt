@@ -92,7 +92,7 @@ pub loop-i-preserved : goal.loop-i-preserved
 loop-i-preserved c =
     let a = c.args in
     let l = c.loop-i in
-    stored_next (shade_of a.t a.layout a.colour a.alpha a.e.red-1 a.e.green-1 a.e.blue-1 a.e.alpha) 0 16 l.out l.i l.invariant c.turned.result
+    stored_next (shade_of a.t a.layout a.colour a.alpha a.e.red a.e.green a.e.blue a.e.alpha) 0 16 l.out l.i l.invariant c.turned.result
     c.loop-i-test.true
     (c.turned.ensures ∙ same_rotated a.t c.blend-a.ensures.0 c.blend-r.ensures.0 c.blend-g.ensures.0
     c.blend-b.ensures.0)
@@ -100,5 +100,5 @@ loop-i-preserved c =
 pub returns : goal.returns
 returns c =
     let a = c.args in
-    filled_all (shade_of a.t a.layout a.colour a.alpha a.e.red-1 a.e.green-1 a.e.blue-1 a.e.alpha) 0 16 c.loop-i.out c.loop-i.i c.loop-i.invariant
+    filled_all (shade_of a.t a.layout a.colour a.alpha a.e.red a.e.green a.e.blue a.e.alpha) 0 16 c.loop-i.out c.loop-i.i c.loop-i.invariant
     c.loop-i-test.false

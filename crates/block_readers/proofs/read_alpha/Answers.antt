@@ -25,7 +25,7 @@ returns c =
     let clear : Passed 8 (length c.args.«data».now) (length c.args.image.now) = passed _ _ _ _ c.verify-answer.ensures c.in-Done.is in
     let a = c.args in
     let d = a.«data».now in
-    let l = a.image-1.now in
+    let l = a.image.now in
     done _ _ l _ clear.zero
     (is_painted _ (λ k. ltb k 16) (λ k. with_alpha (get_or l k 0) (alpha_byte d (k % 4) (k / 4))) l _ (λ k h. ltb→lt k 16 h) (λ k h. lt→ltb k 16 h)
     c.a8_over.ensures)

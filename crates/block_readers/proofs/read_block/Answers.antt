@@ -31,6 +31,6 @@ returns c =
     let clear : Passed (size_of c.args.f) (length c.args.«data».now) (length c.args.image.now) = passed _ _ _ _ (rw c.size.ensures.0 at c.verify-answer.ensures) c.in-Done.is in
     let a = c.args in
     let d = a.«data».now in
-    done _ _ a.image-1.now _ clear.zero
+    done _ _ a.image.now _ clear.zero
     (c.place_block.ensures
-    ∙ sixteen (λ k. shows_of a.f d (k % 4) (k / 4)) _ a.image-1.now (c.block_at.ensures ∙ first_block a.f d))
+    ∙ sixteen (λ k. shows_of a.f d (k % 4) (k / 4)) _ a.image.now (c.block_at.ensures ∙ first_block a.f d))

@@ -49,7 +49,7 @@ returns c =
     let four : block_verdict 8 c.args.«data».now c.args.image.now ≡ channel_verdict c.args.channel c.args.«data».now c.args.image.now = channel_checked c.args.channel (length c.args.«data».now) (length c.args.image.now) c.if-channel-gt3.false in
     let a = c.args in
     let d = a.«data».now in
-    let l = a.image-1.now in
+    let l = a.image.now in
     let e =
     c.onto.ensures
     ∙ ap (λ (s : List ℕ). build 16 (λ k. join_of a.j a.channel (get_or s k 0) (byte_of a.j d (k % 4) (k / 4)))) c.first_sixteen-stood.ensures in

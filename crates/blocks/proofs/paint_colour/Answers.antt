@@ -12,7 +12,7 @@ returns-then-not-alpha c =
     without a.plain a.punch a.d.now _ _ c.colour_block-px.ensures a.alpha (not-true a.alpha c.if-not-alpha.true)
     c.colours_from-at.ensures.0
     in
-    as_tile a.pic a.bx a.by _ _ a.image-1.now _ e c.place_whole.ensures
+    as_tile a.pic a.bx a.by _ _ a.image.now _ e c.place_whole.ensures
 
 pub a8_onto-requires : goal.a8_onto-requires
 a8_onto-requires c =

@@ -78,7 +78,7 @@ pub returns-in-Etc1 : goal.returns-in-Etc1
 unfolding shows_of size_of
 returns-in-Etc1 c =
     let a = c.args in
-    shown a.«data».now a.pic a.bx a.by a.n a.image-1.now _ c.in-Etc1.is c.run_colour.ensures
+    shown a.«data».now a.pic a.bx a.by a.n a.image.now _ c.in-Etc1.is c.run_colour.ensures
 
 pub returns-in-Etc2Rgb : goal.returns-in-Etc2Rgb
 unfolding shows_of size_of

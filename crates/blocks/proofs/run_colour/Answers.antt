@@ -53,7 +53,7 @@ pub loop-i-preserved : goal.loop-i-preserved
 loop-i-preserved c =
     let a = c.args in
     let shows = colour_shows a.plain a.punch a.alpha in
-    turn shows c.colour_size-size.result a.«data».now a.pic a.bx a.by a.n c.loop-i.i _ a.image-1.now c.loop-i.image-1 _
+    turn shows c.colour_size-size.result a.«data».now a.pic a.bx a.by a.n c.loop-i.i _ a.image.now c.loop-i.image _
     c.loop-i-test.true c.requires.1.narrow c.loop-i.invariant refl c.paint_colour.ensures
 
 pub shape_of-image : goal.shape_of-image

@@ -23,7 +23,7 @@ place_whole-requires c =
 pub loop-i-preserved : goal.loop-i-preserved
 loop-i-preserved c =
     let a = c.args in
-    turn (red_pixel c.Span-of.result.signed) 8 a.«data».now a.pic a.bx a.by a.n c.loop-i.i c.eacr_block.result a.image-1.now c.loop-i.image-1 _
+    turn (red_pixel c.Span-of.result.signed) 8 a.«data».now a.pic a.bx a.by a.n c.loop-i.i c.eacr_block.result a.image.now c.loop-i.image _
     c.loop-i-test.true c.requires.1.narrow c.loop-i.invariant c.eacr_block.ensures c.place_whole.ensures
 
 pub shape_of-image : goal.shape_of-image

@@ -29,5 +29,5 @@ pub returns-in-Counted : goal.returns-in-Counted
 returns-in-Counted c =
     let a = c.args in
     lays 6 (older_counts_lem (guard_of a.viewer) (sized a.width a.height) a.«data».now (blocks (sized a.width a.height)))
-    a.«data».now (sized a.width a.height) a.counts-1.now
+    a.«data».now (sized a.width a.height) a.counts.now
     refl _ (sym (ap older_said c.in-Counted.is) ∙ c.count.ensures) c.lay.result _ c.lay.ensures

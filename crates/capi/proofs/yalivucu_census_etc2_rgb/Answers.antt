@@ -25,5 +25,5 @@ returns-in-ShortData c =
 pub returns-in-Counted : goal.returns-in-Counted
 returns-in-Counted c =
     let a = c.args in
-    census_lays rgb_tests a.«data».now (sized a.width a.height) a.counts-1.now
+    census_lays rgb_tests a.«data».now (sized a.width a.height) a.counts.now
     _ (sym (ap rgb_said c.in-Counted.is) ∙ c.census_etc2_rgb.ensures) c.lay.result _ c.lay.ensures

@@ -45,7 +45,7 @@ pub loop-i-preserved : goal.loop-i-preserved
 loop-i-preserved c =
     let byte : held w16 (get_or c.args.bytes c.loop-i.i (pos 0)) ≡ get_or c.args.bytes c.loop-i.i (pos 0) = held_small w16 _ (omega (arith, (c.requires c.loop-i.i (omega arith)).1)) in
     let l = c.loop-i in
-    stored_next _ 0 16 l.out-1 l.i l.invariant _ (omega arith) (ap nat_abs byte)
+    stored_next _ 0 16 l.out l.i l.invariant _ (omega arith) (ap nat_abs byte)
 
 pub returns : goal.returns
 returns c = filled_all _ 0 16 c.loop-i.out c.loop-i.i c.loop-i.invariant (omega arith)

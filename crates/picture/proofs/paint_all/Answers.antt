@@ -15,5 +15,5 @@ paint-requires c =
 pub returns : goal.returns
 returns c =
     let a = c.args in
-    whole a.pic (shows_of a.f) (size_of a.f) a.«data».now a.image-1.now _
+    whole a.pic (shows_of a.f) (size_of a.f) a.«data».now a.image.now _
     (rw c.blocks_of.ensures.0 at c.paint.ensures)

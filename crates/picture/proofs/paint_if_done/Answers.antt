@@ -22,5 +22,5 @@ paint_all-requires c =
 pub returns : goal.returns
 returns c =
     let a = c.args in
-    let l = a.image-1.now in
+    let l = a.image.now in
     done (said a.answer) (picture_of a.f a.pic a.«data».now l) l _ (sym (ap said c.in-Done.is)) c.paint_all.ensures

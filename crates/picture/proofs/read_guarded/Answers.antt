@@ -29,7 +29,7 @@ pub returns : goal.returns
 returns c =
     let a = c.args in
     let d = a.«data».now in
-    let l = a.image-1.now in
+    let l = a.image.now in
     let v = said c.guarded_answer-answer.result in
     reads (guard_of a.viewer) (sound a.viewer) a.pic d l (checks_for a.viewer a.pic (length d) (length l))
     (in_order a.viewer a.pic (length d) (length l)) v _ c.paint_if_done.result c.guarded_answer-answer.ensures

@@ -21,5 +21,5 @@ returns c =
     let told : said c.verify-answer.result ≡ picture_verdict c.args.f c.args.pic c.args.«data».now c.args.image.now = rw c.size.ensures.0 at c.verify-answer.ensures in
     let a = c.args in
     let d = a.«data».now in
-    let l = a.image-1.now in
+    let l = a.image.now in
     as_said (said c.verify-answer.result) (picture_verdict a.f a.pic d l) (picture_of a.f a.pic d l) l _ c.paint_if_done.result told c.paint_if_done.ensures

@@ -34,4 +34,4 @@ pub returns : goal.returns
 returns c =
     let clear : 0 ∷ [] ≡ piece_verdict c.args.p c.args.image.now = sym (ap said c.in-Done.is) ∙ c.check-answer.ensures in
     let a = c.args in
-    accepted a.p a.bytes.now a.image-1.now c.take_piece.result _ clear c.take_piece.ensures
+    accepted a.p a.bytes.now a.image.now c.take_piece.result _ clear c.take_piece.ensures

@@ -95,5 +95,5 @@ returns c =
     reckon : (w W g G u n : ℕ) → w ≡ W → g ≡ G → u ≡ min n (w - g) → g ≤ w → g + u ≡ min (G + n) W
     reckon w W g G u n a b c d = omega arith in
     let a = c.args in
-    took a.p a.bytes.now a.image-1.now s-of G-of L-of c.rest_of-rest.result _ _
+    took a.p a.bytes.now a.image.now s-of G-of L-of c.rest_of-rest.result _ _
     c.size-s.ensures.0 got_is later_is c.rest_of-rest.ensures (omega arith) c.paint_joined.ensures

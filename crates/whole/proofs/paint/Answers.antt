@@ -23,7 +23,7 @@ pub loop-by-preserved : goal.loop-by-preserved
 loop-by-preserved c =
     let a = c.args in
     let l = c.loop-by in
-    next_row (lanes a.green) c.Span-of.result.signed a.«data».now a.pic l.by a.image-1.now l.image-1 _
+    next_row (lanes a.green) c.Span-of.result.signed a.«data».now a.pic l.by a.image.now l.image _
     (omega (arith, c.loop-by-test.true, c.across-rows.ensures)) l.invariant c.paint_row.ensures
 
 pub shape_of-image : goal.shape_of-image

@@ -14,5 +14,5 @@ place-requires c =
 pub returns : goal.returns
 returns c =
     let a = c.args in
-    one_tile a.pic a.span.signed a.d.now a.bx a.by c.eac_sixteens.result a.image-1.now _ c.eac_sixteens.ensures
+    one_tile a.pic a.span.signed a.d.now a.bx a.by c.eac_sixteens.result a.image.now _ c.eac_sixteens.ensures
     c.place.ensures

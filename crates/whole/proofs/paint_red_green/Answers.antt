@@ -49,5 +49,5 @@ returns c =
     both_tiles a.pic c.pre.0.2.fits a.span.signed a.d.now c.eac_sixteens-red.result c.eac_sixteens-green.result
     c.eac_sixteens-red.ensures
     (c.eac_sixteens-green.ensures ∙ ap (λ (l : List ℕ). build 16 (value_at a.span.signed l)) (rest 8 a.d.now))
-    a.bx a.by _ c.pairs.result c.pairs-2.result a.image-1.now _ _ (omega arith)
+    a.bx a.by _ c.pairs.result c.pairs-2.result a.image.now _ _ (omega arith)
     c.pairs.ensures c.pairs-2.ensures (rw c.doubled-wide.ensures at c.place.ensures) (rw c.doubled-wide.ensures at c.place-2.ensures)

@@ -32,49 +32,49 @@ loop-bx-init c =
 
 pub overflow_add-at : goal.overflow_add-at
 overflow_add-at c =
-    let w = c.across in
+    let w = c.across-row in
     omega (arith, small c.args.pic c.args.by w.result w.ensures c.pre.1.narrow c.pre.0.2 c.pre.0.1, c.loop-bx-test.true, w.ensures, c.pre.1.narrow)
 
 pub overflow_mul-at : goal.overflow_mul-at
 overflow_mul-at c =
-    let size : c.lanes-of.result * 8 ≡ lanes c.args.green * 8 = ap (λ (z : ℕ). z * 8) c.lanes-of.ensures.0 in
-    let there : (c.args.by * c.across.result + c.loop-bx.bx) * (c.lanes-of.result * 8) + c.lanes-of.result * 8 ≤ length c.args.«data».now = fits c.args.pic c.args.by c.loop-bx.bx c.across.result (c.lanes-of.result * 8) (lanes c.args.green) _
-    c.across.ensures size c.loop-bx-test.true c.pre.0.1 c.pre.0.0 in
+    let size : c.lanes_of-s.result * 8 ≡ lanes c.args.green * 8 = ap (λ (z : ℕ). z * 8) c.lanes_of-s.ensures.0 in
+    let there : (c.args.by * c.across-row.result + c.loop-bx.bx) * (c.lanes_of-s.result * 8) + c.lanes_of-s.result * 8 ≤ length c.args.«data».now = fits c.args.pic c.args.by c.loop-bx.bx c.across-row.result (c.lanes_of-s.result * 8) (lanes c.args.green) _
+    c.across-row.ensures size c.loop-bx-test.true c.pre.0.1 c.pre.0.0 in
     omega (arith, there)
 
 pub overflow_add-end : goal.overflow_add-end
 overflow_add-end c =
-    let size : c.lanes-of.result * 8 ≡ lanes c.args.green * 8 = ap (λ (z : ℕ). z * 8) c.lanes-of.ensures.0 in
-    let there : (c.args.by * c.across.result + c.loop-bx.bx) * (c.lanes-of.result * 8) + c.lanes-of.result * 8 ≤ length c.args.«data».now = fits c.args.pic c.args.by c.loop-bx.bx c.across.result (c.lanes-of.result * 8) (lanes c.args.green) _
-    c.across.ensures size c.loop-bx-test.true c.pre.0.1 c.pre.0.0 in
+    let size : c.lanes_of-s.result * 8 ≡ lanes c.args.green * 8 = ap (λ (z : ℕ). z * 8) c.lanes_of-s.ensures.0 in
+    let there : (c.args.by * c.across-row.result + c.loop-bx.bx) * (c.lanes_of-s.result * 8) + c.lanes_of-s.result * 8 ≤ length c.args.«data».now = fits c.args.pic c.args.by c.loop-bx.bx c.across-row.result (c.lanes_of-s.result * 8) (lanes c.args.green) _
+    c.across-row.ensures size c.loop-bx-test.true c.pre.0.1 c.pre.0.0 in
     omega (arith, there)
 
 pub slice_bounds-paint_block-count : goal.slice_bounds-paint_block-count
 slice_bounds-paint_block-count c =
-    let size : c.lanes-of.result * 8 ≡ lanes c.args.green * 8 = ap (λ (z : ℕ). z * 8) c.lanes-of.ensures.0 in
-    let there : (c.args.by * c.across.result + c.loop-bx.bx) * (c.lanes-of.result * 8) + c.lanes-of.result * 8 ≤ length c.args.«data».now = fits c.args.pic c.args.by c.loop-bx.bx c.across.result (c.lanes-of.result * 8) (lanes c.args.green) _
-    c.across.ensures size c.loop-bx-test.true c.pre.0.1 c.pre.0.0 in
+    let size : c.lanes_of-s.result * 8 ≡ lanes c.args.green * 8 = ap (λ (z : ℕ). z * 8) c.lanes_of-s.ensures.0 in
+    let there : (c.args.by * c.across-row.result + c.loop-bx.bx) * (c.lanes_of-s.result * 8) + c.lanes_of-s.result * 8 ≤ length c.args.«data».now = fits c.args.pic c.args.by c.loop-bx.bx c.across-row.result (c.lanes_of-s.result * 8) (lanes c.args.green) _
+    c.across-row.ensures size c.loop-bx-test.true c.pre.0.1 c.pre.0.0 in
     omega (arith, there)
 
 pub paint_block-requires : goal.paint_block-requires
 paint_block-requires c =
-    let size : c.lanes-of.result * 8 ≡ lanes c.args.green * 8 = ap (λ (z : ℕ). z * 8) c.lanes-of.ensures.0 in
-    let there : (c.args.by * c.across.result + c.loop-bx.bx) * (c.lanes-of.result * 8) + c.lanes-of.result * 8 ≤ length c.args.«data».now = fits c.args.pic c.args.by c.loop-bx.bx c.across.result (c.lanes-of.result * 8) (lanes c.args.green) _
-    c.across.ensures size c.loop-bx-test.true c.pre.0.1 c.pre.0.0 in
-    let e = c.across.ensures in record { green_in_bounds = (
+    let size : c.lanes_of-s.result * 8 ≡ lanes c.args.green * 8 = ap (λ (z : ℕ). z * 8) c.lanes_of-s.ensures.0 in
+    let there : (c.args.by * c.across-row.result + c.loop-bx.bx) * (c.lanes_of-s.result * 8) + c.lanes_of-s.result * 8 ≤ length c.args.«data».now = fits c.args.pic c.args.by c.loop-bx.bx c.across-row.result (c.lanes_of-s.result * 8) (lanes c.args.green) _
+    c.across-row.ensures size c.loop-bx-test.true c.pre.0.1 c.pre.0.0 in
+    let e = c.across-row.ensures in record { green_in_bounds = (
         simp (length-take, length-drop) (omega (arith, there, size)),
-        c.before.alpha_steps-table.ensures,
-        subst (Ready (lanes c.args.green) c.args.pic) (sym (c.loop-bx.invariant.2.same ∙ c.paint-whole.ensures.1.same)) c.pre.1,
+        c.before.alpha-steps.ensures,
+        subst (Ready (lanes c.args.green) c.args.pic) (sym (c.loop-bx.invariant.2.same ∙ c.paint_whole-bx.ensures.1.same)) c.pre.1,
       ); bx_bound = (omega (arith, c.loop-bx-test.true, e, c.pre.1.narrow), omega (arith, c.pre.0.1, c.pre.0.2), c.pre.0.3) }
 
 pub loop-bx-preserved : goal.loop-bx-preserved
 loop-bx-preserved c =
-    let size : c.lanes-of.result * 8 ≡ lanes c.args.green * 8 = ap (λ (z : ℕ). z * 8) c.lanes-of.ensures.0 in
+    let size : c.lanes_of-s.result * 8 ≡ lanes c.args.green * 8 = ap (λ (z : ℕ). z * 8) c.lanes_of-s.ensures.0 in
     let a = c.args in
     let l = c.loop-bx in
-    turn (lanes a.green) a.span.signed a.«data».now a.pic a.by _ l.bx c.across.result (c.lanes-of.result * 8)
-    _ l.image-1 _
-    c.across.ensures size c.loop-bx-test.true l.invariant c.paint_block.ensures
+    turn (lanes a.green) a.span.signed a.«data».now a.pic a.by _ l.bx c.across-row.result (c.lanes_of-s.result * 8)
+    _ l.image _
+    c.across-row.ensures size c.loop-bx-test.true l.invariant c.paint_block.ensures
 
 pub shape_of-image : goal.shape_of-image
 shape_of-image c = c.loop-bx.invariant.2.same ∙ c.paint_whole-bx.ensures.1.same
@@ -83,5 +83,5 @@ pub returns : goal.returns
 returns c =
     let a = c.args in
     let p = c.paint_whole-bx in
-    ended (lanes a.green) a.span.signed a.«data».now a.pic a.by p.result c.loop-bx.bx c.across-row.result a.image-1.now _ c.loop-bx.image-1
+    ended (lanes a.green) a.span.signed a.«data».now a.pic a.by p.result c.loop-bx.bx c.across-row.result a.image.now _ c.loop-bx.image
     c.across-row.ensures c.loop-bx-test.false p.ensures.1 c.loop-bx.invariant

@@ -35,41 +35,41 @@ loop-bx-init c =
 
 pub overflow_add-from : goal.overflow_add-from
 overflow_add-from c =
-    let in_row : c.loop-bx.bx < c.across.result = omega (arith, c.loop-bx-test.true, c.whole_in.ensures.0, c.across.ensures) in
-    let w = c.across in
+    let in_row : c.loop-bx.bx < c.across-row.result = omega (arith, c.loop-bx-test.true, c.whole_in-n.ensures.0, c.across-row.ensures) in
+    let w = c.across-row in
     omega (arith, small c.args.pic c.args.by w.result w.ensures c.pre.1.narrow c.pre.0.2 c.pre.0.1, in_row, w.ensures, c.pre.1.narrow)
 
 pub overflow_mul-from : goal.overflow_mul-from
 overflow_mul-from c =
     let size : c.lanes_of-s.result * 8 ≡ lanes c.args.green * 8 = ap (λ (z : ℕ). z * 8) c.lanes_of-s.ensures.0 in
-    let in_row : c.loop-bx.bx < c.across.result = omega (arith, c.loop-bx-test.true, c.whole_in.ensures.0, c.across.ensures) in
-    let there : (c.args.by * c.across.result + c.loop-bx.bx) * (c.lanes_of-s.result * 8) + c.lanes_of-s.result * 8 ≤ length c.args.«data».now = fits c.args.pic c.args.by c.loop-bx.bx c.across.result (c.lanes_of-s.result * 8) (lanes c.args.green) _
-    c.across.ensures size in_row c.pre.0.1 c.pre.0.0 in
+    let in_row : c.loop-bx.bx < c.across-row.result = omega (arith, c.loop-bx-test.true, c.whole_in-n.ensures.0, c.across-row.ensures) in
+    let there : (c.args.by * c.across-row.result + c.loop-bx.bx) * (c.lanes_of-s.result * 8) + c.lanes_of-s.result * 8 ≤ length c.args.«data».now = fits c.args.pic c.args.by c.loop-bx.bx c.across-row.result (c.lanes_of-s.result * 8) (lanes c.args.green) _
+    c.across-row.ensures size in_row c.pre.0.1 c.pre.0.0 in
     omega (arith, there)
 
 pub overflow_add-end : goal.overflow_add-end
 overflow_add-end c =
     let size : c.lanes_of-s.result * 8 ≡ lanes c.args.green * 8 = ap (λ (z : ℕ). z * 8) c.lanes_of-s.ensures.0 in
-    let in_row : c.loop-bx.bx < c.across.result = omega (arith, c.loop-bx-test.true, c.whole_in.ensures.0, c.across.ensures) in
-    let there : (c.args.by * c.across.result + c.loop-bx.bx) * (c.lanes_of-s.result * 8) + c.lanes_of-s.result * 8 ≤ length c.args.«data».now = fits c.args.pic c.args.by c.loop-bx.bx c.across.result (c.lanes_of-s.result * 8) (lanes c.args.green) _
-    c.across.ensures size in_row c.pre.0.1 c.pre.0.0 in
+    let in_row : c.loop-bx.bx < c.across-row.result = omega (arith, c.loop-bx-test.true, c.whole_in-n.ensures.0, c.across-row.ensures) in
+    let there : (c.args.by * c.across-row.result + c.loop-bx.bx) * (c.lanes_of-s.result * 8) + c.lanes_of-s.result * 8 ≤ length c.args.«data».now = fits c.args.pic c.args.by c.loop-bx.bx c.across-row.result (c.lanes_of-s.result * 8) (lanes c.args.green) _
+    c.across-row.ensures size in_row c.pre.0.1 c.pre.0.0 in
     omega (arith, there)
 
 pub slice_bounds-whole_block-count : goal.slice_bounds-whole_block-count
 slice_bounds-whole_block-count c =
     let size : c.lanes_of-s.result * 8 ≡ lanes c.args.green * 8 = ap (λ (z : ℕ). z * 8) c.lanes_of-s.ensures.0 in
-    let in_row : c.loop-bx.bx < c.across.result = omega (arith, c.loop-bx-test.true, c.whole_in.ensures.0, c.across.ensures) in
-    let there : (c.args.by * c.across.result + c.loop-bx.bx) * (c.lanes_of-s.result * 8) + c.lanes_of-s.result * 8 ≤ length c.args.«data».now = fits c.args.pic c.args.by c.loop-bx.bx c.across.result (c.lanes_of-s.result * 8) (lanes c.args.green) _
-    c.across.ensures size in_row c.pre.0.1 c.pre.0.0 in
+    let in_row : c.loop-bx.bx < c.across-row.result = omega (arith, c.loop-bx-test.true, c.whole_in-n.ensures.0, c.across-row.ensures) in
+    let there : (c.args.by * c.across-row.result + c.loop-bx.bx) * (c.lanes_of-s.result * 8) + c.lanes_of-s.result * 8 ≤ length c.args.«data».now = fits c.args.pic c.args.by c.loop-bx.bx c.across-row.result (c.lanes_of-s.result * 8) (lanes c.args.green) _
+    c.across-row.ensures size in_row c.pre.0.1 c.pre.0.0 in
     omega (arith, there)
 
 pub whole_block-requires : goal.whole_block-requires
 whole_block-requires c =
     let size : c.lanes_of-s.result * 8 ≡ lanes c.args.green * 8 = ap (λ (z : ℕ). z * 8) c.lanes_of-s.ensures.0 in
-    let in_row : c.loop-bx.bx < c.across.result = omega (arith, c.loop-bx-test.true, c.whole_in.ensures.0, c.across.ensures) in
-    let there : (c.args.by * c.across.result + c.loop-bx.bx) * (c.lanes_of-s.result * 8) + c.lanes_of-s.result * 8 ≤ length c.args.«data».now = fits c.args.pic c.args.by c.loop-bx.bx c.across.result (c.lanes_of-s.result * 8) (lanes c.args.green) _
-    c.across.ensures size in_row c.pre.0.1 c.pre.0.0 in
-    let w = c.whole_in.ensures in record { green_in_bounds = (
+    let in_row : c.loop-bx.bx < c.across-row.result = omega (arith, c.loop-bx-test.true, c.whole_in-n.ensures.0, c.across-row.ensures) in
+    let there : (c.args.by * c.across-row.result + c.loop-bx.bx) * (c.lanes_of-s.result * 8) + c.lanes_of-s.result * 8 ≤ length c.args.«data».now = fits c.args.pic c.args.by c.loop-bx.bx c.across-row.result (c.lanes_of-s.result * 8) (lanes c.args.green) _
+    c.across-row.ensures size in_row c.pre.0.1 c.pre.0.0 in
+    let w = c.whole_in-n.ensures in record { green_in_bounds = (
         simp (length-take, length-drop) (omega (arith, there, size)),
         c.alpha_steps-table.ensures,
         subst (Ready (lanes c.args.green) c.args.pic) (sym c.loop-bx.invariant.1.2.same) c.pre.1,
@@ -78,13 +78,13 @@ whole_block-requires c =
 pub loop-bx-preserved : goal.loop-bx-preserved
 loop-bx-preserved c =
     let size : c.lanes_of-s.result * 8 ≡ lanes c.args.green * 8 = ap (λ (z : ℕ). z * 8) c.lanes_of-s.ensures.0 in
-    let in_row : c.loop-bx.bx < c.across.result = omega (arith, c.loop-bx-test.true, c.whole_in.ensures.0, c.across.ensures) in
+    let in_row : c.loop-bx.bx < c.across-row.result = omega (arith, c.loop-bx-test.true, c.whole_in-n.ensures.0, c.across-row.ensures) in
     let a = c.args in
     let l = c.loop-bx in (
       omega (arith, c.loop-bx-test.true),
-      turn (lanes a.green) a.span.signed a.«data».now a.pic a.by 0 l.bx c.across.result (c.lanes_of-s.result * 8)
-          a.image-1.now l.image-1 _
-          c.across.ensures size in_row l.invariant.1 c.whole_block.ensures,
+      turn (lanes a.green) a.span.signed a.«data».now a.pic a.by 0 l.bx c.across-row.result (c.lanes_of-s.result * 8)
+          a.image.now l.image _
+          c.across-row.ensures size in_row l.invariant.1 c.whole_block.ensures,
     )
 
 pub shape_of-image : goal.shape_of-image

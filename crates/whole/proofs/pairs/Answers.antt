@@ -53,7 +53,7 @@ loop-i-smaller c = omega arith
 pub loop-i-preserved : goal.loop-i-preserved
 loop-i-preserved c =
     let l = c.loop-i in
-    stored_next _ 0 16 l.out-1 l.i l.invariant _ (omega arith) refl
+    stored_next _ 0 16 l.out l.i l.invariant _ (omega arith) refl
 
 pub returns : goal.returns
 unfolding paired

@@ -36,8 +36,8 @@ pub returns : goal.returns
 returns c =
     let checked : said c.verify-answer.result ≡ verdict (picture_checks (lanes c.args.green * 8) c.args.pic (length c.args.«data».now) (length c.args.image.now / lanes c.args.green)) = rw (c.lanes_of.ensures.0, c.lanes_of-2.ensures.0) at c.verify-answer.ensures in
     let told : said c.verify-answer.result ≡ whole_verdict (lanes c.args.green) c.args.pic c.args.«data».now c.args.image.now = let a = c.args in
-    checked ∙ same_verdict a.green a.pic (length a.«data».now) (length a.image-1.now) in
+    checked ∙ same_verdict a.green a.pic (length a.«data».now) (length a.image.now) in
     let a = c.args in
-    let l = a.image-1.now in
+    let l = a.image.now in
     done (whole_verdict (lanes a.green) a.pic a.«data».now l) (whole_picture a.signed (lanes a.green) a.pic a.«data».now l) l _
     (sym (ap said c.in-Done.is) ∙ told) c.paint.ensures

@@ -55,5 +55,5 @@ returns c =
     let second-good : above c.args.second ≡ false = sym c.above-2.ensures ∙ c.if-above-2.false in
     let all-good : no_base c.args.first c.args.second c.args.flip ≡ false = good c.args.first c.args.second c.args.flip first_good second-good c.if-flip-gt1.false in
     let a = c.args in
-    done a.first a.second a.flip a.tile.now a.block-1.now all-good c.if-block-lt8.false c.if-tile-lt16.false _
-    (c.write.ensures ∙ ap (λ (l : List ℕ). eight_over l a.block-1.now) c.baked.ensures)
+    done a.first a.second a.flip a.tile.now a.block.now all-good c.if-block-lt8.false c.if-tile-lt16.false _
+    (c.write.ensures ∙ ap (λ (l : List ℕ). eight_over l a.block.now) c.baked.ensures)

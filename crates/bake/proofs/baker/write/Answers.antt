@@ -8,4 +8,4 @@ use Rattle.bake.proofs.baker.write.Goals as goal
 pub returns : goal.returns
 returns c =
     let a = c.args in
-    copied a.eight-1 a.block-1.now _ 8 (sym (slice-aggregate-copy c)) c.copy.ensures.1
+    copied a.eight a.block.now _ 8 (sym (slice-aggregate-copy c)) c.copy.ensures.1

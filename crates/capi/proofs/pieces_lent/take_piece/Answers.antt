@@ -7,4 +7,4 @@ use Rattle.capi.proofs.pieces_lent.take_piece.Goals as goal
 pub returns : goal.returns
 returns c =
     let a = c.args in
-    carried a.numbers-1.now a.kept.now a.bytes.now a.image-1.now c.state_in-state.result c.piece-taken.result _ c.state_in-state.ensures c.piece-taken.ensures
+    carried a.numbers.now a.kept.now a.bytes.now a.image.now c.state_in-state.result c.piece-taken.result _ c.state_in-state.ensures c.piece-taken.ensures

@@ -55,7 +55,7 @@ loop-i-preserved c =
     let is-small : mag read < 16 = rw is-step (small_row _ _ c.requires.0) in
     let l = c.loop-i in
     let s = is-small in
-    stored_next _ (pos 0) 8 l.out-1 l.i l.invariant _ (omega arith) (held_twice w8 w16 read (omega arith) (omega arith) ∙ is-step)
+    stored_next _ (pos 0) 8 l.out l.i l.invariant _ (omega arith) (held_twice w8 w16 read (omega arith) (omega arith) ∙ is-step)
 
 pub returns : goal.returns
 returns c =

@@ -68,7 +68,7 @@ loop-i-preserved c =
     let w = c.index-IsWord in
     let o = at in (
       ap (λ (n : ℕ). n / 8) l.invariant.0 ∙ shifted w.result 3 l.i,
-      stored backwards _ (pos 0) 16 l.out-1 l.i _ _ l.invariant.1 (omega arith) (omega arith) (λ k h e. place_only (15 - l.i) k h (omega arith) ∙ sym o)
+      stored backwards _ (pos 0) 16 l.out l.i _ _ l.invariant.1 (omega arith) (omega arith) (λ k h e. place_only (15 - l.i) k h (omega arith) ∙ sym o)
           (held_small w16 _ (omega (arith, c.requires.1 (l.l % 8) (omega arith)))
           ∙ reads c.args.d.now c.args.eight l.i l.l (omega arith) (l.invariant.0 ∙ ap (λ (n : ℕ). n / 2 ^ (3 * l.i)) w.ensures)
           ∙ ap (pick_at _ _) (sym o)),

@@ -5,4 +5,4 @@ use Rattle.std.proofs.Common.{rules}
 use Rattle.etc_colour.proofs.etc1.code_steps.Goals as goal
 
 pub returns : goal.returns
-returns c = steps_at c.modifiers-table.result-1 c.modifiers-table.ensures c.args.code (search rules)
+returns c = steps_at c.modifiers-table.result c.modifiers-table.ensures c.args.code (search rules)

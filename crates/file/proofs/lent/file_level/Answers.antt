@@ -15,7 +15,7 @@ returns-in-Level c = let a = c.args in
       answer = c.file_level-told.result;
       finds = c.file_level-told.ensures;
       says = sym (ap (λ (s : FoundLevel). get_or (found_said s) 0 0) e);
-      writes = sym (ap (λ (s : FoundLevel). level_or s a.out-1.now) e);
+      writes = sym (ap (λ (s : FoundLevel). level_or s a.out.now) e);
     }
 
 pub returns-in-Refused : goal.returns-in-Refused

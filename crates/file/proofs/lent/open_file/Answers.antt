@@ -15,7 +15,7 @@ returns-in-File c = let a = c.args in
       answer = c.open_file-told.result;
       opens = c.open_file-told.ensures;
       says = sym (ap (λ (s : Opened). get_or (opened_said s) 0 0) e);
-      writes = sym (ap (λ (s : Opened). file_or s a.out-1.now) e);
+      writes = sym (ap (λ (s : Opened). file_or s a.out.now) e);
     }
 
 pub returns-in-Refused : goal.returns-in-Refused

@@ -96,7 +96,7 @@ loop-b-preserved c =
       omega (arith, l.invariant.0),
       omega (arith, c.loop-b-test.true, c.paint_some-n.ensures.1),
       c.after-spot.ensures l.b l.invariant.2,
-      go_on (shows_of a.f) (size_of a.f) d a.pic a.first l.b l.spot.bx l.spot.by c.paint_some-n.result _ a.image-1.now l.image-1 _
+      go_on (shows_of a.f) (size_of a.f) d a.pic a.first l.b l.spot.bx l.spot.by c.paint_some-n.result _ a.image.now l.image _
           l.invariant.0 at
           (rest ((l.b - a.first) * c.size-s.result) d ∙ ap (λ (z : ℕ). drop z d) before)
           l.invariant.3

@@ -21,7 +21,7 @@ returns-then-n-eq0 c =
       omega arith,
       c.requires.left_nonzero.0,
       omega (arith, c.requires.bx_bound.0),
-      one (shows_of a.f) (size_of a.f) a.«data».now a.pic a.spot.bx a.spot.by 1 c.block_at-tile.result a.image-1.now _
+      one (shows_of a.f) (size_of a.f) a.«data».now a.pic a.spot.bx a.spot.by 1 c.block_at-tile.result a.image.now _
           c.requires.bx_bound.0 c.block_at-tile.ensures c.place.ensures,
     )
 

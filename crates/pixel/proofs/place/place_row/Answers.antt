@@ -36,5 +36,5 @@ pub returns : goal.returns
 returns c =
     let a = c.args in
     let at = element a.pic (a.bx * 4) a.y in
-    pieced a.pic a.bx a.y a.n c.requires.2 c.requires.3 c.requires.1 a.tile a.i (at + a.n - at) a.image-1.now _ c.requires.4 (omega arith)
+    pieced a.pic a.bx a.y a.n c.requires.2 c.requires.3 c.requires.1 a.tile a.i (at + a.n - at) a.image.now _ c.requires.4 (omega arith)
     c.fill.ensures

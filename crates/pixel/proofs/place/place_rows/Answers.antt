@@ -31,7 +31,7 @@ place_row-requires c =
 pub loop-i-preserved : goal.loop-i-preserved
 loop-i-preserved c =
     let a = c.args in
-    turn a.pic a.bx a.by c.loop-i.i a.m a.tile a.image-1.now c.loop-i.image-1 _
+    turn a.pic a.bx a.by c.loop-i.i a.m a.tile a.image.now c.loop-i.image _
     c.loop-i-test.true (omega (arith, c.requires.n_value.1)) c.loop-i.invariant c.place_row.ensures
 
 pub shape_of-image : goal.shape_of-image

@@ -13,5 +13,5 @@ pub returns : goal.returns
 returns c =
     let a = c.args in
     let long = ap length c.front_of-front.ensures ∙ front_length a.format (sized a.width a.height) a.n in
-    copied c.front_of-front.result a.out-1.now _ 21 long c.copy.ensures.1
-    ∙ ap (λ (z : List _). z ++ drop 21 a.out-1.now) c.front_of-front.ensures
+    copied c.front_of-front.result a.out.now _ 21 long c.copy.ensures.1
+    ∙ ap (λ (z : List _). z ++ drop 21 a.out.now) c.front_of-front.ensures

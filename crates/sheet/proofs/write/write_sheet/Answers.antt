@@ -45,12 +45,12 @@ put_front-requires c =
 
 pub returns : goal.returns
 returns c =
-    let done : let a = c.args in said Done ≡ write_verdict a.format (sized a.width a.height) a.blocks.now (length a.out-1.now) = rw c.in-Done.is at (c.verify-answer.ensures c.args.blocks.now refl) in
-    let good : let a = c.args in Accepted a.format (sized a.width a.height) a.blocks.now (length a.out-1.now) = passed _ _ _ _ done in
+    let done : let a = c.args in said Done ≡ write_verdict a.format (sized a.width a.height) a.blocks.now (length a.out.now) = rw c.in-Done.is at (c.verify-answer.ensures c.args.blocks.now refl) in
+    let good : let a = c.args in Accepted a.format (sized a.width a.height) a.blocks.now (length a.out.now) = passed _ _ _ _ done in
     let a = c.args in
     let b = a.blocks.now in
     let p = sized a.width a.height in
     let t = good in
-    writes a.format p b a.out-1.now _ done
-    (twice 21 (front_of_lem a.format p (length b)) b a.out-1.now _ _ (front_length a.format p (length b)) t.roomy c.put_front.ensures c.copy.ensures.1
-    ∙ is_sheet_said a.format p b a.out-1.now)
+    writes a.format p b a.out.now _ done
+    (twice 21 (front_of_lem a.format p (length b)) b a.out.now _ _ (front_length a.format p (length b)) t.roomy c.put_front.ensures c.copy.ensures.1
+    ∙ is_sheet_said a.format p b a.out.now)
