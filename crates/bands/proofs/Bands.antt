@@ -18,7 +18,7 @@ use Rattle.rules.specs.Answers.{first_of}
 use Rattle.rules.specs.declared.Picture.{Picture}
 use Rattle.laws.proofs.Filled.{build_same}
 use Rattle.laws.proofs.First.{first, only, first_alike}
-use Rattle.laws.proofs.Paint.{length_painted, get_or_painted}
+use Rattle.laws.proofs.Paint.{length_painted, get_d_painted}
 use Rattle.pixel.proofs.place.Grid.{covered, column_in, row_in}
 use Rattle.bands.specs.Bands.{bytes_in, elements_in, top, below, first_bad, first_in_bands}
 
@@ -74,18 +74,18 @@ parted t v a old =
     ext_get_or 0 (painted t v old) (front ++ back) (l ∙ sym (length-append front back ∙ omega arith))
     (λ k q.
     let h : k < length old = omega arith in
-    get_or_painted t v old k h
+    get_d_painted t v old k h
     ∙ elim (dec_lt k a) [
       | yes i ↦
           ap (λ (z : ℕ). cond (t k) (v k) z) (sym (get_or-take a old k 0 i))
-          ∙ sym (get_or_painted t v (take a old) k (omega (arith, length-take a old, i)))
+          ∙ sym (get_d_painted t v (take a old) k (omega (arith, length-take a old, i)))
           ∙ sym (get_or-append front back 0 k (omega (arith, i)))
       | no i ↦
           let z : k ≡ a + (k - a) = omega (arith, i) in
           let y : k ≡ length front + (k - a) = omega (arith, i) in
           ap (λ (j : ℕ). cond (t j) (v j) (get_or old j 0)) z
           ∙ ap (λ (x : ℕ). cond (t (a + (k - a))) (v (a + (k - a))) x) (sym (get_or-drop a old (k - a) 0))
-          ∙ sym (get_or_painted (λ k. t (a + k)) (λ k. v (a + k)) (drop a old) (k - a) (omega (arith, length-drop a old, i)))
+          ∙ sym (get_d_painted (λ k. t (a + k)) (λ k. v (a + k)) (drop a old) (k - a) (omega (arith, length-drop a old, i)))
           ∙ sym (get_or-append-add front back (k - a) 0)
           ∙ ap (λ (j : ℕ). get_or (front ++ back) j 0) (sym y)
     ])

@@ -18,7 +18,7 @@ use Rattle.rules.specs.Pixel.{Shows}
 use Rattle.rules.specs.Places.{sized, inside, across, bytes_of, pixel_at, painted}
 use Rattle.rules.specs.declared.Picture.{Picture}
 use Rattle.laws.proofs.Filled.{is_build, length_build, get_or_build}
-use Rattle.laws.proofs.Paint.{length_painted, get_or_painted}
+use Rattle.laws.proofs.Paint.{length_painted, get_d_painted}
 use Rattle.pixel.proofs.place.Grid.{wide}
 use Rattle.pixel.proofs.place.Plain.{inside_plain}
 use Rattle.bands.specs.Rows.{high, row_of, row_bytes, row_pixels, joined}
@@ -78,7 +78,7 @@ module _ (shows : Shows) (s breadth tall : ℕ) (d : List ℕ) where
       (simp (length-take, length_painted) (omega arith))
       (λ k q.
       get_or-take n l k 0 q
-      ∙ get_or_painted (inside (row_of pic j)) (pixel_at shows s (row_of pic j) (row_bytes s pic d j)) image k (omega arith)
+      ∙ get_d_painted (inside (row_of pic j)) (pixel_at shows s (row_of pic j) (row_bytes s pic d j)) image k (omega arith)
       ∙ ap (λ (b : Bool). cond b (pixel_at shows s (row_of pic j) (row_bytes s pic d j) k) (get_or image k 0)) (inside_plain breadth (high tall j) k ∙ lt-ltb k n q)
       ∙ pixel breadth tall j k q shows s d)
 

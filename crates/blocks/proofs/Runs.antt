@@ -15,7 +15,7 @@ use Rattle.rules.specs.Places.{inside, block_at, column, row, pixel_by, painted}
 use Rattle.rules.specs.Pieces.{in_run}
 use Rattle.rules.specs.declared.Picture.{Picture}
 use Rattle.laws.specs.Painted.{Painted}
-use Rattle.laws.proofs.Paint.{said, also, is_painted, length_painted, get_or_painted}
+use Rattle.laws.proofs.Paint.{said, also, is_painted, length_painted, get_d_painted}
 use Rattle.pixel.specs.place.Tile.{Room}
 use Rattle.blocks.specs.Run.{InRun}
 
@@ -93,7 +93,7 @@ module _ (pic : Picture) where
   -- what a list that is painted by the test holds, where it has room for the picture
   module _ (a b : ℕ) (v : ℕ → ℕ) (old new : List ℕ) (room : Room pic (length old)) (e : new ≡ painted (in_run pic a b) v old) where
     at : (k : ℕ) → k < length old → get_or new k 0 ≡ cond (in_run pic a b k) (v k) (get_or old k 0)
-    at k h = ap (λ (l : List ℕ). get_or l k 0) e ∙ get_or_painted (in_run pic a b) v old k h
+    at k h = ap (λ (l : List ℕ). get_or l k 0) e ∙ get_d_painted (in_run pic a b) v old k h
 
     same : length new ≡ length old
     same = ap length e ∙ length_painted (in_run pic a b) v old

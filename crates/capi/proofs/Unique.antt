@@ -58,9 +58,9 @@ pub sheet_head_lem : (d : List ℕ) (f w h n f₁ w₁ h₁ m f₂ w₂ h₂ : �
 sheet_head_lem d f w h n f₁ w₁ h₁ m f₂ w₂ h₂ p q =
     let e = one_head d p.sheet q.sheet p.tells q.tells in (
       p.says ∙ ap (λ (s : Sheet). get_or (sheets.told s) 0 0) e ∙ sym q.says,
-      p.the-format ∙ ap (λ (s : Sheet). head_or (λ k. k.format) s f) e ∙ sym q.the-format,
+      p.the_format ∙ ap (λ (s : Sheet). head_or (λ k. k.format) s f) e ∙ sym q.the_format,
       p.the_width ∙ ap (λ (s : Sheet). head_or (λ k. k.width) s w) e ∙ sym q.the_width,
-      p.the-height ∙ ap (λ (s : Sheet). head_or (λ k. k.height) s h) e ∙ sym q.the-height,
+      p.the_height ∙ ap (λ (s : Sheet). head_or (λ k. k.height) s h) e ∙ sym q.the_height,
     )
 
 pub writer : (f : ℕ) (p : Picture) (b out : List ℕ) (stood n m k l : ℕ) (new new' : List ℕ)
@@ -71,7 +71,7 @@ writer f p b out stood n m k l new new' x y =
     let e = one_written f p b out x.written y.written new new' x.writes y.writes in (
       x.says ∙ ap (λ (r : Written). answer_number r.answer) e.0 ∙ sym y.says,
       e.1,
-      x.the-bytes ∙ ap (λ (r : Written). cond (accepts (said r.answer)) r.bytes stood) e.0 ∙ sym y.the-bytes,
+      x.the_bytes ∙ ap (λ (r : Written). cond (accepts (said r.answer)) r.bytes stood) e.0 ∙ sym y.the_bytes,
     )
 
 -- the checker and the baker: what an answer says is what its number is

@@ -15,7 +15,7 @@ use Rattle.rules.specs.Pixel.{Shows}
 use Rattle.rules.specs.Places.{inside, in_tile, needed, blocks, block_at, bytes_of, column, row, pixel_at, painted, picture_by, Alike, Beside}
 use Rattle.rules.specs.Answers.{refusal, limit_check, pitch_check, data_check, image_check, picture_checks, exact_checks, judged}
 use Rattle.rules.specs.declared.Picture.{Picture}
-use Rattle.laws.proofs.Paint.{length_painted, get_or_painted, painted_same}
+use Rattle.laws.proofs.Paint.{length_painted, get_d_painted, painted_same}
 use Rattle.blocks.proofs.Blocks.{block_in, room}
 
 -- the picture of bytes d over an image
@@ -64,10 +64,10 @@ module _ (s : ℕ) (pic : Picture) (d e : List ℕ) where
         outside =
             λ k h out.
             let l : k < length old = omega (arith, length_painted (λ k. inside pic (at k)) v old) in
-            get_or_painted (λ k. inside pic (at k)) v old k l
+            get_d_painted (λ k. inside pic (at k)) v old k l
             ∙ choose (inside pic (at k)) (eqb (block_at pic (at k)) n) (v k) (w k) (get_or old k 0) out
             (λ i z. same k (b (block_at pic (at k)) (block_in pic (at k) i) (λ q. true≢false (sym (eq-eqb (block_at pic (at k)) n q) ∙ z))))
-            ∙ sym (get_or_painted (λ k. inside pic (at k)) w old k l);
+            ∙ sym (get_d_painted (λ k. inside pic (at k)) w old k l);
       }
     where
       choose : (t u : Bool) (v w o : ℕ) → (t && u) ≡ false → (T t → u ≡ false → v ≡ w) → cond t v o ≡ cond t w o

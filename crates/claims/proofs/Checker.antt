@@ -39,7 +39,7 @@ near_means t a b e =
 
 pub means_near : (t a b : ℕ) → Near t a b → near t a b ≡ true
 unfolding farthest
-means_near t a b p = near_farthest t a b ∙ le-leb (farthest a b) t (least _ _ _ t p.by-red p.by-green p.by-blue)
+means_near t a b p = near_farthest t a b ∙ le-leb (farthest a b) t (least _ _ _ t p.by_red p.by_green p.by_blue)
 
 -- what an acceptance says
 pub record Accepts (t : ℕ) (d tile : List ℕ) : Type 0 where

@@ -26,7 +26,7 @@ use Rattle.rules.specs.declared.Started.{Started}
 use Rattle.rules.specs.declared.Taken.{Taken}
 use Rattle.laws.proofs.Filled.{build_same}
 use Rattle.laws.proofs.Judged.{passed}
-use Rattle.laws.proofs.Paint.{none, get_or_painted}
+use Rattle.laws.proofs.Paint.{none, get_d_painted}
 use Rattle.laws.proofs.Reach.{some_bytes, few_bytes}
 use Rattle.laws.proofs.Unique.{answer}
 use Rattle.checks.proofs.Checks.{passed as picture-passed}
@@ -225,13 +225,13 @@ module _ (f : Format) (pic : Picture) (d : List ℕ) where
     -- "paints each block as soon as it is whole"
     pub painted_as_soon_as_whole : T (inside pic k) → block_at pic k * size_of f + size_of f ≤ length d → get_or (so_far f pic d image) k 0 ≡ pixel_at (shows_of f) (size_of f) pic d k
     painted_as_soon_as_whole i e =
-        get_or_painted (in_run pic 0 (wholes f pic d)) (pixel_at (shows_of f) (size_of f) pic d) image k h
+        get_d_painted (in_run pic 0 (wholes f pic d)) (pixel_at (shows_of f) (size_of f) pic d) image k h
         ∙ taken (in_run pic 0 (wholes f pic d) k) _ _ (tests pic 0 (wholes f pic d) k (record { within = i; from = omega arith; to = when_whole (block_at pic k) (block_in pic k i) e }))
 
     -- and not before, nor is any other element changed
     pub untouched_until_whole : (T (inside pic k) → length d < block_at pic k * size_of f + size_of f) → get_or (so_far f pic d image) k 0 ≡ get_or image k 0
     untouched_until_whole e =
-        get_or_painted (in_run pic 0 (wholes f pic d)) (pixel_at (shows_of f) (size_of f) pic d) image k h
+        get_d_painted (in_run pic 0 (wholes f pic d)) (pixel_at (shows_of f) (size_of f) pic d) image k h
         ∙ left (in_run pic 0 (wholes f pic d) k) _ _
         (λ t.
         let r = tested pic 0 (wholes f pic d) k t in

@@ -21,7 +21,7 @@ use Rattle.rules.specs.Whole.{between, middle, byte_from, sixteen, eac_whole_lem
 use Rattle.rules.specs.declared.Answer.{Answer}
 use Rattle.rules.specs.declared.Answer.TheVariants.{Done}
 use Rattle.rules.specs.declared.Picture.{Picture}
-use Rattle.laws.proofs.Paint.{get_or_painted}
+use Rattle.laws.proofs.Paint.{get_d_painted}
 use Rattle.laws.proofs.Signed.{neg}
 use Rattle.laws.proofs.Unique.{no_second_outcome}
 use Rattle.pixel.proofs.place.Grid.{rem_at, div_at, inside_at, within, beyond, in_gap}
@@ -141,7 +141,7 @@ module _ (green signed : Bool) (d : List ℕ) (pic : Picture) (image : List ℕ)
       let at = its_pixel green pic x y c h in
       let there : k < length image = before_end green (element pic x y) (needed pic) (length image) c (within pic (element pic x y) own) h fits.roomy in
       ap (λ (l : List ℕ). get_or l k 0) (an_acceptance_paints _ (whole_picture signed n pic d image) image new Done p refl)
-      ∙ get_or_painted (λ k. inside pic (k / n)) (whole_at signed n pic d) image k there
+      ∙ get_d_painted (λ k. inside pic (k / n)) (whole_at signed n pic d) image k there
       ∙ ap (λ (t : Bool). cond t (whole_at signed n pic d k) (get_or image k 0)) (holds (inside pic (k / n)) (subst (λ (m : ℕ). T (inside pic m)) (sym at) own))
       ∙ ap (λ (m : ℕ). whole_pixel signed (k % n) (bytes_of (n * 8) d (block_at pic m)) (column pic m % 4) (row pic m % 4)) at
       ∙ pixel_of_lem (whole_pixel signed (k % n)) (n * 8) pic d x y (omega (arith, fits.fits))

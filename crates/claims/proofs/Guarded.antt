@@ -21,7 +21,7 @@ use Rattle.rules.specs.declared.Picture.{Picture}
 use Rattle.laws.proofs.First.{first, first_alike}
 use Rattle.laws.proofs.Guards.{Sound, finds, finds_none}
 use Rattle.laws.proofs.Judged.{numbered, goes_on}
-use Rattle.laws.proofs.Paint.{get_or_painted}
+use Rattle.laws.proofs.Paint.{get_d_painted}
 use Rattle.laws.proofs.Unique.{answer}
 use Rattle.picture.proofs.Guard.{agree}
 use Rattle.claims.proofs.Outcomes.{a_refusal_alters_nothing, an_acceptance_paints}
@@ -77,7 +77,7 @@ module _ (g : Guard) (sound : Sound g) (name : ℕ → Answer) (spoken : (n : �
           is_first = f.none;
           unchanged =
               a_refusal_alters_nothing _ _ image new a p
-              (ap accepts told ∙ ne_eqb g.number 0 (λ z. omega (arith, z, sound.is-refusal)));
+              (ap accepts told ∙ ne_eqb g.number 0 (λ z. omega (arith, z, sound.is_refusal)));
         }
 
     -- ".. exactly": where there is none, it accepts, and each pixel is as the rule that is shown gives it
@@ -108,9 +108,9 @@ module _ (g : Guard) (sound : Sound g) (d : List ℕ) (pic : Picture) where
       → get_or old k 0 ≡ get_or new k 0
   older_reader_differs_only_there image old new a b p q r t k l e =
       ap (λ (l : List ℕ). get_or l k 0) (an_acceptance_paints _ _ image old a p r)
-      ∙ get_or_painted (inside pic) (pixel_at (shows_of g.own) (size_of g.own) pic d) image k l
+      ∙ get_d_painted (inside pic) (pixel_at (shows_of g.own) (size_of g.own) pic d) image k l
       ∙ ap (λ (v : ℕ). cond (inside pic k) v (get_or image k 0)) (differs_only_there k e)
-      ∙ sym (get_or_painted (inside pic) (pixel_at (shows_of g.shown) (size_of g.shown) pic d) image k l)
+      ∙ sym (get_d_painted (inside pic) (pixel_at (shows_of g.shown) (size_of g.shown) pic d) image k l)
       ∙ sym (ap (λ (l : List ℕ). get_or l k 0) (an_acceptance_paints _ _ image new b q t))
 
 -- what a guard says of inputs that agree on the blocks of a picture

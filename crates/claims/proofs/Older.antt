@@ -347,7 +347,7 @@ module _ (g : Guard) (exact : Exact g) where
       decide : (b : Bool) → g.bad d ≡ b → b ≡ true
       decide true e = refl
       decide false e =
-          absurd (w.differ (exact.right w.block w.column w.row (exact.by-head w.block d w.same_head ∙ e)))
+          absurd (w.differ (exact.right w.block w.column w.row (exact.by_head w.block d w.same_head ∙ e)))
 
 -- no block below 00 00 04 02 00 00 00 00 is out of range
 good : (n b : ℕ) (test : ℕ → Bool) → So (every (λ k. not (test k)) n) → b < n → test b ≡ false

@@ -43,13 +43,13 @@ module _ (d : List ℕ) (pic : Picture) (image : List ℕ) (a : Answer) (new : L
   pub opaque_refuses_and_names_the_first : (n : ℕ) → n < blocks pic → clear d n ≡ true → Refused d pic image a new
   unfolding size_of
   opaque_refuses_and_names_the_first =
-      guarded-claims.refuses-and-names-the-first opaque_only opaque_sound NotOpaque (λ n. refl) d pic image a new (opaque_checks pic d image) tt p ok
+      guarded-claims.refuses_and_names_the_first opaque_only opaque_sound NotOpaque (λ n. refl) d pic image a new (opaque_checks pic d image) tt p ok
 
   -- "exactly"; and "Where it accepts, every pixel equals the Khronos RGB reading and the RGBA1 reading of the same bytes."
   pub opaque_accepts_otherwise : ((n : ℕ) → n < blocks pic → clear d n ≡ false) → Accepted d pic image a new
   unfolding size_of
   opaque_accepts_otherwise =
-      guarded-claims.accepts-otherwise opaque_only opaque_sound NotOpaque (λ n. refl) d pic image a new (opaque_checks pic d image) tt p ok
+      guarded-claims.accepts_otherwise opaque_only opaque_sound NotOpaque (λ n. refl) d pic image a new (opaque_checks pic d image) tt p ok
 
 -- "Where it accepts, every pixel equals the Khronos RGB reading and the RGBA1 reading of the same bytes", with nothing left to look up:
 -- what it has done is what the reader of either format promises
@@ -75,7 +75,7 @@ module _ (d : List ℕ) (pic : Picture) (image new : List ℕ) (p : ReadsOpaque 
   pub the_rgb_reader_does_the_same : ReadsPicture Etc2Rgb d pic image Done new
   unfolding size_of
   the_rgb_reader_does_the_same =
-      record { says = ok; leaves = accepted.shows-own ∙ ap (λ (v : List ℕ). left v (picture_of Etc2Rgb pic d image) image) ok }
+      record { says = ok; leaves = accepted.shows_own ∙ ap (λ (v : List ℕ). left v (picture_of Etc2Rgb pic d image) image) ok }
 
   pub the_rgba1_reader_does_the_same : ReadsPicture Etc2Rgba1 d pic image Done new
   unfolding size_of
@@ -85,7 +85,7 @@ module _ (d : List ℕ) (pic : Picture) (image new : List ℕ) (p : ReadsOpaque 
 -- what RGB shows at a pixel is what RGBA1 shows there, unless the pixel's own block has its opaque bit clear
 pub rgb_differs_only_where_clear : (d : List ℕ) (pic : Picture) (k : ℕ) → not_opaque (bytes_of 8 d (block_at pic k)) ≡ false → pixel_at (shows_of Etc2Rgb) 8 pic d k ≡ pixel_at (shows_of Etc2Rgba1) 8 pic d k
 unfolding size_of
-rgb_differs_only_where_clear d pic k e = guarded-claims.differs-only-there opaque_only opaque_sound d pic k e
+rgb_differs_only_where_clear d pic k e = guarded-claims.differs_only_there opaque_only opaque_sound d pic k e
 
 -- so of pictures of the same bytes that both readers accept over one image, every element is the same outside the tiles of such blocks
 pub rgb_reader_differs_only_there : (d : List ℕ) (pic : Picture) (image old new : List ℕ) (a b : Answer)
@@ -98,7 +98,7 @@ pub rgb_reader_differs_only_there : (d : List ℕ) (pic : Picture) (image old ne
     → not_opaque (bytes_of 8 d (block_at pic k)) ≡ false
     → get_or old k 0 ≡ get_or new k 0
 unfolding size_of
-rgb_reader_differs_only_there d pic = guarded-claims.older-reader-differs-only-there opaque_only opaque_sound d pic
+rgb_reader_differs_only_there d pic = guarded-claims.older_reader_differs_only_there opaque_only opaque_sound d pic
 
 -- What Pictures.antt says of the readers of the formats, of this one.
 module _ (d : List ℕ) (pic : Picture) (image : List ℕ) where

@@ -8,7 +8,7 @@ use lib.ListN.{length, get_or}
 use Rattle.rules.specs.Places.{painted}
 use Rattle.rules.specs.Answers.{accepts, Outcome, said}
 use Rattle.rules.specs.declared.Answer.{Answer}
-use Rattle.laws.proofs.Paint.{get_or_painted, length_painted}
+use Rattle.laws.proofs.Paint.{get_d_painted, length_painted}
 use Rattle.laws.proofs.Unique.{answer}
 
 -- two outcomes, each an answer and an image, are one
@@ -50,5 +50,5 @@ module _ (P : ℕ → Bool) (v : ℕ → ℕ) (verdict image new : List ℕ) (a 
   the_rest_stays k h o = ap (λ (l : List ℕ). get_or l k 0) p.leaves ∙ kept (accepts verdict)
     where
       kept : (t : Bool) → get_or (cond t (painted P v image) image) k 0 ≡ get_or image k 0
-      kept true = get_or_painted P v image k h ∙ ap (λ (t : Bool). cond t (v k) (get_or image k 0)) o
+      kept true = get_d_painted P v image k h ∙ ap (λ (t : Bool). cond t (v k) (get_or image k 0)) o
       kept false = refl

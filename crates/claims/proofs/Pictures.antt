@@ -22,7 +22,7 @@ use Rattle.rules.specs.declared.Answer.{Answer}
 use Rattle.rules.specs.declared.Answer.TheVariants.{Done}
 use Rattle.rules.specs.declared.Format.{Format}
 use Rattle.rules.specs.declared.Picture.{Picture}
-use Rattle.laws.proofs.Paint.{get_or_painted}
+use Rattle.laws.proofs.Paint.{get_d_painted}
 use Rattle.laws.proofs.Judged.{all_pass}
 use Rattle.laws.proofs.Unique.{answer}
 use Rattle.pixel.specs.place.Tile.{Room}
@@ -97,7 +97,7 @@ module _ (shows : Shows) (s : ℕ) (pic : Picture) (image : List ℕ) where
         let wide : x < pic.pitch = omega (arith, room.fits) in
         let within : at < length image = room.reach at own in
         ap (λ (l : List ℕ). get_or l at 0) (an_acceptance_paints verdict (over shows s pic image d) image new a p r)
-        ∙ get_or_painted (inside pic) (pixel_at shows s pic d) image at within
+        ∙ get_d_painted (inside pic) (pixel_at shows s pic d) image at within
         ∙ ap (λ (t : Bool). cond t (pixel_at shows s pic d at) (get_or image at 0)) (holds (inside pic at) own)
         ∙ pixel_of_lem shows s pic d x y wide
 

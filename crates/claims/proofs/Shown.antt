@@ -28,7 +28,7 @@ use Rattle.rules.specs.declared.Picture.{Picture}
 use Rattle.laws.proofs.Counts.{nowhere, somewhere}
 use Rattle.laws.proofs.First.{first}
 use Rattle.laws.proofs.Guards.{Sound, none_bad}
-use Rattle.laws.proofs.Paint.{painted_same, get_or_painted}
+use Rattle.laws.proofs.Paint.{painted_same, get_d_painted}
 use Rattle.pixel.proofs.place.Grid.{rem_at, div_at, covered, column_in, row_in, column_at, row_at, inside_at, reached, roomy}
 use Rattle.blocks.proofs.Blocks.{block_in}
 use Rattle.rules.specs.Older.{older_at, newer_at, in_picture, wrong_at, has_wrong, colour_off_lem, alpha_off_lem}
@@ -139,10 +139,10 @@ module _ (g : Guard) (sound : Sound g) (eight : size_of g.own ≡ 8) (p : Pictur
   -- "where strict (opaque-only) accepts, nothing is counted"
   module _ (accepts : guarded g.number (bad_at g d) (blocks p) ≡ 0 ∷ []) where
     none : (n k : ℕ) → n < blocks p → k < 16 → wrong_at g p d n k ≡ false
-    none n k h l = right n k (none_bad g.number (bad_at g d) (blocks p) sound.is-refusal accepts n h) l
+    none n k h l = right n k (none_bad g.number (bad_at g d) (blocks p) sound.is_refusal accepts n h) l
 
     lacks : (n : ℕ) → n < blocks p → has_wrong g p d n ≡ false
-    lacks n h = le-ltb (first_of (wrong_at g p d n) 16) 16 (omega (arith, good n (none_bad g.number (bad_at g d) (blocks p) sound.is-refusal accepts n h)))
+    lacks n h = le-ltb (first_of (wrong_at g p d n) 16) 16 (omega (arith, good n (none_bad g.number (bad_at g d) (blocks p) sound.is_refusal accepts n h)))
 
     pub no_pixel_is_counted : wrong_pixels g p d (blocks p) ≡ 0
     no_pixel_is_counted = sum_nothing _ (blocks p) (λ n h. nowhere (wrong_at g p d n) 16 (λ k l. none n k h l))
@@ -296,9 +296,9 @@ module _ (g : Guard) (sound : Sound g) (eight : size_of g.own ≡ 8) (p : Pictur
     same_pixel k i l =
         let t = from_so (inside p k) i in
         sym (ap (λ (b : Bool). cond b (pixel_at (shows_of g.own) (size_of g.own) p d k) (get_or image k 0)) t)
-        ∙ sym (get_or_painted (inside p) (pixel_at (shows_of g.own) (size_of g.own) p d) image k l)
+        ∙ sym (get_d_painted (inside p) (pixel_at (shows_of g.own) (size_of g.own) p d) image k l)
         ∙ ap (λ (z : List ℕ). get_or z k 0) e
-        ∙ get_or_painted (inside p) (pixel_at (shows_of g.shown) (size_of g.shown) p d) image k l
+        ∙ get_d_painted (inside p) (pixel_at (shows_of g.shown) (size_of g.shown) p d) image k l
         ∙ ap (λ (b : Bool). cond b (pixel_at (shows_of g.shown) (size_of g.shown) p d k) (get_or image k 0)) t
 
     at_place : (n k : ℕ) → 0 < across p.width → k < 16 → in_picture p n k ≡ true → older_at g d n k ≡ newer_at g d n k

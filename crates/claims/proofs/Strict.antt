@@ -42,18 +42,18 @@ module _ (d : List ℕ) (pic : Picture) (image : List ℕ) (a : Answer) (new : L
   pub strict_refuses_and_names_the_first : (n : ℕ) → n < blocks pic → bad d n ≡ true → Refused d pic image a new
   unfolding size_of
   strict_refuses_and_names_the_first =
-      guarded-claims.refuses-and-names-the-first in_range strict_sound OutOfRange (λ n. refl) d pic image a new (strict_checks pic d image) tt p ok
+      guarded-claims.refuses_and_names_the_first in_range strict_sound OutOfRange (λ n. refl) d pic image a new (strict_checks pic d image) tt p ok
 
   -- ".. exactly": where there is none, it accepts, "and each pixel is the one that the Khronos ETC2 RGB rule gives"
   pub strict_accepts_otherwise : ((n : ℕ) → n < blocks pic → bad d n ≡ false) → Accepted d pic image a new
   unfolding size_of
   strict_accepts_otherwise =
-      guarded-claims.accepts-otherwise in_range strict_sound OutOfRange (λ n. refl) d pic image a new (strict_checks pic d image) tt p ok
+      guarded-claims.accepts_otherwise in_range strict_sound OutOfRange (λ n. refl) d pic image a new (strict_checks pic d image) tt p ok
 
 -- what plain ETC1 shows at a pixel is what ETC2 RGB shows there, unless the pixel's own block is out of range
 pub etc1_differs_only_out_of_range : (d : List ℕ) (pic : Picture) (k : ℕ) → out_of_range_lem (bytes_of 8 d (block_at pic k)) ≡ false → pixel_at (shows_of Etc1) 8 pic d k ≡ pixel_at (shows_of Etc2Rgb) 8 pic d k
 unfolding size_of
-etc1_differs_only_out_of_range d pic k e = guarded-claims.differs-only-there in_range strict_sound d pic k e
+etc1_differs_only_out_of_range d pic k e = guarded-claims.differs_only_there in_range strict_sound d pic k e
 
 -- so of pictures of the same bytes that both readers accept over one image, every element is the same outside the tiles of
 -- out-of-range blocks
@@ -67,7 +67,7 @@ pub old_reader_differs_only_there : (d : List ℕ) (pic : Picture) (image old ne
     → out_of_range_lem (bytes_of 8 d (block_at pic k)) ≡ false
     → get_or old k 0 ≡ get_or new k 0
 unfolding size_of
-old_reader_differs_only_there d pic = guarded-claims.older-reader-differs-only-there in_range strict_sound d pic
+old_reader_differs_only_there d pic = guarded-claims.older_reader_differs_only_there in_range strict_sound d pic
 
 -- What Pictures.antt says of the readers of the formats, of strict ETC1.
 module _ (d : List ℕ) (pic : Picture) (image : List ℕ) where

@@ -87,7 +87,7 @@ module _ (viewer : Viewer) (d : List ℕ) (from n b : ℕ) where
       → accepts (said a) ≡ false
       → said a ≡ scanned_from (guard_of viewer) from n d
   stops a s h e r =
-      let w = refused (guard_of viewer).number (sound viewer).is-refusal a _ (from + b) e r in
+      let w = refused (guard_of viewer).number (sound viewer).is_refusal a _ (from + b) e r in
       let f = found _ n b s (sym same ∙ w.0) in
       w.1 ∙ ap (λ (z : ℕ). (guard_of viewer).number ∷ (from + z) ∷ []) f ∙ sym (rw (lt-ltb (first_in (guard_of viewer) n d) n (omega (arith, f))))
 
@@ -95,7 +95,7 @@ module _ (viewer : Viewer) (d : List ℕ) (from n b : ℕ) where
       → said a ≡ cond ((guard_of viewer).bad (take (b * 8 + 8 - b * 8) (drop (b * 8) d))) ((guard_of viewer).number ∷ (from + b) ∷ []) (0 ∷ [])
       → said a ≡ 0 ∷ []
       → Scanned (λ i. (guard_of viewer).bad (bytes_of 8 d i)) n (b + 1)
-  goes a s h e r = goes_on _ n b s h (sym same ∙ passed (guard_of viewer).number (sound viewer).is-refusal a _ (from + b) e r)
+  goes a s h e r = goes_on _ n b s h (sym same ∙ passed (guard_of viewer).number (sound viewer).is_refusal a _ (from + b) e r)
 
   pub ends : Clear → n ≤ b → 0 ∷ [] ≡ scanned_from (guard_of viewer) from n d
   ends s h = let f = ended _ n b s h in sym (rw (le-ltb (first_in (guard_of viewer) n d) n (omega (arith, f))))

@@ -134,9 +134,9 @@ pub length_painted : (t : ℕ → Bool) (v : ℕ → ℕ) (old : List ℕ) → l
 unfolding painted
 length_painted t v old = length_build (λ k. cond (t k) (v k) (get_or old k 0)) 0 (length old)
 
-pub get_or_painted : (t : ℕ → Bool) (v : ℕ → ℕ) (old : List ℕ) (k : ℕ) → k < length old → get_or (painted t v old) k 0 ≡ cond (t k) (v k) (get_or old k 0)
+pub get_d_painted : (t : ℕ → Bool) (v : ℕ → ℕ) (old : List ℕ) (k : ℕ) → k < length old → get_or (painted t v old) k 0 ≡ cond (t k) (v k) (get_or old k 0)
 unfolding painted
-get_or_painted t v old k h = get_or_build (λ k. cond (t k) (v k) (get_or old k 0)) 0 (length old) k h
+get_d_painted t v old k h = get_or_build (λ k. cond (t k) (v k) (get_or old k 0)) 0 (length old) k h
 
 -- painting with other values is the same where they agree on what is painted
 pub painted_same : (t : ℕ → Bool) (v u : ℕ → ℕ) (old : List ℕ) → ((k : ℕ) → T (t k) → v k ≡ u k) → painted t v old ≡ painted t u old
@@ -144,7 +144,7 @@ painted_same t v u old e =
     ext_get_or 0 (painted t v old) (painted t u old) (length_painted t v old ∙ sym (length_painted t u old))
     (λ k h.
     let b : k < length old = omega (arith, length_painted t v old) in
-    get_or_painted t v old k b ∙ agree (t k) (v k) (u k) (get_or old k 0) (e k) ∙ sym (get_or_painted t u old k b))
+    get_d_painted t v old k b ∙ agree (t k) (v k) (u k) (get_or old k 0) (e k) ∙ sym (get_d_painted t u old k b))
   where
     agree : (b : Bool) (x y z : ℕ) → (T b → x ≡ y) → cond b x z ≡ cond b y z
     agree true x y z h = h tt

@@ -45,6 +45,6 @@ module _ (g : Guard) (sound : Sound g) (pic : Picture) (d old : List ℕ) where
       choose true h =
           let then = guarded g.number (bad_at g d) (blocks pic) in
           agree
-          (accepted g.number (bad_at g d) (blocks pic) sound.is-refusal
+          (accepted g.number (bad_at g d) (blocks pic) sound.is_refusal
           (sym (ap accepts (all_pass checks then (passed checks then n h))) ∙ h))
       choose false h = refl

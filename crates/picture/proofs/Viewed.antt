@@ -21,7 +21,7 @@ pub passed_by_lem : (viewer : Viewer) (pic : Picture) (bytes elements : ℕ) (th
     → said a ≡ judged (checks_for viewer pic bytes elements) then
     → accepts (said a) ≡ true
     → Passed 8 pic bytes elements
-passed_by_lem Etc1 = checks.passed-exactly-by 8
+passed_by_lem Etc1 = checks.passed_exactly_by 8
 passed_by_lem Opaque = checks.passed-by 8
 
 pub in_order : (viewer : Viewer) (pic : Picture) (bytes elements : ℕ) → So (numbered (checks_for viewer pic bytes elements))

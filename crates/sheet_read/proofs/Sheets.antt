@@ -20,7 +20,7 @@ module _ (d : List ℕ) (a : Answer) (p : Refuses (walk d) a) where
       }
 
   pub tells_refusal : TellsHead d (Refused a)
-  tells_refusal = shown.tells-refusal d halts a (p.says [])
+  tells_refusal = shown.tells_refusal d halts a (p.says [])
 
   pub refuses : (image : List ℕ) → ReadsSheet d image a image
   refuses image = shown.refuses d halts a (p.says []) image

@@ -14,11 +14,8 @@ use Rattle.bake.proofs.baking.Each.{each_next, each_not}
 use Rattle.bake_check.proofs.all_near.Reads as reads
 use Rattle.bake_check.proofs.all_near.Lts as lts
 use Rattle.bake.proofs.distance.near.Reads as near-reads
+use Rattle.bake_check.proofs.all_near.Invariants.{test}
 use Rattle.bake_check.proofs.all_near.Goals as goal
-
--- the test of one pixel
-abbrev test : ℕ → List ℕ → List ℕ → ℕ → Bool
-test tolerance pixels tile k = near tolerance (get_or pixels k 0) (get_or tile k 0)
 
 -- src/lib.rt:30:5
 pub loop-k-init : goal.loop-k-init

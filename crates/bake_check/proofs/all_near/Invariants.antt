@@ -15,6 +15,10 @@ use Rattle.bake_check.proofs.all_near.Lts as lts
 use Rattle.bake.proofs.distance.near.Reads as near-reads
 use Rattle.bake_check.proofs.all_near.Given as goal
 
+-- the test of one pixel
+abbrev pub test : ℕ → List ℕ → List ℕ → ℕ → Bool
+test tolerance pixels tile k = near tolerance (get_or pixels k 0) (get_or tile k 0)
+
 abbrev pub invariant-loop-k : goal.invariant-loop-k
 invariant-loop-k l = (l.k ≤ 16) × (each (test l.tolerance l.pixels l.tile) l.k ≡ true)
 

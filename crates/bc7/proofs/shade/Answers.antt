@@ -9,12 +9,8 @@ use lib.ListN.{get_or, replicate}
 use Rattle.rules.specs.Bc7.{rotated}
 use Rattle.laws.proofs.Filling.{Filling, in_order_lem, begun, stored_next, filled_all}
 use Rattle.bc7.specs.Shaded.{between}
+use Rattle.bc7.proofs.shade.Invariants.{shade_of}
 use Rattle.bc7.proofs.shade.Goals as goal
-
-abbrev shade_of : ℕ → ℕ → List ℕ → List ℕ → List ℕ → List ℕ → List ℕ → List ℕ → ℕ → ℕ
-shade_of t layout colour alpha red green blue clear i =
-    rotated t (between clear (layout / 2 ^ (2 * i) % 4) (get_or alpha i 0)) (between red (layout / 2 ^ (2 * i) % 4) (get_or colour i 0))
-    (between green (layout / 2 ^ (2 * i) % 4) (get_or colour i 0)) (between blue (layout / 2 ^ (2 * i) % 4) (get_or colour i 0))
 
 pub loop-i-init : goal.loop-i-init
 loop-i-init c = begun in_order_lem _ 0 16 (replicate 16 0) refl

@@ -9,10 +9,6 @@ use Rattle.blocks.proofs.Alone.{enough, alone, whole_four}
 use borrow.Author.Rules.{rules}
 use Rattle.blocks.proofs.block_at.Goals as goal
 
--- LEFT
--- part-run-end : tie.Need-slice-bounds-run-end
--- part-run-end c = room c
-
 pub overflow_mul-at : goal.overflow_mul-at
 overflow_mul-at c =
     let room : c.args.n * c.size-s.result + c.size-s.result ≤ length c.args.«data».now = rw c.size-s.ensures.0 c.requires in
@@ -22,6 +18,11 @@ pub overflow_add-end : goal.overflow_add-end
 overflow_add-end c =
     let room : c.args.n * c.size-s.result + c.size-s.result ≤ length c.args.«data».now = rw c.size-s.ensures.0 c.requires in
     omega (arith, room)
+
+pub slice_bounds-run-end : goal.slice_bounds-run-end
+slice_bounds-run-end c =
+    let room : c.args.n * c.size-s.result + c.size-s.result ≤ length c.args.«data».now = rw c.size-s.ensures.0 c.requires in
+    room
 
 pub run-requires : goal.run-requires
 run-requires c =

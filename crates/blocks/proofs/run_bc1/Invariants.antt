@@ -9,7 +9,7 @@ use borrow.Author.Rules.{rules}
 use Rattle.blocks.proofs.run_bc1.Given as goal
 
 abbrev pub invariant-loop-i : goal.invariant-loop-i
-invariant-loop-i l = Turned (bc1_pixel false l.alpha) 8 «data» l.pic l.bx l.by l.n l.initial.image l.image l.i
+invariant-loop-i l = Turned (bc1_pixel false l.alpha) 8 l.«data» l.pic l.bx l.by l.n l.initial.image l.image l.i
 
 abbrev pub decreases-loop-i : goal.decreases-loop-i
 decreases-loop-i l = l.n - l.i

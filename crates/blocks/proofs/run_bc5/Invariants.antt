@@ -8,7 +8,7 @@ use borrow.Author.Rules.{rules}
 use Rattle.blocks.proofs.run_bc5.Given as goal
 
 abbrev pub invariant-loop-i : goal.invariant-loop-i
-invariant-loop-i l = Turned (bc5_pixel l.signed) 16 «data» l.pic l.bx l.by l.n l.initial.image l.image l.i
+invariant-loop-i l = Turned (bc5_pixel l.signed) 16 l.«data» l.pic l.bx l.by l.n l.initial.image l.image l.i
 
 abbrev pub decreases-loop-i : goal.decreases-loop-i
 decreases-loop-i l = l.n - l.i

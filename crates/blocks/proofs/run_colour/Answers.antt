@@ -12,14 +12,6 @@ use Rattle.blocks.proofs.Beside.{Turned, start, turn, ended}
 use borrow.Author.Rules.{rules}
 use Rattle.blocks.proofs.run_colour.Goals as goal
 
--- LEFT
--- part-paint-colour-start : tie.Need-slice-bounds-paint-colour-start invariant-loop decreases-loop
--- part-paint-colour-start c = omega (arith, enough c)
-
--- LEFT
--- part-paint-colour-end : tie.Need-slice-bounds-paint-colour-end invariant-loop decreases-loop
--- part-paint-colour-end c = omega (arith, enough c)
-
 pub loop-i-init : goal.loop-i-init
 loop-i-init c =
     let a = c.args in
@@ -39,6 +31,18 @@ overflow_add-end c =
 
 pub slice_bounds-paint_colour-count : goal.slice_bounds-paint_colour-count
 slice_bounds-paint_colour-count c =
+    let enough : c.loop-i.i * c.colour_size-size.result + c.colour_size-size.result ≤ length c.args.«data».now = room c.colour_size-size.result c.args.n c.loop-i.i (length c.args.«data».now) c.loop-i-test.true
+    (subst (λ (m : ℕ). c.args.n * m ≤ length c.args.«data».now) (sym c.colour_size-size.ensures.0) c.requires.0) in
+    omega (arith, enough)
+
+pub slice_bounds-paint_colour-start : goal.slice_bounds-paint_colour-start
+slice_bounds-paint_colour-start c =
+    let enough : c.loop-i.i * c.colour_size-size.result + c.colour_size-size.result ≤ length c.args.«data».now = room c.colour_size-size.result c.args.n c.loop-i.i (length c.args.«data».now) c.loop-i-test.true
+    (subst (λ (m : ℕ). c.args.n * m ≤ length c.args.«data».now) (sym c.colour_size-size.ensures.0) c.requires.0) in
+    omega (arith, enough)
+
+pub slice_bounds-paint_colour-end : goal.slice_bounds-paint_colour-end
+slice_bounds-paint_colour-end c =
     let enough : c.loop-i.i * c.colour_size-size.result + c.colour_size-size.result ≤ length c.args.«data».now = room c.colour_size-size.result c.args.n c.loop-i.i (length c.args.«data».now) c.loop-i-test.true
     (subst (λ (m : ℕ). c.args.n * m ≤ length c.args.«data».now) (sym c.colour_size-size.ensures.0) c.requires.0) in
     omega (arith, enough)

@@ -18,7 +18,7 @@ pub degrees :
 degrees legend named shown pixel x p m d n n' p₁ m₁ d₁ p₂ m₂ d₂ s t =
     let e = one_reply legend named shown pixel x s.reply t.reply s.reads t.reads in (
       s.says ∙ ap (λ (r : Reply). get_or (degrees_said r) 0 0) e ∙ sym t.says,
-      s.the-predicted ∙ ap (λ (r : Reply). value_or (λ k. k.predicted) r p) e ∙ sym t.the-predicted,
-      s.the-measured ∙ ap (λ (r : Reply). value_or (λ k. k.measured) r m) e ∙ sym t.the-measured,
-      s.the-difference ∙ ap (λ (r : Reply). value_or (λ k. k.difference) r d) e ∙ sym t.the-difference,
+      s.the_predicted ∙ ap (λ (r : Reply). value_or (λ k. k.predicted) r p) e ∙ sym t.the_predicted,
+      s.the_measured ∙ ap (λ (r : Reply). value_or (λ k. k.measured) r m) e ∙ sym t.the_measured,
+      s.the_difference ∙ ap (λ (r : Reply). value_or (λ k. k.difference) r d) e ∙ sym t.the_difference,
     )

@@ -11,25 +11,23 @@ use Rattle.capi.proofs.yalivucu_sheet_head.Goals as goal
 pub returns-in-Holds : goal.returns-in-Holds
 returns-in-Holds c =
     let a = c.args in
-    let e = c.in-Holds.is in
     record {
       sheet = c.sheet_head-told.result;
       tells = c.sheet_head-told.ensures;
-      says = sym (ap (λ (s : Sheet). get_or (told s) 0 0) e);
-      the_format = sym (ap (λ (s : Sheet). head_or (λ h. h.format) s a.format.now) e);
-      the_width = sym (ap (λ (s : Sheet). head_or (λ h. h.width) s a.width.now) e);
-      the_height = sym (ap (λ (s : Sheet). head_or (λ h. h.height) s a.height.now) e);
+      says = sym (ap (λ (s : Sheet). get_or (told s) 0 0) c.in-Holds.is);
+      the_format = sym (ap (λ (s : Sheet). head_or (λ h. h.format) s a.format.now) c.in-Holds.is);
+      the_width = sym (ap (λ (s : Sheet). head_or (λ h. h.width) s a.width.now) c.in-Holds.is);
+      the_height = sym (ap (λ (s : Sheet). head_or (λ h. h.height) s a.height.now) c.in-Holds.is);
     }
 
 pub returns-in-Refused : goal.returns-in-Refused
 returns-in-Refused c =
     let a = c.args in
-    let e = c.in-Refused.is in
     record {
       sheet = c.sheet_head-told.result;
       tells = c.sheet_head-told.ensures;
-      says = c.number.ensures ∙ sym (ap (λ (s : Sheet). get_or (told s) 0 0) e);
-      the_format = sym (ap (λ (s : Sheet). head_or (λ h. h.format) s a.format.now) e);
-      the_width = sym (ap (λ (s : Sheet). head_or (λ h. h.width) s a.width.now) e);
-      the_height = sym (ap (λ (s : Sheet). head_or (λ h. h.height) s a.height.now) e);
+      says = c.number.ensures ∙ sym (ap (λ (s : Sheet). get_or (told s) 0 0) c.in-Refused.is);
+      the_format = sym (ap (λ (s : Sheet). head_or (λ h. h.format) s a.format.now) c.in-Refused.is);
+      the_width = sym (ap (λ (s : Sheet). head_or (λ h. h.width) s a.width.now) c.in-Refused.is);
+      the_height = sym (ap (λ (s : Sheet). head_or (λ h. h.height) s a.height.now) c.in-Refused.is);
     }

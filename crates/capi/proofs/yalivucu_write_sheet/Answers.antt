@@ -23,11 +23,10 @@ returns-in_default c =
 pub returns : goal.returns
 returns c =
     let w = c.write_sheet-wrote.result in
-    let e = c.in-Done.is in
     let stood = c.args.written.now in
     record {
       written = w;
       writes = c.write_sheet-wrote.ensures;
-      says = sym (ap answer_number e);
-      the_bytes = sym (ap (λ (a : Answer). cond (accepts (said a)) w.bytes stood) e);
+      says = sym (ap answer_number c.in-Done.is);
+      the_bytes = sym (ap (λ (a : Answer). cond (accepts (said a)) w.bytes stood) c.in-Done.is);
     }

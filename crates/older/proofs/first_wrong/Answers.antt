@@ -9,10 +9,8 @@ use borrow.Author.Rules.{rules}
 use Rattle.guard.proofs.Scan.{Scanned, begin, goes_on, found, ended}
 use Rattle.rules.specs.Older.{wrong}
 use Rattle.older.specs.Compared.{clipped}
+use Rattle.older.proofs.first_wrong.Invariants.{test}
 use Rattle.older.proofs.first_wrong.Goals as goal
-
-abbrev test : List ℕ → List ℕ → ℕ → ℕ → ℕ → Bool
-test old new columns rows = wrong (clipped columns rows) (λ (i : ℕ). get_or old i 0) (λ (i : ℕ). get_or new i 0)
 
 pub loop-k-init : goal.loop-k-init
 loop-k-init c = begin _ 16

@@ -9,7 +9,7 @@ use Rattle.older.proofs.Counts.{begin, joins}
 use Rattle.older.proofs.tally.Given as goal
 
 abbrev pub invariant-loop-b : goal.invariant-loop-b
-invariant-loop-b l = (l.b ≤ l.n) × Counted (guard_of l.viewer) l.pic «data» l.b l.c
+invariant-loop-b l = (l.b ≤ l.n) × Counted (guard_of l.viewer) l.pic l.«data» l.b l.c
 
 abbrev pub decreases-loop-b : goal.decreases-loop-b
 decreases-loop-b l = l.n - l.b

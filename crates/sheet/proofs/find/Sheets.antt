@@ -27,7 +27,7 @@ module _ (d : List ℕ) (h : Head) (from n : ℕ) (p : Headed d h from n) where
   through : (then : List ℕ) → walk d then ≡ behind d from n then
   through then =
       ap (walk_verdict then) p.meets
-      ∙ head_then (head_in d) (records_of (drop from d)) then p.is-head p.fits
+      ∙ head_then (head_in d) (records_of (drop from d)) then p.is_head_lem p.fits
       ∙ ap (λ (z : ℕ). after_head z then (kept (records_of (drop from d)))) bytes
 
   begins : (s : ℕ) → Blocked d from n s → payload_at 15 (later (records_of d)) ≡ s

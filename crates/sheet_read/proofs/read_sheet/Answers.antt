@@ -9,10 +9,6 @@ use Rattle.sheet_read.proofs.Sheets.{refuses}
 use borrow.Author.Rules.{rules}
 use Rattle.sheet_read.proofs.read_sheet.Goals as goal
 
--- LEFT
--- part-read-picture-end : tie.Need-slice-bounds-read-picture-end
--- part-read-picture-end c = let t = sheet c.before in omega (arith, t.within)
-
 pub overflow_add-end : goal.overflow_add-end
 overflow_add-end c =
     let sheet : Sheeted c.args.bytes.now c.in-At.head c.in-At.start c.in-At.n = rw c.in-At.is at c.find-found.ensures in
@@ -22,6 +18,11 @@ pub format_of-requires : goal.format_of-requires
 format_of-requires c =
     let sheet : Sheeted c.args.bytes.now c.in-At.head c.in-At.start c.in-At.n = rw c.in-At.is at c.find-found.ensures in
     let t = sheet in t.shown.begins.sound.known
+
+pub slice_bounds-read_picture-end : goal.slice_bounds-read_picture-end
+slice_bounds-read_picture-end c =
+    let sheet : Sheeted c.args.bytes.now c.in-At.head c.in-At.start c.in-At.n = rw c.in-At.is at c.find-found.ensures in
+    let t = sheet in omega (arith, t.within)
 
 pub returns-in-At : goal.returns-in-At
 returns-in-At c =

@@ -11,7 +11,7 @@ use Rattle.whole.proofs.Checked.{ready}
 use Rattle.whole.proofs.paint.Given as goal
 
 abbrev pub invariant-loop-by : goal.invariant-loop-by
-invariant-loop-by l = Down (lanes l.green) l.span.signed «data» l.pic l.initial.image l.image l.by
+invariant-loop-by l = Down (lanes l.green) l.span.signed l.«data» l.pic l.initial.image l.image l.by
 
 abbrev pub decreases-loop-by : goal.decreases-loop-by
 decreases-loop-by l = l.rows - l.by

@@ -10,14 +10,6 @@ use Rattle.whole.specs.Lanes.{lanes, Ready}
 use Rattle.whole.proofs.Rows.{Turned, start, turn, ended, fits, small}
 use Rattle.whole.proofs.paint_row.Goals as goal
 
--- LEFT
--- part-paint-block-start : tie.Need-slice-bounds-paint-block-start invariant-loop decreases-loop
--- part-paint-block-start c = omega (arith, there c)
-
--- LEFT
--- part-paint-block-end : tie.Need-slice-bounds-paint-block-end invariant-loop decreases-loop
--- part-paint-block-end c = omega (arith, there c)
-
 pub overflow_mul-s : goal.overflow_mul-s
 overflow_mul-s c = omega (arith, c.lanes_of-s.ensures.2)
 
@@ -51,6 +43,20 @@ overflow_add-end c =
 
 pub slice_bounds-paint_block-count : goal.slice_bounds-paint_block-count
 slice_bounds-paint_block-count c =
+    let size : c.lanes_of-s.result * 8 ≡ lanes c.args.green * 8 = ap (λ (z : ℕ). z * 8) c.lanes_of-s.ensures.0 in
+    let there : (c.args.by * c.across-row.result + c.loop-bx.bx) * (c.lanes_of-s.result * 8) + c.lanes_of-s.result * 8 ≤ length c.args.«data».now = fits c.args.pic c.args.by c.loop-bx.bx c.across-row.result (c.lanes_of-s.result * 8) (lanes c.args.green) _
+    c.across-row.ensures size c.loop-bx-test.true c.pre.0.1 c.pre.0.0 in
+    omega (arith, there)
+
+pub slice_bounds-paint_block-start : goal.slice_bounds-paint_block-start
+slice_bounds-paint_block-start c =
+    let size : c.lanes_of-s.result * 8 ≡ lanes c.args.green * 8 = ap (λ (z : ℕ). z * 8) c.lanes_of-s.ensures.0 in
+    let there : (c.args.by * c.across-row.result + c.loop-bx.bx) * (c.lanes_of-s.result * 8) + c.lanes_of-s.result * 8 ≤ length c.args.«data».now = fits c.args.pic c.args.by c.loop-bx.bx c.across-row.result (c.lanes_of-s.result * 8) (lanes c.args.green) _
+    c.across-row.ensures size c.loop-bx-test.true c.pre.0.1 c.pre.0.0 in
+    omega (arith, there)
+
+pub slice_bounds-paint_block-end : goal.slice_bounds-paint_block-end
+slice_bounds-paint_block-end c =
     let size : c.lanes_of-s.result * 8 ≡ lanes c.args.green * 8 = ap (λ (z : ℕ). z * 8) c.lanes_of-s.ensures.0 in
     let there : (c.args.by * c.across-row.result + c.loop-bx.bx) * (c.lanes_of-s.result * 8) + c.lanes_of-s.result * 8 ≤ length c.args.«data».now = fits c.args.pic c.args.by c.loop-bx.bx c.across-row.result (c.lanes_of-s.result * 8) (lanes c.args.green) _
     c.across-row.ensures size c.loop-bx-test.true c.pre.0.1 c.pre.0.0 in

@@ -10,7 +10,7 @@ use Rattle.whole.proofs.Rows.{Turned, start, turn, ended, fits, small}
 use Rattle.whole.proofs.paint_row.Given as goal
 
 abbrev pub invariant-loop-bx : goal.invariant-loop-bx
-invariant-loop-bx l = Turned (lanes l.green) l.span.signed «data» l.pic l.by l.initial.bx l.initial.image l.image l.bx
+invariant-loop-bx l = Turned (lanes l.green) l.span.signed l.«data» l.pic l.by l.initial.bx l.initial.image l.image l.bx
 
 abbrev pub decreases-loop-bx : goal.decreases-loop-bx
 decreases-loop-bx l = l.row - l.bx

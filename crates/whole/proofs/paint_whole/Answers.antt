@@ -9,14 +9,6 @@ use Rattle.whole.specs.Lanes.{lanes, Ready}
 use Rattle.whole.proofs.Rows.{Turned, start, turn, from_first, fits, small}
 use Rattle.whole.proofs.paint_whole.Goals as goal
 
--- LEFT
--- part-whole-block-start : tie.Need-slice-bounds-whole-block-start invariant-loop decreases-loop
--- part-whole-block-start c = omega (arith, there c)
-
--- LEFT
--- part-whole-block-end : tie.Need-slice-bounds-whole-block-end invariant-loop decreases-loop
--- part-whole-block-end c = omega (arith, there c)
-
 pub whole_in-n-requires : goal.whole_in-n-requires
 whole_in-n-requires c =
     omega (arith, c.requires.green_in_bounds.1, c.requires.green_in_bounds.2)
@@ -57,6 +49,22 @@ overflow_add-end c =
 
 pub slice_bounds-whole_block-count : goal.slice_bounds-whole_block-count
 slice_bounds-whole_block-count c =
+    let size : c.lanes_of-s.result * 8 ≡ lanes c.args.green * 8 = ap (λ (z : ℕ). z * 8) c.lanes_of-s.ensures.0 in
+    let in_row : c.loop-bx.bx < c.across-row.result = omega (arith, c.loop-bx-test.true, c.whole_in-n.ensures.0, c.across-row.ensures) in
+    let there : (c.args.by * c.across-row.result + c.loop-bx.bx) * (c.lanes_of-s.result * 8) + c.lanes_of-s.result * 8 ≤ length c.args.«data».now = fits c.args.pic c.args.by c.loop-bx.bx c.across-row.result (c.lanes_of-s.result * 8) (lanes c.args.green) _
+    c.across-row.ensures size in_row c.pre.0.1 c.pre.0.0 in
+    omega (arith, there)
+
+pub slice_bounds-whole_block-start : goal.slice_bounds-whole_block-start
+slice_bounds-whole_block-start c =
+    let size : c.lanes_of-s.result * 8 ≡ lanes c.args.green * 8 = ap (λ (z : ℕ). z * 8) c.lanes_of-s.ensures.0 in
+    let in_row : c.loop-bx.bx < c.across-row.result = omega (arith, c.loop-bx-test.true, c.whole_in-n.ensures.0, c.across-row.ensures) in
+    let there : (c.args.by * c.across-row.result + c.loop-bx.bx) * (c.lanes_of-s.result * 8) + c.lanes_of-s.result * 8 ≤ length c.args.«data».now = fits c.args.pic c.args.by c.loop-bx.bx c.across-row.result (c.lanes_of-s.result * 8) (lanes c.args.green) _
+    c.across-row.ensures size in_row c.pre.0.1 c.pre.0.0 in
+    omega (arith, there)
+
+pub slice_bounds-whole_block-end : goal.slice_bounds-whole_block-end
+slice_bounds-whole_block-end c =
     let size : c.lanes_of-s.result * 8 ≡ lanes c.args.green * 8 = ap (λ (z : ℕ). z * 8) c.lanes_of-s.ensures.0 in
     let in_row : c.loop-bx.bx < c.across-row.result = omega (arith, c.loop-bx-test.true, c.whole_in-n.ensures.0, c.across-row.ensures) in
     let there : (c.args.by * c.across-row.result + c.loop-bx.bx) * (c.lanes_of-s.result * 8) + c.lanes_of-s.result * 8 ≤ length c.args.«data».now = fits c.args.pic c.args.by c.loop-bx.bx c.across-row.result (c.lanes_of-s.result * 8) (lanes c.args.green) _

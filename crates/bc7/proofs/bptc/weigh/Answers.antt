@@ -9,10 +9,8 @@ use lib.ListN.{get_or, replicate}
 use Rattle.rules.specs.Bptc.{weights_of}
 use Rattle.laws.proofs.Filled.{get_or_build}
 use Rattle.laws.proofs.Filling.{Filling, in_order_lem, begun, stored_next, filled_all}
+use Rattle.bc7.proofs.bptc.weigh.Invariants.{weight_by}
 use Rattle.bc7.proofs.bptc.weigh.Goals as goal
-
-abbrev weight_by : ℕ → List ℕ → ℕ → ℕ
-weight_by n indices i = get_or (weights_of n) (get_or indices i 0) 0
 
 pub weights-t-requires : goal.weights-t-requires
 weights-t-requires c = c.requires.le_n

@@ -10,6 +10,9 @@ use Rattle.laws.proofs.Filled.{get_or_build}
 use Rattle.laws.proofs.Filling.{Filling, in_order_lem, begun, stored_next, filled_all}
 use Rattle.bc7.proofs.bptc.weigh.Given as goal
 
+abbrev pub weight_by : ℕ → List ℕ → ℕ → ℕ
+weight_by n indices i = get_or (weights_of n) (get_or indices i 0) 0
+
 abbrev pub invariant-loop-i : goal.invariant-loop-i
 invariant-loop-i l = Filling in_order_lem (weight_by l.n l.indices) 0 16 l.i l.out
 

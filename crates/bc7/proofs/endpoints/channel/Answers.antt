@@ -9,10 +9,8 @@ use lib.Dec.{eqb}
 use lib.ListN.{get_or}
 use Rattle.rules.specs.Bc7.{expand}
 use Rattle.bc7.proofs.endpoints.Steps.{Made, make}
+use Rattle.bc7.proofs.endpoints.channel.Invariants.{end_of}
 use Rattle.bc7.proofs.endpoints.channel.Goals as goal
-
-abbrev end_of : List ℕ → List ℕ → ℕ → ℕ → ℕ → ℕ → ℕ → ℕ
-end_of values ps at w shared pb e = expand (w + pb) (get_or values (at + e) 0 * 2 ^ pb + get_or ps (cond (eqb shared 0) e (e / 2)) 0)
 
 pub loop-e-init : goal.loop-e-init
 loop-e-init c = record { turns = omega arith; size = refl; passed = λ k h. absurd (omega arith) }

@@ -14,7 +14,7 @@ use Rattle.census.proofs.tally.Grown.{one_more, within}
 use Rattle.census.proofs.tally.tally.Given as goal
 
 abbrev pub invariant-loop-b : goal.invariant-loop-b
-invariant-loop-b l = (l.b ≤ l.n) × (l.tally ≡ before l.split «data» l.b)
+invariant-loop-b l = (l.b ≤ l.n) × (l.tally ≡ before l.split l.«data» l.b)
 
 abbrev pub decreases-loop-b : goal.decreases-loop-b
 decreases-loop-b l = l.n - l.b

@@ -14,11 +14,8 @@ use Rattle.laws.proofs.Paint.{said}
 use Rattle.laws.proofs.Signed.{held}
 use Rattle.pixel.proofs.fill.Part.{Begun, begin, go_on}
 use Rattle.etc_alpha.proofs.channel.Moves.{small_alpha, small_byte, alpha_held}
+use Rattle.etc_alpha.proofs.channel.a8_over.Invariants.{rule}
 use Rattle.etc_alpha.proofs.channel.a8_over.Goals as goal
-
--- what element k is to be
-abbrev rule : List ℕ → List ℕ → ℕ → ℕ
-rule d image k = with_alpha (get_or image k 0) (alpha_byte d (k % 4) (k / 4))
 
 pub bounds-d-0 : goal.bounds-d-0
 bounds-d-0 c = omega arith

@@ -15,6 +15,10 @@ use Rattle.pixel.proofs.fill.Part.{Begun, begin, go_on}
 use Rattle.etc_alpha.proofs.channel.Moves.{small_alpha, small_byte, alpha_held}
 use Rattle.etc_alpha.proofs.channel.a8_over.Given as goal
 
+-- what element k is to be
+abbrev pub rule : List ℕ → List ℕ → ℕ → ℕ
+rule d image k = with_alpha (get_or image k 0) (alpha_byte d (k % 4) (k / 4))
+
 abbrev pub invariant-loop-i : goal.invariant-loop-i
 invariant-loop-i l = (l.i ≤ 16) × Begun (rule l.d l.initial.image) l.initial.image l.image l.i
 

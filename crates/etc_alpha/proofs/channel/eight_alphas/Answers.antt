@@ -14,11 +14,8 @@ use Rattle.laws.proofs.Filling.{Filling, in_order_lem, begun, stored_next, fille
 use Rattle.laws.proofs.Signed.{held, held_small, cast_pos}
 use Rattle.tables.specs.products.Products.{products_of_lem}
 use Rattle.etc_alpha.proofs.channel.Moves.{small_product}
+use Rattle.etc_alpha.proofs.channel.eight_alphas.Invariants.{product_at}
 use Rattle.etc_alpha.proofs.channel.eight_alphas.Goals as goal
-
--- the product at place j of a row
-abbrev product_at : ℕ → ℕ → ℤ
-product_at b j = get_or (products_of_lem (bits 7 4 b) (bits 3 0 b)) j (pos 0)
 
 -- the product of a turn, as the machine holds it
 small : (b j : ℕ) → mag (product_at b j) < 256

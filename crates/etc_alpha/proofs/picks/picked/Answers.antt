@@ -15,11 +15,8 @@ use Rattle.laws.proofs.Order.{shifted, place, place_only}
 use Rattle.laws.proofs.Signed.{held_small}
 use Rattle.etc_alpha.specs.picks.Picks.{pick_at}
 use Rattle.etc_alpha.proofs.picks.Indices.{reads}
+use Rattle.etc_alpha.proofs.picks.picked.Invariants.{backwards}
 use Rattle.etc_alpha.proofs.picks.picked.Goals as goal
-
--- the turn of place k
-abbrev backwards : ℕ → ℕ
-backwards k = 15 - place k
 
 pub loop-i-init : goal.loop-i-init
 loop-i-init c = (omega arith, begun backwards _ (pos 0) 16 _ refl)

@@ -10,20 +10,18 @@ use Rattle.file.proofs.lent.file_level.Goals as goal
 
 pub returns-in-Level : goal.returns-in-Level
 returns-in-Level c = let a = c.args in
-    let e = c.in-Level.is in
     record {
       answer = c.file_level-told.result;
       finds = c.file_level-told.ensures;
-      says = sym (ap (λ (s : FoundLevel). get_or (found_said s) 0 0) e);
-      writes = sym (ap (λ (s : FoundLevel). level_or s a.out.now) e);
+      says = sym (ap (λ (s : FoundLevel). get_or (found_said s) 0 0) c.in-Level.is);
+      writes = sym (ap (λ (s : FoundLevel). level_or s a.out.now) c.in-Level.is);
     }
 
 pub returns-in-Refused : goal.returns-in-Refused
 returns-in-Refused c = let a = c.args in
-    let e = c.in-Refused.is in
     record {
       answer = c.file_level-told.result;
       finds = c.file_level-told.ensures;
-      says = c.number.ensures ∙ sym (ap (λ (s : FoundLevel). get_or (found_said s) 0 0) e);
-      writes = sym (ap (λ (s : FoundLevel). level_or s a.out.now) e);
+      says = c.number.ensures ∙ sym (ap (λ (s : FoundLevel). get_or (found_said s) 0 0) c.in-Refused.is);
+      writes = sym (ap (λ (s : FoundLevel). level_or s a.out.now) c.in-Refused.is);
     }

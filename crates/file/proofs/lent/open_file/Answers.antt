@@ -10,20 +10,18 @@ use Rattle.file.proofs.lent.open_file.Goals as goal
 
 pub returns-in-File : goal.returns-in-File
 returns-in-File c = let a = c.args in
-    let e = c.in-File.is in
     record {
       answer = c.open_file-told.result;
       opens = c.open_file-told.ensures;
-      says = sym (ap (λ (s : Opened). get_or (opened_said s) 0 0) e);
-      writes = sym (ap (λ (s : Opened). file_or s a.out.now) e);
+      says = sym (ap (λ (s : Opened). get_or (opened_said s) 0 0) c.in-File.is);
+      writes = sym (ap (λ (s : Opened). file_or s a.out.now) c.in-File.is);
     }
 
 pub returns-in-Refused : goal.returns-in-Refused
 returns-in-Refused c = let a = c.args in
-    let e = c.in-Refused.is in
     record {
       answer = c.open_file-told.result;
       opens = c.open_file-told.ensures;
-      says = c.number.ensures ∙ sym (ap (λ (s : Opened). get_or (opened_said s) 0 0) e);
-      writes = sym (ap (λ (s : Opened). file_or s a.out.now) e);
+      says = c.number.ensures ∙ sym (ap (λ (s : Opened). get_or (opened_said s) 0 0) c.in-Refused.is);
+      writes = sym (ap (λ (s : Opened). file_or s a.out.now) c.in-Refused.is);
     }

@@ -17,10 +17,6 @@ use Rattle.blocks.proofs.Beside.{go_on, left_over}
 use borrow.Author.Rules.{rules}
 use Rattle.picture.proofs.paint.paint.Goals as goal
 
--- LEFT
--- part-paint-some-start : tie.Need-slice-bounds-paint-some-start invariant-loop decreases-loop
--- part-paint-some-start c = omega (arith, before c, (left c).0)
-
 pub returns-then-row-eq0 : goal.returns-then-row-eq0
 returns-then-row-eq0 c =
     let a = c.args in
@@ -48,6 +44,17 @@ overflow_mul-from c =
 
 pub slice_bounds-paint_some-count : goal.slice_bounds-paint_some-count
 slice_bounds-paint_some-count c =
+    let before : (c.loop-b.b - c.args.first) * c.size-s.result ≡ (c.loop-b.b - c.args.first) * size_of c.args.f = ap (λ (z : ℕ). (c.loop-b.b - c.args.first) * z) c.size-s.ensures.0 in
+    let at : Stands (across c.args.pic.width) c.loop-b.b c.loop-b.spot.bx c.loop-b.spot.by = rw c.across-row.ensures at.loop-b.invariant.2 in
+    let left : ((c.loop-b.b - c.args.first) * size_of c.args.f ≤ length c.args.«data».now) × ((c.args.last - c.loop-b.b) * size_of c.args.f ≤ length c.args.«data».now - (c.loop-b.b - c.args.first) * size_of c.args.f) = let a = c.args in
+    let b = c.loop-b.b in
+    let both : b - a.first + (a.last - b) ≡ a.last - a.first = omega (arith, c.loop-b.invariant.0, c.loop-b-test.true) in
+    let all = rw (sym both) at.pre.1.1 in
+    (omega (arith, add-mul (b - a.first) (a.last - b) (size_of a.f), all), left_over (size_of a.f) (b - a.first) (a.last - b) (length a.«data».now) all) in
+    omega (arith, before, left.0)
+
+pub slice_bounds-paint_some-start : goal.slice_bounds-paint_some-start
+slice_bounds-paint_some-start c =
     let before : (c.loop-b.b - c.args.first) * c.size-s.result ≡ (c.loop-b.b - c.args.first) * size_of c.args.f = ap (λ (z : ℕ). (c.loop-b.b - c.args.first) * z) c.size-s.ensures.0 in
     let at : Stands (across c.args.pic.width) c.loop-b.b c.loop-b.spot.bx c.loop-b.spot.by = rw c.across-row.ensures at.loop-b.invariant.2 in
     let left : ((c.loop-b.b - c.args.first) * size_of c.args.f ≤ length c.args.«data».now) × ((c.args.last - c.loop-b.b) * size_of c.args.f ≤ length c.args.«data».now - (c.loop-b.b - c.args.first) * size_of c.args.f) = let a = c.args in

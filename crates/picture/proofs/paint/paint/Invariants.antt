@@ -21,7 +21,7 @@ invariant-loop-b l =
     (l.first ≤ l.b)
     × (l.b ≤ l.last)
     × Stands l.row l.b l.spot.bx l.spot.by
-    × Painted (InRun l.pic l.first l.b) (pixel_by (shows_of l.f) (bytes_from (size_of l.f) l.first «data») l.pic) l.initial.image l.image
+    × Painted (InRun l.pic l.first l.b) (pixel_by (shows_of l.f) (bytes_from (size_of l.f) l.first l.«data») l.pic) l.initial.image l.image
 
 abbrev pub decreases-loop-b : goal.decreases-loop-b
 decreases-loop-b l = l.last - l.b

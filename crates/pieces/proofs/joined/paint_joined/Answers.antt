@@ -17,10 +17,6 @@ use Rattle.pieces.proofs.kept.Numbers.{peel, one_block}
 use borrow.Author.Rules.{rules}
 use Rattle.pieces.proofs.joined.paint_joined.Goals as goal
 
--- LEFT
--- part-paint-start : tie.Need-slice-bounds-paint-start
--- part-paint-start c = sub-paint c
-
 pub returns-then-held-eq0 : goal.returns-then-held-eq0
 returns-then-held-eq0 c = rw c.if-held-eq0.true c.paint.ensures
 
@@ -34,6 +30,9 @@ slice_bounds-paint-count c =
     let some : c.args.first < c.args.last = omega (arith, c.if-first-last.false, c.requires.width_le_limit.2) in
     let parted : (c.args.last - (c.args.first + 1)) * size_of c.args.f + size_of c.args.f ≤ c.args.held + length c.args.bytes.now = omega (arith, peel c.args.first c.args.last (size_of c.args.f) some, c.pre.1.1) in
     omega (arith, parted, c.size.ensures.0)
+
+pub slice_bounds-paint-start : goal.slice_bounds-paint-start
+slice_bounds-paint-start c = sub-paint c
 
 pub paint-requires-3 : goal.paint-requires-3
 paint-requires-3 c =

@@ -8,10 +8,6 @@ use Rattle.pixel.proofs.place.Tile.{enough, pieced}
 use borrow.Author.Rules.{rules, scaled_Fits}
 use Rattle.pixel.proofs.lanes.place_row.Goals as goal
 
--- LEFT
--- part-fill-end : tie.Need-slice-bounds-fill-end
--- part-fill-end c = omega (arith, there c.before.before)
-
 pub overflow_mul-at : goal.overflow_mul-at
 overflow_mul-at c =
     let there : element c.args.pic (c.args.bx * 4) c.args.y + c.args.n ≤ length c.args.image.now = enough c.args.pic c.args.bx c.args.y c.args.n c.requires.2 c.requires.3 c.requires.1 _ c.requires.4 in
@@ -31,6 +27,11 @@ pub offset_bounds-image-at : goal.offset_bounds-image-at
 offset_bounds-image-at c =
     let there : element c.args.pic (c.args.bx * 4) c.args.y + c.args.n ≤ length c.args.image.now = enough c.args.pic c.args.bx c.args.y c.args.n c.requires.2 c.requires.3 c.requires.1 _ c.requires.4 in
     scaled_Fits _ _ _ (omega (arith, there, c.requires.2, c.requires.3)) c.well_formed.1.1.1.1.1.1.0.1
+
+pub slice_bounds-fill-end : goal.slice_bounds-fill-end
+slice_bounds-fill-end c =
+    let there : element c.args.pic (c.args.bx * 4) c.args.y + c.args.n ≤ length c.args.image.now = enough c.args.pic c.args.bx c.args.y c.args.n c.requires.2 c.requires.3 c.requires.1 _ c.requires.4 in
+    omega (arith, there)
 
 pub returns : goal.returns
 returns c =

@@ -10,12 +10,12 @@ use Rattle.sheet.proofs.later.after_blocks.Goals as goal
 
 pub returns-then-kind-eq2 : goal.returns-then-kind-eq2
 returns-then-kind-eq2 c =
-    let turn : let a = c.args in let g = c.met-1.given.0 in Turn kept a.d.now a.at g.0 g.1.0 g.1.1.0 = turn_of kept _ _ c.next-met.result c.in-Whole.is c.next-met.ensures in
+    let turn : let a = c.args in Turn kept a.d.now a.at c.in-Whole.kind c.in-Whole.field-1 c.in-Whole.field-2 = turn_of kept _ _ c.next-met.result c.in-Whole.is c.next-met.ensures in
     second _ _ _ _ _ turn c.if-kind-eq2.true
 
 pub returns-else-kind-eq2 : goal.returns-else-kind-eq2
 returns-else-kind-eq2 c =
-    let turn : let a = c.args in let g = c.met-1.given.0 in Turn kept a.d.now a.at g.0 g.1.0 g.1.1.0 = turn_of kept _ _ c.next-met.result c.in-Whole.is c.next-met.ensures in
+    let turn : let a = c.args in Turn kept a.d.now a.at c.in-Whole.kind c.in-Whole.field-1 c.in-Whole.field-2 = turn_of kept _ _ c.next-met.result c.in-Whole.is c.next-met.ensures in
     other_behind _ _ _ _ _ turn c.if-kind-eq2.false
 
 pub returns-in-End : goal.returns-in-End

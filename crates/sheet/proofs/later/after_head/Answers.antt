@@ -12,35 +12,35 @@ use Rattle.sheet.proofs.later.after_head.Goals as goal
 
 pub returns-then-kind-ne2 : goal.returns-then-kind-ne2
 returns-then-kind-ne2 c =
-    let turn : let a = c.args in let g = c.met-1.given.0 in Turn kept a.d.now a.at g.0 g.1.0 g.1.1.0 = turn_of kept _ _ c.next-met.result c.in-Whole.is c.next-met.ensures in
+    let turn : let a = c.args in Turn kept a.d.now a.at c.in-Whole.kind c.in-Whole.start c.in-Whole.len = turn_of kept _ _ c.next-met.result c.in-Whole.is c.next-met.ensures in
     other _ _ _ _ _ _ turn c.if-kind-ne2.true
 
 pub returns-then-len-n : goal.returns-then-len-n
 returns-then-len-n c =
-    let turn : let a = c.args in let g = c.met-1.given.0 in Turn kept a.d.now a.at g.0 g.1.0 g.1.1.0 = turn_of kept _ _ c.next-met.result c.in-Whole.is c.next-met.ensures in
+    let turn : let a = c.args in Turn kept a.d.now a.at c.in-Whole.kind c.in-Whole.start c.in-Whole.len = turn_of kept _ _ c.next-met.result c.in-Whole.is c.next-met.ensures in
     let a = c.args in
     wrong_length a.d.now a.at a.n _ _ _ turn c.if-kind-ne2.false (λ z. omega (arith, c.if-len-n.true, z))
 
 pub overflow_add-start : goal.overflow_add-start
 overflow_add-start c =
-    let turn : let a = c.args in let g = c.met-1.given.0 in Turn kept a.d.now a.at g.0 g.1.0 g.1.1.0 = turn_of kept _ _ c.next-met.result c.in-Whole.is c.next-met.ensures in
+    let turn : let a = c.args in Turn kept a.d.now a.at c.in-Whole.kind c.in-Whole.start c.in-Whole.len = turn_of kept _ _ c.next-met.result c.in-Whole.is c.next-met.ensures in
     let t = turn in omega (arith, t.within)
 
 pub after_blocks-answer-requires : goal.after_blocks-answer-requires
 after_blocks-answer-requires c =
-    let turn : let a = c.args in let g = c.met-1.given.0 in Turn kept a.d.now a.at g.0 g.1.0 g.1.1.0 = turn_of kept _ _ c.next-met.result c.in-Whole.is c.next-met.ensures in
+    let turn : let a = c.args in Turn kept a.d.now a.at c.in-Whole.kind c.in-Whole.start c.in-Whole.len = turn_of kept _ _ c.next-met.result c.in-Whole.is c.next-met.ensures in
     let t = turn in omega (arith, t.within)
 
 pub returns-in_default : goal.returns-in_default
 returns-in_default c =
-    let turn : let a = c.args in let g = c.met-1.given.0 in Turn kept a.d.now a.at g.0 g.1.0 g.1.1.0 = turn_of kept _ _ c.next-met.result c.in-Whole.is c.next-met.ensures in
+    let turn : let a = c.args in Turn kept a.d.now a.at c.in-Whole.kind c.in-Whole.start c.in-Whole.len = turn_of kept _ _ c.next-met.result c.in-Whole.is c.next-met.ensures in
     let a = c.args in
     later_refused a.d.now a.at a.n _ _ _ turn c.if-kind-ne2.false (omega (arith, c.if-len-n.false))
     c.after_blocks-answer.result c.after_blocks-answer.ensures (refusal c.after_blocks-answer.result c.in_default.in_default-own.keys2)
 
 pub returns-in-Done : goal.returns-in-Done
 returns-in-Done c =
-    let turn : let a = c.args in let g = c.met-1.given.0 in Turn kept a.d.now a.at g.0 g.1.0 g.1.1.0 = turn_of kept _ _ c.next-met.result c.in-Whole.is c.next-met.ensures in
+    let turn : let a = c.args in Turn kept a.d.now a.at c.in-Whole.kind c.in-Whole.start c.in-Whole.len = turn_of kept _ _ c.next-met.result c.in-Whole.is c.next-met.ensures in
     let a = c.args in
     blocked a.d.now a.at a.n _ _ _ turn c.if-kind-ne2.false (omega (arith, c.if-len-n.false))
     (rw c.in-Done.is at c.after_blocks-answer.ensures)

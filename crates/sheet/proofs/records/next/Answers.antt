@@ -22,7 +22,7 @@ returns-in_default c =
 
 pub returns-then-kind-lt32768 : goal.returns-then-kind-lt32768
 returns-then-kind-lt32768 c =
-    let turn : let g = c.met-1.given.0 in Turn all c.args.d.now c.loop-at.at g.0 g.1.0 g.1.1.0 = turn_of all _ _ c.record_at-met.result c.in-Whole.is c.record_at-met.ensures in
+    let turn : Turn all c.args.d.now c.loop-at.at c.in-Whole.kind c.in-Whole.start c.in-Whole.len = turn_of all _ _ c.record_at-met.result c.in-Whole.is c.record_at-met.ensures in
     let a = c.args in
     sooner a.d.now a.from c.loop-at.at
     (Whole c.in-Whole.kind c.in-Whole.start c.in-Whole.len) c.loop-at.invariant.1 c.loop-at.invariant.2 c.loop-at.invariant.3
@@ -30,17 +30,17 @@ returns-then-kind-lt32768 c =
 
 pub overflow_add-at : goal.overflow_add-at
 overflow_add-at c =
-    let turn : let g = c.met-1.given.0 in Turn all c.args.d.now c.loop-at.at g.0 g.1.0 g.1.1.0 = turn_of all _ _ c.record_at-met.result c.in-Whole.is c.record_at-met.ensures in
+    let turn : Turn all c.args.d.now c.loop-at.at c.in-Whole.kind c.in-Whole.start c.in-Whole.len = turn_of all _ _ c.record_at-met.result c.in-Whole.is c.record_at-met.ensures in
     let t = turn in omega (arith, t.within)
 
 pub loop-at-smaller : goal.loop-at-smaller
 loop-at-smaller c =
-    let turn : let g = c.met-1.given.0 in Turn all c.args.d.now c.loop-at.at g.0 g.1.0 g.1.1.0 = turn_of all _ _ c.record_at-met.result c.in-Whole.is c.record_at-met.ensures in
+    let turn : Turn all c.args.d.now c.loop-at.at c.in-Whole.kind c.in-Whole.start c.in-Whole.len = turn_of all _ _ c.record_at-met.result c.in-Whole.is c.record_at-met.ensures in
     let t = turn in omega (arith, t.within, t.beyond)
 
 pub loop-at-preserved : goal.loop-at-preserved
 loop-at-preserved c =
-    let turn : let g = c.met-1.given.0 in Turn all c.args.d.now c.loop-at.at g.0 g.1.0 g.1.1.0 = turn_of all _ _ c.record_at-met.result c.in-Whole.is c.record_at-met.ensures in
+    let turn : Turn all c.args.d.now c.loop-at.at c.in-Whole.kind c.in-Whole.start c.in-Whole.len = turn_of all _ _ c.record_at-met.result c.in-Whole.is c.record_at-met.ensures in
     let a = c.args in
     let t = turn in (
       t.within,
