@@ -1,5 +1,6 @@
 -- It refuses where a check fails, and else joins the alpha half to what stood there.
 -- Assumes nothing.
+use borrow.Enum.Refused.{opened}
 use Prim.Native.Nat.{◌/◌, ◌%◌}
 use lib.Dec.{ltb, ltb→lt, lt→ltb}
 use lib.ListN.{length, get_or}
@@ -13,7 +14,7 @@ use Rattle.block_readers.proofs.read_alpha.Goals as goal
 
 pub returns-in_default : goal.returns-in_default
 returns-in_default c =
-    unchanged _ _ c.args.image.now c.verify-answer.result c.verify-answer.ensures (refusal c.verify-answer.result c.in_default.in_default-own.keys2)
+    unchanged _ _ c.args.image.now c.verify-answer.result c.verify-answer.ensures (refusal c.verify-answer.result (opened c.in_default.in_default-own.keys2))
 
 pub a8_over-requires : goal.a8_over-requires
 a8_over-requires c =

@@ -1,5 +1,6 @@
 -- It refuses where a check fails, and else writes the sixteen pixels.
 -- Assumes nothing.
+use borrow.Enum.Refused.{opened}
 use mathlib.Core.Path.{◌∙◌}
 use Prim.Native.Nat.{◌/◌, ◌%◌}
 use lib.ListN.{length}
@@ -14,7 +15,7 @@ use Rattle.block_readers.proofs.read_block.Goals as goal
 
 pub returns-in_default : goal.returns-in_default
 returns-in_default c =
-    unchanged _ _ c.args.image.now c.verify-answer.result (rw c.size.ensures.0 at c.verify-answer.ensures) (refusal c.verify-answer.result c.in_default.in_default-own.keys2)
+    unchanged _ _ c.args.image.now c.verify-answer.result (rw c.size.ensures.0 at c.verify-answer.ensures) (refusal c.verify-answer.result (opened c.in_default.in_default-own.keys2))
 
 pub block_at-requires : goal.block_at-requires
 block_at-requires c =

@@ -1,5 +1,6 @@
 -- The channel is checked first; then it is as the alpha half is.
 -- Assumes nothing.
+use borrow.Enum.Refused.{opened}
 use mathlib.Core.Path.{◌≡◌, ◌∙◌, ap}
 use Prim.Native.Nat.{◌/◌, ◌%◌}
 use lib.ListN.{length, get_or}
@@ -26,7 +27,7 @@ returns-then-channel-gt3 c =
 pub returns-in_default : goal.returns-in_default
 returns-in_default c =
     let four : block_verdict 8 c.args.«data».now c.args.image.now ≡ channel_verdict c.args.channel c.args.«data».now c.args.image.now = channel_checked c.args.channel (length c.args.«data».now) (length c.args.image.now) c.if-channel-gt3.false in
-    unchanged _ _ c.args.image.now c.verify-answer.result (c.verify-answer.ensures ∙ four) (refusal c.verify-answer.result c.in_default.in_default-own.keys2)
+    unchanged _ _ c.args.image.now c.verify-answer.result (c.verify-answer.ensures ∙ four) (refusal c.verify-answer.result (opened c.in_default.in_default-own.keys2))
 
 pub first_sixteen-stood-requires : goal.first_sixteen-stood-requires
 first_sixteen-stood-requires c =

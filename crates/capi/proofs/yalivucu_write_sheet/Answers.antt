@@ -1,5 +1,6 @@
 -- `capi::yalivucu_write_sheet` meets its contract: the number of bytes is written where the sheet is, and a refusal leaves it.
 -- Assumes nothing.
+use borrow.Enum.Refused.{opened}
 use mathlib.Core.Path.{sym, ap}
 use mathlib.Core.Bool.{Bool, cond}
 use Rattle.rules.specs.Answers.{said, accepts}
@@ -17,7 +18,7 @@ returns-in_default c =
       written = w;
       writes = c.write_sheet-wrote.ensures;
       says = c.number.ensures;
-      the_bytes = sym (ap (λ (t : Bool). cond t w.bytes stood) (refusal w.answer c.in_default.in_default-own.keys2));
+      the_bytes = sym (ap (λ (t : Bool). cond t w.bytes stood) (refusal w.answer (opened c.in_default.in_default-own.keys2)));
     }
 
 pub returns : goal.returns

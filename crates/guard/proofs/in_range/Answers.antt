@@ -1,5 +1,6 @@
 -- `guard::in_range` meets its contract: a kind that ETC1 knows goes on.
 -- Assumes nothing.
+use borrow.Enum.Refused.{opened}
 use mathlib.Core.Path.{◌≡◌, refl}
 use mathlib.Core.Bool.{true, false}
 use mathlib.Core.List.{[], ◌∷◌}
@@ -26,7 +27,7 @@ wild H t = refl
 wild Planar t = refl
 
 pub returns-in_default : goal.returns-in_default
-returns-in_default c = rw (wild c.args.kind c.in_default.in_default-own.keys2)
+returns-in_default c = rw (wild c.args.kind (opened c.in_default.in_default-own.keys2))
 
 pub returns : goal.returns
 returns c = rw (tame c.args.kind c.in-Individual.in-Individual-own.keys1)

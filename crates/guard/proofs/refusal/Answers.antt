@@ -1,5 +1,6 @@
 -- `guard::refusal` meets its contract: a block goes by only where the viewer may show it, and the first that does not is refused.
 -- Assumes nothing.
+use borrow.Enum.Refused.{opened}
 use mathlib.Core.Path.{ap}
 use Prim.Native.Nat.{◌-◌}
 use native.Mathlib.Omega.{arith}
@@ -22,7 +23,7 @@ pub returns-in_default : goal.returns-in_default
 returns-in_default c =
     let a = c.args in
     stops a.viewer a.«data».now a.from a.n c.loop-b.b c.judged-answer.result c.loop-b.invariant c.loop-b-test.true c.judged-answer.ensures
-    (refusal c.judged-answer.result c.in_default.in_default-own.keys2)
+    (refusal c.judged-answer.result (opened c.in_default.in_default-own.keys2))
 
 pub loop-b-preserved : goal.loop-b-preserved
 loop-b-preserved c =

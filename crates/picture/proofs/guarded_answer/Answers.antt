@@ -1,5 +1,6 @@
 -- `picture::guarded_answer` meets its contract: the first check that fails is the answer, and where all pass the scan has it.
 -- Assumes nothing.
+use borrow.Enum.Refused.{opened}
 use mathlib.Core.Path.{◌∙◌, sym, ap}
 use mathlib.Core.Bool.{Bool}
 use mathlib.Core.List.{List, [], ◌∷◌}
@@ -25,7 +26,7 @@ returns-in_default c =
     let checks : List Check = checks_for c.args.viewer c.args.pic (length c.args.d.now) c.args.elements in
     let guard : Guard = guard_of c.args.viewer in
     let then : List ℕ = guarded guard.number (bad_at guard c.args.d.now) (blocks c.args.pic) in
-    stops checks then c.verify-answer.result c.verify-answer.ensures (refusal c.verify-answer.result c.in_default.in_default-own.keys2)
+    stops checks then c.verify-answer.result c.verify-answer.ensures (refusal c.verify-answer.result (opened c.in_default.in_default-own.keys2))
 
 pub blocks_of-requires : goal.blocks_of-requires
 blocks_of-requires c =

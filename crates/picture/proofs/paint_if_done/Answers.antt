@@ -1,5 +1,6 @@
 -- `picture::paint_if_done` meets its contract: a refusal is handed on and changes nothing, and an acceptance paints.
 -- Assumes nothing.
+use borrow.Enum.Refused.{opened}
 use mathlib.Core.Path.{refl, sym, ap}
 use Rattle.rules.specs.Answers.{said, accepts}
 use Rattle.rules.specs.Readers.{picture_of}
@@ -13,7 +14,7 @@ pub returns-in_default : goal.returns-in_default
 returns-in_default c =
     let a = c.args in
     let l = a.image.now in
-    unchanged (said a.answer) (picture_of a.f a.pic a.«data».now l) l a.answer refl (refusal a.answer c.in_default.in_default-own.keys2)
+    unchanged (said a.answer) (picture_of a.f a.pic a.«data».now l) l a.answer refl (refusal a.answer (opened c.in_default.in_default-own.keys2))
 
 pub paint_all-requires : goal.paint_all-requires
 paint_all-requires c =

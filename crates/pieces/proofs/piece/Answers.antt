@@ -1,5 +1,6 @@
 -- `pieces::piece` meets its contract: it refuses where a check fails, and else takes the piece.
 -- Assumes nothing.
+use borrow.Enum.Refused.{opened}
 use mathlib.Core.Path.{◌≡◌, ◌∙◌, sym, ap}
 use mathlib.Core.List.{[], ◌∷◌}
 use lib.ListN.{length}
@@ -18,7 +19,7 @@ use Rattle.pieces.proofs.piece.Goals as goal
 pub returns-in_default : goal.returns-in_default
 returns-in_default c =
     let a = c.args in
-    refused a.p a.bytes.now a.image.now c.check-answer.result c.check-answer.ensures (refusal c.check-answer.result c.in_default.in_default-own.keys2)
+    refused a.p a.bytes.now a.image.now c.check-answer.result c.check-answer.ensures (refusal c.check-answer.result (opened c.in_default.in_default-own.keys2))
 
 pub take_piece-requires : goal.take_piece-requires
 take_piece-requires c =

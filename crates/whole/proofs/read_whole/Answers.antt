@@ -1,5 +1,6 @@
 -- `eleven::read` meets its contract: the checks, and then the picture where they pass.
 -- Assumes nothing.
+use borrow.Enum.Refused.{opened}
 use mathlib.Core.Path.{◌≡◌, ◌∙◌, sym, ap}
 use mathlib.Core.List.{[], ◌∷◌}
 use Prim.Native.Nat.{◌*◌, ◌/◌}
@@ -23,7 +24,7 @@ returns-in_default c =
     let a = c.args in
     let l = a.image.now in
     unchanged (whole_verdict (lanes a.green) a.pic a.«data».now l) (whole_picture a.signed (lanes a.green) a.pic a.«data».now l) l
-    c.verify-answer.result told (refusal c.verify-answer.result c.in_default.in_default-own.keys2)
+    c.verify-answer.result told (refusal c.verify-answer.result (opened c.in_default.in_default-own.keys2))
 
 pub paint-requires : goal.paint-requires
 paint-requires c =

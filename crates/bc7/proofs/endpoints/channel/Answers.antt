@@ -29,7 +29,7 @@ bounds-ps-j c = omega (arith, c.shared_or_own-j.ensures.1)
 
 pub endpoint-requires : goal.endpoint-requires
 endpoint-requires c =
-    (c.requires.count_bound.2, c.requires.count_bound.3, c.requires.by_index.0 (c.args.at + c.loop-e.e), c.requires.by_index.1 c.shared_or_own-j.result)
+    (c.requires.count_bound.2, c.requires.count_bound.3, c.requires.by_index (c.args.at + c.loop-e.e), c.requires.by_index_2 c.shared_or_own-j.result)
 
 pub bounds-out-e : goal.bounds-out-e
 bounds-out-e c = omega (arith, c.loop-e.invariant.size)

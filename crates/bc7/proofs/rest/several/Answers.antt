@@ -34,10 +34,8 @@ loop-i-preserved c =
 pub returns : goal.returns
 returns c =
     let l = c.loop-i in
-    let e : l.i ≡ c.args.count = omega arith in (
-      λ k h. l.invariant.passed k (omega arith),
-      (
-        λ k h. l.invariant.others k (omega arith),
-        l.invariant.false ∙ ap (λ (m : ℕ). whole c.args.r / 2 ^ (m * c.args.b)) e,
-      ),
-    )
+    let e : l.i ≡ c.args.count = omega arith in record {
+      by_index = λ k h. l.invariant.passed k (omega arith);
+      by_index_2 = λ k h. l.invariant.others k (omega arith);
+      rest_value = l.invariant.left ∙ ap (λ (m : ℕ). whole c.args.r / 2 ^ (m * c.args.b)) e;
+    }

@@ -12,14 +12,12 @@ use Rattle.laws.proofs.Parts.{part}
 use Rattle.rules.specs.Census.{count_of, counts}
 use Rattle.laws.specs.Sorted.{met, only, eight}
 use Rattle.census.proofs.tally.Grown.{one_more, within}
+use Rattle.census.proofs.tally.tally.Invariants.{before}
 use Rattle.census.proofs.tally.tally.Goals as goal
 
 module _ (split : Bool) (d : List ℕ) where
-  -- the counts of the blocks before b
-  abbrev before : ℕ → List ℕ
-  before b = counts (bytes_of 8 d) b (eight split)
   -- one more block
-  goes_on : (l : List ℕ) (b k : ℕ) → l ≡ before b → only (met (eight split) (take (b * 8 + 8 - b * 8) (drop (b * 8) d))) k ≡ true → set l k (get_or l k 0 + 1) ≡ before (b + 1)
+  goes_on : (l : List ℕ) (b k : ℕ) → l ≡ before split d b → only (met (eight split) (take (b * 8 + 8 - b * 8) (drop (b * 8) d))) k ≡ true → set l k (get_or l k 0 + 1) ≡ before split d (b + 1)
   goes_on l b k e h = rw e (one_more (eight split) (bytes_of 8 d) b k (rw (part 8 b d) at h))
 
 started : (split : Bool) (d : List ℕ) → 0 ∷ 0 ∷ 0 ∷ 0 ∷ 0 ∷ 0 ∷ 0 ∷ 0 ∷ [] ≡ before split d 0

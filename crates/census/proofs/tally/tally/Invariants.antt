@@ -13,6 +13,10 @@ use Rattle.laws.specs.Sorted.{met, only, eight}
 use Rattle.census.proofs.tally.Grown.{one_more, within}
 use Rattle.census.proofs.tally.tally.Given as goal
 
+-- the counts of the blocks before b
+abbrev pub before : Bool → List ℕ → ℕ → List ℕ
+before split d b = counts (bytes_of 8 d) b (eight split)
+
 abbrev pub invariant-loop-b : goal.invariant-loop-b
 invariant-loop-b l = (l.b ≤ l.n) × (l.tally ≡ before l.split l.«data» l.b)
 

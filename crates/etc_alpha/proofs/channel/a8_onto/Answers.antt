@@ -37,7 +37,7 @@ bounds-alphas-i c = omega arith
 pub topped-requires : goal.topped-requires
 topped-requires c =
     let turn : held w16 (get_or c.picked-alphas.result c.loop-i.i (pos 0)) ≡ pos (alpha_byte c.args.d.now (c.loop-i.i % 4) (c.loop-i.i / 4)) = let p = c.picked-alphas in
-    alpha_held c.args.d.now c.args.eight p.result c.loop-i.i c.pre.1 p.ensures (omega arith) in
+    alpha_held c.args.d.now c.args.eight p.result c.loop-i.i c.requires.1 p.ensures (omega arith) in
     rw turn (refl, small_byte c.args.d.now (c.loop-i.i % 4) (c.loop-i.i / 4))
 
 pub offset_bounds-out-i : goal.offset_bounds-out-i
@@ -55,7 +55,7 @@ loop-i-smaller c = omega arith
 pub loop-i-preserved : goal.loop-i-preserved
 loop-i-preserved c =
     let turn : held w16 (get_or c.picked-alphas.result c.loop-i.i (pos 0)) ≡ pos (alpha_byte c.args.d.now (c.loop-i.i % 4) (c.loop-i.i / 4)) = let p = c.picked-alphas in
-    alpha_held c.args.d.now c.args.eight p.result c.loop-i.i c.pre.1 p.ensures (omega arith) in
+    alpha_held c.args.d.now c.args.eight p.result c.loop-i.i c.requires.1 p.ensures (omega arith) in
     let l = c.loop-i in
     let px = c.args.px in
     stored_next _ 0 16 l.out l.i l.invariant _ (omega arith) (c.topped.ensures ∙ ap (λ (z : ℤ). with_alpha (get_or px l.i 0) (nat_abs z)) turn)

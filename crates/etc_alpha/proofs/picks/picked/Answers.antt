@@ -62,7 +62,7 @@ loop-i-preserved c =
     let at : get_or c.write_order-order.result (15 - c.loop-i.i) 0 ≡ place (15 - c.loop-i.i) = let j = 15 - c.loop-i.i in
     ap (λ (a : List ℕ). get_or a j 0) c.write_order-order.ensures ∙ get_or_build place 0 16 j (omega arith) in
     let l = c.loop-i in
-    let w = c.index-IsWord in
+    let w = c.index_word-l in
     let o = at in (
       ap (λ (n : ℕ). n / 8) l.invariant.0 ∙ shifted w.result 3 l.i,
       stored backwards _ (pos 0) 16 l.out l.i _ _ l.invariant.1 (omega arith) (omega arith) (λ k h e. place_only (15 - l.i) k h (omega arith) ∙ sym o)

@@ -1,5 +1,6 @@
 -- An individual block has its own, and every other those of a difference.
 -- Assumes nothing.
+use borrow.Enum.Refused.{opened}
 use Rattle.std.proofs.Common.{sym, ap, ◌∙◌, rules}
 use Rattle.rules.specs.declared.Kind.{Kind}
 use Rattle.etc_colour.specs.etc2.Colours.{half_bases}
@@ -14,4 +15,4 @@ returns-in-Individual c =
 pub returns : goal.returns
 returns c =
     let a = c.args in
-    c.differential_bases.ensures ∙ sym (not_individual a.kind a.d.now c.in_default.in_default-own.keys2)
+    c.differential_bases.ensures ∙ sym (not_individual a.kind a.d.now (opened c.in_default.in_default-own.keys2))

@@ -1,5 +1,6 @@
 -- `sheet::first::first_record` meets its contract.
 -- Assumes nothing.
+use borrow.Enum.Refused.{opened}
 use mathlib.Core.Path.{◌∙◌, sym}
 use Prim.Native.Nat.{◌-◌}
 use native.Mathlib.Omega.{arith}
@@ -13,7 +14,7 @@ use borrow.Author.Rules.{rules}
 use Rattle.sheet.proofs.first.first_record.Goals as goal
 
 pub returns-in_default : goal.returns-in_default
-returns-in_default c = nothing _ c.record_at-met.result c.record_at-met.ensures c.in_default.in_default-own.keys2
+returns-in_default c = nothing _ c.record_at-met.result c.record_at-met.ensures (opened c.in_default.in_default-own.keys2)
 
 pub returns-then-kind-ne1 : goal.returns-then-kind-ne1
 returns-then-kind-ne1 c =

@@ -1,5 +1,6 @@
 -- `sheet::later::after_head` meets its contract.
 -- Assumes nothing.
+use borrow.Enum.Refused.{opened}
 use Prim.Native.Nat.{◌-◌}
 use native.Mathlib.Omega.{arith}
 use Rattle.rules.specs.Records.{kept}
@@ -36,7 +37,7 @@ returns-in_default c =
     let turn : let a = c.args in Turn kept a.d.now a.at c.in-Whole.kind c.in-Whole.start c.in-Whole.len = turn_of kept _ _ c.next-met.result c.in-Whole.is c.next-met.ensures in
     let a = c.args in
     later_refused a.d.now a.at a.n _ _ _ turn c.if-kind-ne2.false (omega (arith, c.if-len-n.false))
-    c.after_blocks-answer.result c.after_blocks-answer.ensures (refusal c.after_blocks-answer.result c.in_default.in_default-own.keys2)
+    c.after_blocks-answer.result c.after_blocks-answer.ensures (refusal c.after_blocks-answer.result (opened c.in_default.in_default-own.keys2))
 
 pub returns-in-Done : goal.returns-in-Done
 returns-in-Done c =

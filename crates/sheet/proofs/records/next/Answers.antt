@@ -1,5 +1,6 @@
 -- `sheet::records::next` meets its contract: what was passed is skipped, so that what is met behind it is what is met.
 -- Assumes nothing.
+use borrow.Enum.Refused.{opened}
 use mathlib.Core.Path.{◌≡◌, ◌∙◌, refl, ap}
 use Prim.Native.Nat.{◌-◌, ◌≤◌}
 use native.Mathlib.Omega.{arith}
@@ -18,7 +19,7 @@ pub returns-in_default : goal.returns-in_default
 returns-in_default c =
     let a = c.args in
     sooner a.d.now a.from c.loop-at.at c.record_at-met.result
-    c.loop-at.invariant.1 c.loop-at.invariant.2 c.loop-at.invariant.3 (none_kept a.d.now c.loop-at.at c.record_at-met.result c.record_at-met.ensures c.in_default.in_default-own.keys2)
+    c.loop-at.invariant.1 c.loop-at.invariant.2 c.loop-at.invariant.3 (none_kept a.d.now c.loop-at.at c.record_at-met.result c.record_at-met.ensures (opened c.in_default.in_default-own.keys2))
 
 pub returns-then-kind-lt32768 : goal.returns-then-kind-lt32768
 returns-then-kind-lt32768 c =
