@@ -18,17 +18,13 @@ pub bounds-d-0 : goal.bounds-d-0
 bounds-d-0 c = omega arith
 
 pub eight_bytes-eight-requires : goal.eight_bytes-eight-requires
-eight_bytes-eight-requires c =
-    (
-      (c.requires.0, c.alpha_steps-table.ensures, c.Span-of.ensures.1),
-      middle_held c.middle_of-base.result
-          (c.middle_of-base.ensures.0 ∙ ap (λ (t : Bool). middle t (byte c.args.d.now 0)) (sym c.Span-of.ensures.0)) c.middle_of-base.ensures.1,
-    )
+eight_bytes-eight-requires c = record { in_bounds = (c.requires.0, c.alpha_steps-table.ensures, c.span_of.ensures.1); base_value = middle_held c.middle_of-base.result
+          (c.middle_of-base.ensures.0 ∙ ap (λ (t : Bool). middle t (byte c.args.d.now 0)) (sym c.span_of.ensures.0)) c.middle_of-base.ensures.1 }
 
 pub eac_bytes-bytes-requires : goal.eac_bytes-bytes-requires
 eac_bytes-bytes-requires c =
-    let eight : c.eight_bytes-eight.result ≡ build 8 (λ j. pos (eighth_of c.args.signed c.args.d.now j)) = c.eight_bytes-eight.ensures ∙ ap (λ (t : Bool). build 8 (λ j. pos (eighth_of t c.args.d.now j))) c.Span-of.ensures.0 in
-    (c.pre.0, eights_are_bytes c.args.signed c.args.d.now c.eight_bytes-eight.result eight)
+    let eight : c.eight_bytes-eight.result ≡ build 8 (λ j. pos (eighth_of c.args.signed c.args.d.now j)) = c.eight_bytes-eight.ensures ∙ ap (λ (t : Bool). build 8 (λ j. pos (eighth_of t c.args.d.now j))) c.span_of.ensures.0 in
+    (c.requires.0, eights_are_bytes c.args.signed c.args.d.now c.eight_bytes-eight.result eight)
 
 pub loop-i-init : goal.loop-i-init
 loop-i-init c = begun in_order_lem _ 0 16 _ (search rules)
@@ -47,7 +43,7 @@ bounds-bytes-i c = omega arith
 
 pub overflow_mul-out : goal.overflow_mul-out
 overflow_mul-out c =
-    let eight : c.eight_bytes-eight.result ≡ build 8 (λ j. pos (eighth_of c.args.signed c.args.d.now j)) = c.eight_bytes-eight.ensures ∙ ap (λ (t : Bool). build 8 (λ j. pos (eighth_of t c.args.d.now j))) c.Span-of.ensures.0 in
+    let eight : c.eight_bytes-eight.result ≡ build 8 (λ j. pos (eighth_of c.args.signed c.args.d.now j)) = c.eight_bytes-eight.ensures ∙ ap (λ (t : Bool). build 8 (λ j. pos (eighth_of t c.args.d.now j))) c.span_of.ensures.0 in
     let bytes : c.eac_bytes-bytes.result ≡ build 16 (byte_at c.args.signed c.args.d.now) = let a = c.args in
     bytes_of a.signed a.d.now c.eight_bytes-eight.result eight c.eac_bytes-bytes.result c.eac_bytes-bytes.ensures in
     let u = c.unit_of-unit in
@@ -68,7 +64,7 @@ loop-i-smaller c = omega arith
 
 pub loop-i-preserved : goal.loop-i-preserved
 loop-i-preserved c =
-    let eight : c.eight_bytes-eight.result ≡ build 8 (λ j. pos (eighth_of c.args.signed c.args.d.now j)) = c.eight_bytes-eight.ensures ∙ ap (λ (t : Bool). build 8 (λ j. pos (eighth_of t c.args.d.now j))) c.Span-of.ensures.0 in
+    let eight : c.eight_bytes-eight.result ≡ build 8 (λ j. pos (eighth_of c.args.signed c.args.d.now j)) = c.eight_bytes-eight.ensures ∙ ap (λ (t : Bool). build 8 (λ j. pos (eighth_of t c.args.d.now j))) c.span_of.ensures.0 in
     let bytes : c.eac_bytes-bytes.result ≡ build 16 (byte_at c.args.signed c.args.d.now) = let a = c.args in
     bytes_of a.signed a.d.now c.eight_bytes-eight.result eight c.eac_bytes-bytes.result c.eac_bytes-bytes.ensures in
     let l = c.loop-i in

@@ -9,8 +9,7 @@ use Rattle.eac.proofs.Bytes.{middle_held, eights_are_bytes, bytes_of, byte_at, b
 use Rattle.eac.proofs.eacrg_block.Goals as goal
 
 pub eight_bytes-green-requires : goal.eight_bytes-green-requires
-eight_bytes-green-requires c =
-    ((search rules, c.requires.1, c.requires.2), middle_held c.middle_of-green_base.result c.middle_of-green_base.ensures.0 c.middle_of-green_base.ensures.1)
+eight_bytes-green-requires c = record { in_bounds = (search rules, c.requires.1, c.requires.2); base_value = middle_held c.middle_of-green_base.result c.middle_of-green_base.ensures.0 c.middle_of-green_base.ensures.1 }
 
 pub eac_bytes-requires : goal.eac_bytes-requires
 eac_bytes-requires c =

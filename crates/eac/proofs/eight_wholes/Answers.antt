@@ -49,8 +49,8 @@ loop-i-preserved c =
     let value : held w16 c.eac_whole.result ≡ whole_of c.args.span.signed c.args.d.now c.loop-i.i = let a = c.args in
     let d = a.d.now in
     whole_at_lem a.span.signed d a.base a.span.low a.span.high c.eac_whole.result _
-    c.times_of-m.result c.loop-i.i c.pre.1.0 c.pre.1.1 (c.times_of-m.ensures.0 ∙ ap multiplier c.multiplier_of.ensures.0)
-    c.pre.0.2.from c.pre.0.2.to
+    c.times_of-m.result c.loop-i.i c.requires.base_value.0 c.requires.base_value.1 (c.times_of-m.ensures.0 ∙ ap multiplier c.multiplier_of.ensures.0)
+    c.requires.in_bounds.2.from c.requires.in_bounds.2.to
     (step_held d c.steps_in-steps.result c.row_of.result c.loop-i.i c.steps_in-steps.ensures c.row_of.ensures.0)
     c.eac_whole.ensures in
     let l = c.loop-i in

@@ -35,14 +35,6 @@ at_place f g d t n k e s h l =
     ∙ ap (λ (z : Format). shows_of z (bytes_of (size_of z) d n) (k % 4) (k / 4)) e
     ∙ ap (λ (z : ℕ). shows_of g (bytes_of z d n) (k % 4) (k / 4)) s
 
--- LEFT
--- rem-compare : tie.Need-nonzero-rem-compare
--- rem-compare c = some c
-
--- LEFT
--- div-compare : tie.Need-nonzero-div-compare
--- div-compare c = some c.before
-
 pub block_at-old-requires : goal.block_at-old-requires
 block_at-old-requires c =
     fits c.own.result (blocks c.args.pic) c.args.b _ (ap size_of c.own.ensures ∙ eight c.args.viewer) c.requires.0 c.requires.1
@@ -77,7 +69,7 @@ returns c =
     let d = a.«data».now in
     let g = guard_of a.viewer in
     alike _ (in_picture a.pic a.b) _ (older_at g d a.b) _ (newer_at g d a.b)
-    (λ k l. place.shown a.pic a.b c.pre.0 c.across-row.result c.across-row.ensures k)
+    (λ k l. place.shown a.pic a.b c.requires.0 c.across-row.result c.across-row.ensures k)
     (λ k l. at_place c.own.result g.own d c.block_at-old.result a.b k c.own.ensures (eight a.viewer) c.block_at-old.ensures l)
     (λ k l. at_place c.shown.result g.shown d c.block_at-new.result a.b k c.shown.ensures (shown-eight a.viewer) c.block_at-new.ensures l)
     _ c.compare.ensures

@@ -47,11 +47,11 @@ paint_joined-requires c =
     let top : L-of ≤ B-of * s-of = omega (arith, c.least-got.ensures, c.least-used.ensures) in
     let hand : (L-of / s-of - G-of / s-of) * s-of + L-of % s-of ≤ G-of % s-of + length c.args.bytes.now = omega (arith, shared s-of B-of G-of L-of some (omega arith) top, c.least-used.ensures) in
     let e = c.size-s.ensures.0 in record { width_le_limit = (
-        c.pre.0,
-        c.pre.1,
+        c.requires.0,
+        c.requires.1,
         blocks_up s-of B-of G-of L-of some (omega arith) top,
         omega (arith, blocks_top s-of B-of G-of L-of some (omega arith) top, c.blocks_of.ensures.0),
-        c.pre.2,
+        c.requires.2,
       ); held_bound = (
         omega (arith, e, mod-lt G-of some),
         rw (sym e) (omega (arith, hand)),

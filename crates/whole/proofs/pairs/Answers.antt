@@ -9,14 +9,6 @@ use Rattle.laws.proofs.Filling.{Filling, in_order_lem, begun, stored_next, fille
 use Rattle.whole.specs.Lanes.{paired}
 use Rattle.whole.proofs.pairs.Goals as goal
 
--- LEFT
--- index-1-out : tie.Need-bounds-1-out invariant-loop decreases-loop
--- index-1-out c = omega arith
-
--- LEFT
--- index-2-out : tie.Need-bounds-2-out invariant-loop decreases-loop
--- index-2-out c = omega arith
-
 pub loop-i-init : goal.loop-i-init
 loop-i-init c = begun in_order_lem _ 0 16 _ refl
 

@@ -7,10 +7,6 @@ use Rattle.laws.proofs.Shift.{one_shl}
 use borrow.Author.Rules.{rules}
 use Rattle.bc7.proofs.rest.lowest.Goals as goal
 
--- LEFT
--- rem-result : tie.Need-nonzero-rem-result
--- rem-result c = rw (one_shl 64 c.args.n (omega arith)) (pow_pos c.args.n)
-
 pub overflow_cast-result : goal.overflow_cast-result
 overflow_cast-result c = record { fits = rw (one_shl 64 c.args.n (omega arith)) (lt_of_lt_of_le (mod-lt c.args.v (pow_pos c.args.n)) (pow_mono c.requires)) }
 

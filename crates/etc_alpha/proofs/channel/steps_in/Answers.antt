@@ -15,14 +15,6 @@ use Rattle.laws.proofs.Signed.{held_small, held_twice}
 use Rattle.etc_alpha.proofs.channel.Steps.{small_row, eight_in_row}
 use Rattle.etc_alpha.proofs.channel.steps_in.Goals as goal
 
--- LEFT
--- index-1-out : tie.Need-bounds-1-out invariant-loop decreases-loop
--- index-1-out c = omega arith
-
--- LEFT
--- index-2-out : tie.Need-bounds-2-out invariant-loop decreases-loop
--- index-2-out c = omega arith
-
 pub loop-i-init : goal.loop-i-init
 loop-i-init c = begun in_order_lem _ (pos 0) 8 _ refl
 

@@ -23,4 +23,4 @@ returns-in-H c =
 
 pub returns : goal.returns
 returns c =
-    c.both_halves.ensures ∙ of_halves c.args.kind c.args.opaque c.args.d.now (opened c.in_default.in_default-own.keys2) c.in_default-kind.in_default-kind-own.keys2 c.requires.2
+    c.both_halves.ensures ∙ of_halves c.args.kind c.args.opaque c.args.d.now (opened c.in_default.in_default-own.keys2) (opened c.in_default-kind.in_default-kind-own.keys2) c.requires.2
