@@ -26,13 +26,13 @@ loop-k-init c = (omega arith, refl)
 pub returns-then-not-near : goal.returns-then-not-near
 returns-then-not-near c =
     let a = c.args in
-    sym (each_not (test a.tolerance a.pixels a.tile.now) 16 c.loop-k.k c.loop-k-test.true (sym c.near.ensures ∙ not-true _ c.if-not-near.true))
+    sym (each_not (test a.tolerance a.pixels a.tile.now) 16 c.loop-k.k c.loop-k-test.true (sym c.near.ensures ∙ c.if-not-near.true))
 
 -- src/lib.rt:30:5
 pub loop-k-preserved : goal.loop-k-preserved
 loop-k-preserved c =
     let a = c.args in
-    (omega arith, each_next (test a.tolerance a.pixels a.tile.now) c.loop-k.k c.loop-k.invariant.1 (sym c.near.ensures ∙ not-false _ c.if-not-near.false))
+    (omega arith, each_next (test a.tolerance a.pixels a.tile.now) c.loop-k.k c.loop-k.invariant.1 (sym c.near.ensures ∙ c.if-not-near.false))
 
 -- src/lib.rt:25:1
 pub returns : goal.returns

@@ -44,7 +44,7 @@ returns-then-not-all_near c =
     let answered : (b : Bool) → c.all_Near.result ≡ b → cond b (0 ∷ []) (18 ∷ []) ≡ check_verdict c.args.tolerance c.args.block.now c.args.tile.now = λ b e. let a = c.args in
     in_range_lem a.tolerance a.block.now a.tile.now c.if-block-lt8.false c.if-tile-lt16.false
     (ranged ∙ c.if-is_strange.false) b (sym tested ∙ e) in
-    answered false (not-true _ c.if-not-all_near.true)
+    answered false (c.if-not-all_near.true)
 
 pub returns : goal.returns
 unfolding shows_of
@@ -55,4 +55,4 @@ returns c =
     let answered : (b : Bool) → c.all_Near.result ≡ b → cond b (0 ∷ []) (18 ∷ []) ≡ check_verdict c.args.tolerance c.args.block.now c.args.tile.now = λ b e. let a = c.args in
     in_range_lem a.tolerance a.block.now a.tile.now c.if-block-lt8.false c.if-tile-lt16.false
     (ranged ∙ c.if-is_strange.false) b (sym tested ∙ e) in
-    answered true (not-false _ c.if-not-all_near.false)
+    answered true (c.if-not-all_near.false)

@@ -16,24 +16,18 @@ use Rattle.sheet.specs.write.Front.{front_of_lem}
 -- n elements in front, and then the data behind them
 pub twice : (n : ℕ) (front b out mid part : List ℕ)
     → length front ≡ n
-    → n + length b ≤ length out
     → mid ≡ front ++ drop n out
-    → part ≡ take (length b) b ++ drop (length b) (take (length mid - n) (drop n mid))
-    → take n mid ++ (part ++ drop (length mid - n) (drop n mid)) ≡ (front ++ b) ++ drop (n + length b) out
-twice n front b out mid part l h o f =
+    → part ≡ b
+    → take n mid ++ (part ++ drop (n + length b - n) (drop n mid)) ≡ (front ++ b) ++ drop (n + length b) out
+twice n front b out mid part l o f =
     let t : take n mid ≡ front = ap (take n) o ∙ take_at front (drop n out) n l in
     let d : drop n mid ≡ drop n out = ap (drop n) o ∙ drop_at front (drop n out) n l in
-    let k : length (drop n mid) ≤ length mid - n = omega (arith, length-drop n mid) in
-    let z : drop (length mid - n) (drop n mid) ≡ [] = drop_of_length-le (drop n mid) k in
-    let x : drop (length b) (drop n mid) ≡ drop (n + length b) out = ap (drop (length b)) d ∙ drop-drop (length b) n out in
-    let p : part ≡ b ++ drop (n + length b) out =
-    f
-    ∙ ap (λ (y : List ℕ). y ++ drop (length b) (take (length mid - n) (drop n mid))) (take-length b)
-    ∙ ap (λ (y : List ℕ). b ++ drop (length b) y) (rest n mid)
-    ∙ ap (λ (y : List ℕ). b ++ y) x in
-    ap (λ (y : List ℕ). y ++ (part ++ drop (length mid - n) (drop n mid))) t
-    ∙ ap (λ (y : List ℕ). front ++ (part ++ y)) z
-    ∙ ap (λ (y : List ℕ). front ++ y) (append-nil part ∙ p)
+    let k : n + length b - n ≡ length b = omega arith in
+    ap (λ (y : List ℕ). y ++ (part ++ drop (n + length b - n) (drop n mid))) t
+    ∙ ap (λ (y : List ℕ). front ++ (y ++ drop (n + length b - n) (drop n mid))) f
+    ∙ ap (λ (y : List ℕ). front ++ (b ++ drop (n + length b - n) y)) d
+    ∙ ap (λ (m : ℕ). front ++ (b ++ drop m (drop n out))) k
+    ∙ ap (λ (y : List ℕ). front ++ (b ++ y)) (drop-drop (length b) n out)
     ∙ sym (append_assoc front b (drop (n + length b) out))
 
 -- what stands before the blocks, and the blocks

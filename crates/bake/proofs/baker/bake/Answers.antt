@@ -47,7 +47,11 @@ baked-requires c =
     let first_good : above c.args.first ≡ false = sym c.above.ensures ∙ c.if-above.false in
     let second-good : above c.args.second ≡ false = sym c.above-2.ensures ∙ c.if-above-2.false in
     let a = c.args in
-    (four a.first first_good, (four a.second second-good, (omega (arith, c.if-flip-gt1.false), c.if-tile-lt16.false)))
+    record {
+      four = four a.first first_good;
+      four_2 = four a.second second-good;
+      flip_bound = (omega (arith, c.if-flip-gt1.false), c.if-tile-lt16.false);
+    }
 
 pub returns : goal.returns
 returns c =

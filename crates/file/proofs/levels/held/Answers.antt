@@ -21,7 +21,7 @@ unfolding held_of
 returns-then-not-l c = simp (
   sym c.is_empty.ensures ∙ c.if-is_empty.false,
   sym c.too_large.ensures ∙ c.if-too_large.false,
-  not-true c.args.l.agrees c.if-not-l.true,
+  c.if-not-l.true,
 )
 
 pub returns-then-too_many : goal.returns-then-too_many
@@ -30,7 +30,7 @@ returns-then-too_many c = let a = c.args in
     simp (
       sym c.is_empty.ensures ∙ c.if-is_empty.false,
       sym c.too_large.ensures ∙ c.if-too_large.false,
-      not-false a.l.agrees c.if-not-l.false,
+      c.if-not-l.false,
       sym (c.too_many.ensures ∙ ap₂ too_many_lem c.larger.ensures c.less.ensures) ∙ c.if-too_many.true,
     )
 
@@ -47,7 +47,7 @@ returns c = let a = c.args in
     simp (
       sym c.is_empty.ensures ∙ c.if-is_empty.false,
       sym c.too_large.ensures ∙ c.if-too_large.false,
-      not-false a.l.agrees c.if-not-l.false,
+      c.if-not-l.false,
       sym (c.too_many.ensures ∙ ap₂ too_many_lem c.larger.ensures c.less.ensures) ∙ c.if-too_many.false,
     )
     c.levels.ensures
