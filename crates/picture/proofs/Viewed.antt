@@ -22,7 +22,7 @@ pub passed_by_lem : (viewer : Viewer) (pic : Picture) (bytes elements : ℕ) (th
     → accepts (said a) ≡ true
     → Passed 8 pic bytes elements
 passed_by_lem Etc1 = checks.passed_exactly_by 8
-passed_by_lem Opaque = checks.passed-by 8
+passed_by_lem Opaque = checks.passed_by_lem 8
 
 pub in_order : (viewer : Viewer) (pic : Picture) (bytes elements : ℕ) → So (numbered (checks_for viewer pic bytes elements))
 in_order Etc1 pic bytes elements = tt

@@ -39,9 +39,9 @@ pub returns-then-not-all_near : goal.returns-then-not-all_near
 unfolding shows_of
 returns-then-not-all_near c =
     let ranged : out_of_range_lem c.args.block.now ≡ c.is_strange.result = exactly _ ∙ ap strange (sym c.kind_of.ensures) ∙ sym c.is_strange.ensures in
-    let tested : c.all_Near.result ≡ like c.args.tolerance c.args.block.now c.args.tile.now = let a = c.args in
-    c.all_Near.ensures ∙ of_block a.tolerance a.block.now c.block_at.result a.tile.now (c.block_at.ensures ∙ first_block Etc1 a.block.now) in
-    let answered : (b : Bool) → c.all_Near.result ≡ b → cond b (0 ∷ []) (18 ∷ []) ≡ check_verdict c.args.tolerance c.args.block.now c.args.tile.now = λ b e. let a = c.args in
+    let tested : c.all_near.result ≡ like c.args.tolerance c.args.block.now c.args.tile.now = let a = c.args in
+    c.all_near.ensures ∙ of_block a.tolerance a.block.now c.block_at.result a.tile.now (c.block_at.ensures ∙ first_block Etc1 a.block.now) in
+    let answered : (b : Bool) → c.all_near.result ≡ b → cond b (0 ∷ []) (18 ∷ []) ≡ check_verdict c.args.tolerance c.args.block.now c.args.tile.now = λ b e. let a = c.args in
     in_range_lem a.tolerance a.block.now a.tile.now c.if-block-lt8.false c.if-tile-lt16.false
     (ranged ∙ c.if-is_strange.false) b (sym tested ∙ e) in
     answered false (c.if-not-all_near.true)
@@ -50,9 +50,9 @@ pub returns : goal.returns
 unfolding shows_of
 returns c =
     let ranged : out_of_range_lem c.args.block.now ≡ c.is_strange.result = exactly _ ∙ ap strange (sym c.kind_of.ensures) ∙ sym c.is_strange.ensures in
-    let tested : c.all_Near.result ≡ like c.args.tolerance c.args.block.now c.args.tile.now = let a = c.args in
-    c.all_Near.ensures ∙ of_block a.tolerance a.block.now c.block_at.result a.tile.now (c.block_at.ensures ∙ first_block Etc1 a.block.now) in
-    let answered : (b : Bool) → c.all_Near.result ≡ b → cond b (0 ∷ []) (18 ∷ []) ≡ check_verdict c.args.tolerance c.args.block.now c.args.tile.now = λ b e. let a = c.args in
+    let tested : c.all_near.result ≡ like c.args.tolerance c.args.block.now c.args.tile.now = let a = c.args in
+    c.all_near.ensures ∙ of_block a.tolerance a.block.now c.block_at.result a.tile.now (c.block_at.ensures ∙ first_block Etc1 a.block.now) in
+    let answered : (b : Bool) → c.all_near.result ≡ b → cond b (0 ∷ []) (18 ∷ []) ≡ check_verdict c.args.tolerance c.args.block.now c.args.tile.now = λ b e. let a = c.args in
     in_range_lem a.tolerance a.block.now a.tile.now c.if-block-lt8.false c.if-tile-lt16.false
     (ranged ∙ c.if-is_strange.false) b (sym tested ∙ e) in
     answered true (c.if-not-all_near.false)

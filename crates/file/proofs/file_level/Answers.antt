@@ -8,15 +8,15 @@ use Rattle.file.proofs.file_level.Goals as goal
 
 pub returns-in-Holds : goal.returns-in-Holds
 unfolding found_as found_verdict
-returns-in-Holds c = let t = c.told-1 in
+returns-in-Holds c =
     let a = c.args in
     ap found_said
     (c.found.ensures
-    ∙ ap (found_by t.given.0.0 a.n) c.held.ensures
-    ∙ sym (ap (found_as a.bytes.now a.n) (sym c.header-told.ensures ∙ t.given.1)))
+    ∙ ap (found_by c.in-Holds.l a.n) c.held.ensures
+    ∙ sym (ap (found_as a.bytes.now a.n) (sym c.header-told.ensures ∙ c.in-Holds.is)))
 
 pub returns-in-Refused : goal.returns-in-Refused
 unfolding found_as found_verdict
-returns-in-Refused c = let t = c.told-in-Refused-1 in
+returns-in-Refused c =
     let a = c.args in
-    ap found_said (sym (ap (found_as a.bytes.now a.n) (sym c.header-told.ensures ∙ t.given.1)))
+    ap found_said (sym (ap (found_as a.bytes.now a.n) (sym c.header-told.ensures ∙ c.in-Refused.is)))

@@ -8,15 +8,15 @@ use Rattle.file.proofs.open_file.Goals as goal
 
 pub returns-in-Holds : goal.returns-in-Holds
 unfolding opened_as opened_verdict
-returns-in-Holds c = let t = c.told-1 in
+returns-in-Holds c =
     let a = c.args in
     ap opened_said
     (c.opened.ensures
-    ∙ ap (opened_by t.given.0.0) c.held.ensures
-    ∙ sym (ap (opened_as a.bytes.now) (sym c.header-told.ensures ∙ t.given.1)))
+    ∙ ap (opened_by c.in-Holds.l) c.held.ensures
+    ∙ sym (ap (opened_as a.bytes.now) (sym c.header-told.ensures ∙ c.in-Holds.is)))
 
 pub returns-in-Refused : goal.returns-in-Refused
 unfolding opened_as opened_verdict
-returns-in-Refused c = let t = c.told-in-Refused-1 in
+returns-in-Refused c =
     let a = c.args in
-    ap opened_said (sym (ap (opened_as a.bytes.now) (sym c.header-told.ensures ∙ t.given.1)))
+    ap opened_said (sym (ap (opened_as a.bytes.now) (sym c.header-told.ensures ∙ c.in-Refused.is)))

@@ -45,12 +45,12 @@ block_at-new-requires c =
 
 pub overflow_mul-b : goal.overflow_mul-b
 overflow_mul-b c =
-    let column : c.args.b % c.across-row.result * 4 ≤ c.args.pic.width = place.column-of c.args.pic c.args.b c.requires.0 c.across-row.result c.across-row.ensures in
+    let column : c.args.b % c.across-row.result * 4 ≤ c.args.pic.width = place.column_of c.args.pic c.args.b c.requires.0 c.across-row.result c.across-row.ensures in
     omega (arith, column, c.requires.2)
 
 pub overflow_sub-pic : goal.overflow_sub-pic
 overflow_sub-pic c =
-    let column : c.args.b % c.across-row.result * 4 ≤ c.args.pic.width = place.column-of c.args.pic c.args.b c.requires.0 c.across-row.result c.across-row.ensures in
+    let column : c.args.b % c.across-row.result * 4 ≤ c.args.pic.width = place.column_of c.args.pic c.args.b c.requires.0 c.across-row.result c.across-row.ensures in
     column
 
 pub overflow_mul-b-2 : goal.overflow_mul-b-2

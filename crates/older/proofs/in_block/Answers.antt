@@ -20,5 +20,5 @@ returns c =
     let g = guard_of a.viewer in
     let good : g.bad (bytes_of 8 d a.b) ≡ false =
     sym (ap g.bad (part 8 a.b d))
-    ∙ passed g.number (sound a.viewer).is-refusal c.judged-answer.result _ a.b c.judged-answer.ensures (ap said c.in-Done.is) in
+    ∙ passed g.number (sound a.viewer).is_refusal c.judged-answer.result _ a.b c.judged-answer.ensures (ap said c.in-Done.is) in
     nothing (in_picture a.pic a.b) (older_at g d a.b) (newer_at g d a.b) (λ k. (sound a.viewer).agree (bytes_of 8 d a.b) (k % 4) (k / 4) good)

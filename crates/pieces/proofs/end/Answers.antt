@@ -15,5 +15,5 @@ pub returns : goal.returns
 returns c =
     let p = c.args.p in
     c.verify.ensures
-    ∙ ap (λ (s : ℕ). verdict (picture_checks s p.picture p.true 0x100000000)) c.size.ensures.0
-    ∙ without_image (size p) p.picture p.true
+    ∙ ap (λ (s : ℕ). verdict (picture_checks s p.picture p.taken 0x100000000)) c.size.ensures.0
+    ∙ without_image (size p) p.picture p.taken

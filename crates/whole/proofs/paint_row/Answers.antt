@@ -25,53 +25,53 @@ loop-bx-init c =
 pub overflow_add-at : goal.overflow_add-at
 overflow_add-at c =
     let w = c.across-row in
-    omega (arith, small c.args.pic c.args.by w.result w.ensures c.requires.1.narrow c.requires.0.2 c.requires.0.1, c.loop-bx-test.true, w.ensures, c.requires.1.narrow)
+    omega (arith, small c.args.pic c.args.by w.result w.ensures c.requires.ready.narrow c.requires.green_in_bounds.2 c.requires.green_in_bounds.1, c.loop-bx-test.true, w.ensures, c.requires.ready.narrow)
 
 pub overflow_mul-at : goal.overflow_mul-at
 overflow_mul-at c =
     let size : c.lanes_of-s.result * 8 ≡ lanes c.args.green * 8 = ap (λ (z : ℕ). z * 8) c.lanes_of-s.ensures.0 in
     let there : (c.args.by * c.across-row.result + c.loop-bx.bx) * (c.lanes_of-s.result * 8) + c.lanes_of-s.result * 8 ≤ length c.args.«data».now = fits c.args.pic c.args.by c.loop-bx.bx c.across-row.result (c.lanes_of-s.result * 8) (lanes c.args.green) _
-    c.across-row.ensures size c.loop-bx-test.true c.requires.0.1 c.requires.0.0 in
+    c.across-row.ensures size c.loop-bx-test.true c.requires.green_in_bounds.1 c.requires.green_in_bounds.0 in
     omega (arith, there)
 
 pub overflow_add-end : goal.overflow_add-end
 overflow_add-end c =
     let size : c.lanes_of-s.result * 8 ≡ lanes c.args.green * 8 = ap (λ (z : ℕ). z * 8) c.lanes_of-s.ensures.0 in
     let there : (c.args.by * c.across-row.result + c.loop-bx.bx) * (c.lanes_of-s.result * 8) + c.lanes_of-s.result * 8 ≤ length c.args.«data».now = fits c.args.pic c.args.by c.loop-bx.bx c.across-row.result (c.lanes_of-s.result * 8) (lanes c.args.green) _
-    c.across-row.ensures size c.loop-bx-test.true c.requires.0.1 c.requires.0.0 in
+    c.across-row.ensures size c.loop-bx-test.true c.requires.green_in_bounds.1 c.requires.green_in_bounds.0 in
     omega (arith, there)
 
 pub slice_bounds-paint_block-count : goal.slice_bounds-paint_block-count
 slice_bounds-paint_block-count c =
     let size : c.lanes_of-s.result * 8 ≡ lanes c.args.green * 8 = ap (λ (z : ℕ). z * 8) c.lanes_of-s.ensures.0 in
     let there : (c.args.by * c.across-row.result + c.loop-bx.bx) * (c.lanes_of-s.result * 8) + c.lanes_of-s.result * 8 ≤ length c.args.«data».now = fits c.args.pic c.args.by c.loop-bx.bx c.across-row.result (c.lanes_of-s.result * 8) (lanes c.args.green) _
-    c.across-row.ensures size c.loop-bx-test.true c.requires.0.1 c.requires.0.0 in
+    c.across-row.ensures size c.loop-bx-test.true c.requires.green_in_bounds.1 c.requires.green_in_bounds.0 in
     omega (arith, there)
 
 pub slice_bounds-paint_block-start : goal.slice_bounds-paint_block-start
 slice_bounds-paint_block-start c =
     let size : c.lanes_of-s.result * 8 ≡ lanes c.args.green * 8 = ap (λ (z : ℕ). z * 8) c.lanes_of-s.ensures.0 in
     let there : (c.args.by * c.across-row.result + c.loop-bx.bx) * (c.lanes_of-s.result * 8) + c.lanes_of-s.result * 8 ≤ length c.args.«data».now = fits c.args.pic c.args.by c.loop-bx.bx c.across-row.result (c.lanes_of-s.result * 8) (lanes c.args.green) _
-    c.across-row.ensures size c.loop-bx-test.true c.requires.0.1 c.requires.0.0 in
+    c.across-row.ensures size c.loop-bx-test.true c.requires.green_in_bounds.1 c.requires.green_in_bounds.0 in
     omega (arith, there)
 
 pub slice_bounds-paint_block-end : goal.slice_bounds-paint_block-end
 slice_bounds-paint_block-end c =
     let size : c.lanes_of-s.result * 8 ≡ lanes c.args.green * 8 = ap (λ (z : ℕ). z * 8) c.lanes_of-s.ensures.0 in
     let there : (c.args.by * c.across-row.result + c.loop-bx.bx) * (c.lanes_of-s.result * 8) + c.lanes_of-s.result * 8 ≤ length c.args.«data».now = fits c.args.pic c.args.by c.loop-bx.bx c.across-row.result (c.lanes_of-s.result * 8) (lanes c.args.green) _
-    c.across-row.ensures size c.loop-bx-test.true c.requires.0.1 c.requires.0.0 in
+    c.across-row.ensures size c.loop-bx-test.true c.requires.green_in_bounds.1 c.requires.green_in_bounds.0 in
     omega (arith, there)
 
 pub paint_block-requires : goal.paint_block-requires
 paint_block-requires c =
     let size : c.lanes_of-s.result * 8 ≡ lanes c.args.green * 8 = ap (λ (z : ℕ). z * 8) c.lanes_of-s.ensures.0 in
     let there : (c.args.by * c.across-row.result + c.loop-bx.bx) * (c.lanes_of-s.result * 8) + c.lanes_of-s.result * 8 ≤ length c.args.«data».now = fits c.args.pic c.args.by c.loop-bx.bx c.across-row.result (c.lanes_of-s.result * 8) (lanes c.args.green) _
-    c.across-row.ensures size c.loop-bx-test.true c.requires.0.1 c.requires.0.0 in
+    c.across-row.ensures size c.loop-bx-test.true c.requires.green_in_bounds.1 c.requires.green_in_bounds.0 in
     let e = c.across-row.ensures in record { green_in_bounds = (
         simp (length-take, length-drop) (omega (arith, there, size)),
         c.before.alpha-steps.ensures,
-        subst (Ready (lanes c.args.green) c.args.pic) (sym (c.loop-bx.invariant.2.same ∙ c.paint_whole-bx.ensures.1.same)) c.requires.1,
-      ); bx_bound = (omega (arith, c.loop-bx-test.true, e, c.requires.1.narrow), omega (arith, c.requires.0.1, c.requires.0.2), c.requires.0.3) }
+        subst (Ready (lanes c.args.green) c.args.pic) (sym (c.loop-bx.invariant.2.same ∙ c.paint_whole-bx.ensures.1.same)) c.requires.ready,
+      ); bx_bound = (omega (arith, c.loop-bx-test.true, e, c.requires.ready.narrow), omega (arith, c.requires.green_in_bounds.1, c.requires.green_in_bounds.2), c.requires.green_in_bounds.3) }
 
 pub loop-bx-preserved : goal.loop-bx-preserved
 loop-bx-preserved c =

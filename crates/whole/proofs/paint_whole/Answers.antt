@@ -29,14 +29,14 @@ pub overflow_add-from : goal.overflow_add-from
 overflow_add-from c =
     let in_row : c.loop-bx.bx < c.across-row.result = omega (arith, c.loop-bx-test.true, c.whole_in-n.ensures.0, c.across-row.ensures) in
     let w = c.across-row in
-    omega (arith, small c.args.pic c.args.by w.result w.ensures c.requires.1.narrow c.requires.0.2 c.requires.0.1, in_row, w.ensures, c.requires.1.narrow)
+    omega (arith, small c.args.pic c.args.by w.result w.ensures c.requires.ready.narrow c.requires.green_in_bounds.2 c.requires.green_in_bounds.1, in_row, w.ensures, c.requires.ready.narrow)
 
 pub overflow_mul-from : goal.overflow_mul-from
 overflow_mul-from c =
     let size : c.lanes_of-s.result * 8 ≡ lanes c.args.green * 8 = ap (λ (z : ℕ). z * 8) c.lanes_of-s.ensures.0 in
     let in_row : c.loop-bx.bx < c.across-row.result = omega (arith, c.loop-bx-test.true, c.whole_in-n.ensures.0, c.across-row.ensures) in
     let there : (c.args.by * c.across-row.result + c.loop-bx.bx) * (c.lanes_of-s.result * 8) + c.lanes_of-s.result * 8 ≤ length c.args.«data».now = fits c.args.pic c.args.by c.loop-bx.bx c.across-row.result (c.lanes_of-s.result * 8) (lanes c.args.green) _
-    c.across-row.ensures size in_row c.requires.0.1 c.requires.0.0 in
+    c.across-row.ensures size in_row c.requires.green_in_bounds.1 c.requires.green_in_bounds.0 in
     omega (arith, there)
 
 pub overflow_add-end : goal.overflow_add-end
@@ -44,7 +44,7 @@ overflow_add-end c =
     let size : c.lanes_of-s.result * 8 ≡ lanes c.args.green * 8 = ap (λ (z : ℕ). z * 8) c.lanes_of-s.ensures.0 in
     let in_row : c.loop-bx.bx < c.across-row.result = omega (arith, c.loop-bx-test.true, c.whole_in-n.ensures.0, c.across-row.ensures) in
     let there : (c.args.by * c.across-row.result + c.loop-bx.bx) * (c.lanes_of-s.result * 8) + c.lanes_of-s.result * 8 ≤ length c.args.«data».now = fits c.args.pic c.args.by c.loop-bx.bx c.across-row.result (c.lanes_of-s.result * 8) (lanes c.args.green) _
-    c.across-row.ensures size in_row c.requires.0.1 c.requires.0.0 in
+    c.across-row.ensures size in_row c.requires.green_in_bounds.1 c.requires.green_in_bounds.0 in
     omega (arith, there)
 
 pub slice_bounds-whole_block-count : goal.slice_bounds-whole_block-count
@@ -52,7 +52,7 @@ slice_bounds-whole_block-count c =
     let size : c.lanes_of-s.result * 8 ≡ lanes c.args.green * 8 = ap (λ (z : ℕ). z * 8) c.lanes_of-s.ensures.0 in
     let in_row : c.loop-bx.bx < c.across-row.result = omega (arith, c.loop-bx-test.true, c.whole_in-n.ensures.0, c.across-row.ensures) in
     let there : (c.args.by * c.across-row.result + c.loop-bx.bx) * (c.lanes_of-s.result * 8) + c.lanes_of-s.result * 8 ≤ length c.args.«data».now = fits c.args.pic c.args.by c.loop-bx.bx c.across-row.result (c.lanes_of-s.result * 8) (lanes c.args.green) _
-    c.across-row.ensures size in_row c.requires.0.1 c.requires.0.0 in
+    c.across-row.ensures size in_row c.requires.green_in_bounds.1 c.requires.green_in_bounds.0 in
     omega (arith, there)
 
 pub slice_bounds-whole_block-start : goal.slice_bounds-whole_block-start
@@ -60,7 +60,7 @@ slice_bounds-whole_block-start c =
     let size : c.lanes_of-s.result * 8 ≡ lanes c.args.green * 8 = ap (λ (z : ℕ). z * 8) c.lanes_of-s.ensures.0 in
     let in_row : c.loop-bx.bx < c.across-row.result = omega (arith, c.loop-bx-test.true, c.whole_in-n.ensures.0, c.across-row.ensures) in
     let there : (c.args.by * c.across-row.result + c.loop-bx.bx) * (c.lanes_of-s.result * 8) + c.lanes_of-s.result * 8 ≤ length c.args.«data».now = fits c.args.pic c.args.by c.loop-bx.bx c.across-row.result (c.lanes_of-s.result * 8) (lanes c.args.green) _
-    c.across-row.ensures size in_row c.requires.0.1 c.requires.0.0 in
+    c.across-row.ensures size in_row c.requires.green_in_bounds.1 c.requires.green_in_bounds.0 in
     omega (arith, there)
 
 pub slice_bounds-whole_block-end : goal.slice_bounds-whole_block-end
@@ -68,7 +68,7 @@ slice_bounds-whole_block-end c =
     let size : c.lanes_of-s.result * 8 ≡ lanes c.args.green * 8 = ap (λ (z : ℕ). z * 8) c.lanes_of-s.ensures.0 in
     let in_row : c.loop-bx.bx < c.across-row.result = omega (arith, c.loop-bx-test.true, c.whole_in-n.ensures.0, c.across-row.ensures) in
     let there : (c.args.by * c.across-row.result + c.loop-bx.bx) * (c.lanes_of-s.result * 8) + c.lanes_of-s.result * 8 ≤ length c.args.«data».now = fits c.args.pic c.args.by c.loop-bx.bx c.across-row.result (c.lanes_of-s.result * 8) (lanes c.args.green) _
-    c.across-row.ensures size in_row c.requires.0.1 c.requires.0.0 in
+    c.across-row.ensures size in_row c.requires.green_in_bounds.1 c.requires.green_in_bounds.0 in
     omega (arith, there)
 
 pub whole_block-requires : goal.whole_block-requires
@@ -76,12 +76,12 @@ whole_block-requires c =
     let size : c.lanes_of-s.result * 8 ≡ lanes c.args.green * 8 = ap (λ (z : ℕ). z * 8) c.lanes_of-s.ensures.0 in
     let in_row : c.loop-bx.bx < c.across-row.result = omega (arith, c.loop-bx-test.true, c.whole_in-n.ensures.0, c.across-row.ensures) in
     let there : (c.args.by * c.across-row.result + c.loop-bx.bx) * (c.lanes_of-s.result * 8) + c.lanes_of-s.result * 8 ≤ length c.args.«data».now = fits c.args.pic c.args.by c.loop-bx.bx c.across-row.result (c.lanes_of-s.result * 8) (lanes c.args.green) _
-    c.across-row.ensures size in_row c.requires.0.1 c.requires.0.0 in
+    c.across-row.ensures size in_row c.requires.green_in_bounds.1 c.requires.green_in_bounds.0 in
     let w = c.whole_in-n.ensures in record { green_in_bounds = (
         simp (length-take, length-drop) (omega (arith, there, size)),
         c.alpha_steps-table.ensures,
-        subst (Ready (lanes c.args.green) c.args.pic) (sym c.loop-bx.invariant.1.2.same) c.requires.1,
-      ); bx_bound = (omega (arith, c.loop-bx-test.true, w.0), w.1 (omega (arith, c.loop-bx-test.true)), c.requires.0.3) }
+        subst (Ready (lanes c.args.green) c.args.pic) (sym c.loop-bx.invariant.1.2.same) c.requires.ready,
+      ); bx_bound = (omega (arith, c.loop-bx-test.true, w.0), w.1 (omega (arith, c.loop-bx-test.true)), c.requires.green_in_bounds.3) }
 
 pub loop-bx-preserved : goal.loop-bx-preserved
 loop-bx-preserved c =

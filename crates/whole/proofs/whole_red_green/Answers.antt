@@ -23,28 +23,28 @@ eight_wholes-green_eight-requires c = record { in_bounds = (search rules, c.requ
 
 -- the column of a tile is small
 pub overflow_mul-bx : goal.overflow_mul-bx
-overflow_mul-bx c = omega (arith, c.requires.1.0, c.requires.0.2.narrow)
+overflow_mul-bx c = omega (arith, c.requires.bx_bound.0, c.requires.in_bounds.2.narrow)
 
 pub place_whole-requires : goal.place_whole-requires
 place_whole-requires c =
     let wide : Room (twice c.args.pic) (length c.args.image.now) = room_twice c.args.pic c.requires.in_bounds.2.fits _ c.requires.in_bounds.2.roomy in
-    rw c.doubled-wide.ensures (omega (arith, c.requires.1.0), c.requires.1.1, wide)
+    rw c.doubled-wide.ensures (omega (arith, c.requires.bx_bound.0), c.requires.bx_bound.1, wide)
 
 pub overflow_mul-bx-2 : goal.overflow_mul-bx-2
-overflow_mul-bx-2 c = omega (arith, c.requires.1.0, c.requires.0.2.narrow)
+overflow_mul-bx-2 c = omega (arith, c.requires.bx_bound.0, c.requires.in_bounds.2.narrow)
 
 pub overflow_add-bx : goal.overflow_add-bx
-overflow_add-bx c = omega (arith, c.requires.1.0, c.requires.0.2.narrow)
+overflow_add-bx c = omega (arith, c.requires.bx_bound.0, c.requires.in_bounds.2.narrow)
 
 pub place_whole-requires-2 : goal.place_whole-requires-2
 place_whole-requires-2 c =
     let wide : Room (twice c.args.pic) (length c.args.image.now) = room_twice c.args.pic c.requires.in_bounds.2.fits _ c.requires.in_bounds.2.roomy in
-    rw c.doubled-wide.ensures (omega (arith, c.requires.1.0), c.requires.1.1, kept (twice c.args.pic) _ _ wide c.place_whole.ensures.same)
+    rw c.doubled-wide.ensures (omega (arith, c.requires.bx_bound.0), c.requires.bx_bound.1, kept (twice c.args.pic) _ _ wide c.place_whole.ensures.same)
 
 pub returns : goal.returns
 returns c =
     let a = c.args in
-    both_tiles a.pic c.requires.0.2.fits a.span.signed a.d.now c.eac_sixteens-red.result c.eac_sixteens-green.result
+    both_tiles a.pic c.requires.in_bounds.2.fits a.span.signed a.d.now c.eac_sixteens-red.result c.eac_sixteens-green.result
     c.eac_sixteens-red.ensures
     (c.eac_sixteens-green.ensures ∙ ap (λ (l : List ℕ). build 16 (value_at a.span.signed l)) (rest 8 a.d.now))
     a.bx a.by _ c.pairs.result c.pairs-2.result a.image.now _ _ (omega arith)

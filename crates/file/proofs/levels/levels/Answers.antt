@@ -49,10 +49,10 @@ loop-i-preserved c = let t = c.level_at-level in
       omega arith,
       c.next_spot-s.ensures.1,
       c.next_spot-s.ensures.2,
-      onward a.l a.bytes.now a.n l.false l.found l.i l.s c.in-Fits.start _ _ _
+      onward a.l a.bytes.now a.n l.left l.found l.i l.s c.in-Fits.start _ _ _
           (omega arith)
           (sym c.in-Fits.is ∙ c.fit_of-fit.ensures)
-          (c.left_behind-left.ensures ∙ ap (λ (z : FileLevel). lesser l.false (length a.bytes.now - (z.start + z.length))) t.ensures)
+          (c.left_behind-left.ensures ∙ ap (λ (z : FileLevel). lesser l.left (length a.bytes.now - (z.start + z.length))) t.ensures)
           (c.chosen-found.ensures ∙ ap (λ (z : FileLevel). chosen a.n l.i z l.found) t.ensures)
           c.next_spot-s.ensures.0
           ∙ l.invariant.3,
@@ -61,9 +61,9 @@ loop-i-preserved c = let t = c.level_at-level in
 pub returns-in-Refused : goal.returns-in-Refused
 returns-in-Refused c = let l = c.loop-i in
     let a = c.args in
-    stops a.l a.bytes.now a.n l.false l.found l.i l.s _ (omega arith) (sym c.in-Refused.is ∙ c.fit_of-fit.ensures) ∙ l.invariant.3
+    stops a.l a.bytes.now a.n l.left l.found l.i l.s _ (omega arith) (sym c.in-Refused.is ∙ c.fit_of-fit.ensures) ∙ l.invariant.3
 
 pub returns : goal.returns
 returns c = let l = c.loop-i in
     let a = c.args in
-    sym (over a.l a.bytes.now a.n l.false l.found l.i l.s (omega arith)) ∙ l.invariant.3
+    sym (over a.l a.bytes.now a.n l.left l.found l.i l.s (omega arith)) ∙ l.invariant.3

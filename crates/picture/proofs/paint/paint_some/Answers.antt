@@ -13,7 +13,7 @@ use Rattle.picture.proofs.paint.paint_some.Goals as goal
 pub block_at-tile-requires : goal.block_at-tile-requires
 block_at-tile-requires c =
     let a = c.args in
-    room (size_of a.f) a.false 0 (length a.«data».now) c.requires.left_nonzero.0 c.requires.left_nonzero.1
+    room (size_of a.f) a.left 0 (length a.«data».now) c.requires.left_nonzero.0 c.requires.left_nonzero.1
 
 pub returns-then-n-eq0 : goal.returns-then-n-eq0
 returns-then-n-eq0 c =

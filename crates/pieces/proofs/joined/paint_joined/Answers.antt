@@ -23,12 +23,12 @@ returns-then-held-eq0 c = rw c.if-held-eq0.true c.paint.ensures
 pub paint-requires-2 : goal.paint-requires-2
 paint-requires-2 c =
     let some : c.args.first < c.args.last = omega (arith, c.if-first-last.false, c.requires.width_le_limit.2) in
-    let l : length c.first_block-joint.result ≡ 16 = ap length c.first_block-joint.ensures in record { width_le_limit = (c.requires.0.0, c.requires.0.1, omega arith, omega (arith, some, c.requires.0.3)); room = (c.requires.0.4, omega (arith, one_block c.args.first (size_of c.args.f), c.size.ensures.0)) }
+    let l : length c.first_block-joint.result ≡ 16 = ap length c.first_block-joint.ensures in record { width_le_limit = (c.requires.width_le_limit.0, c.requires.width_le_limit.1, omega arith, omega (arith, some, c.requires.width_le_limit.3)); room = (c.requires.width_le_limit.4, omega (arith, one_block c.args.first (size_of c.args.f), c.size.ensures.0)) }
 
 pub slice_bounds-paint-count : goal.slice_bounds-paint-count
 slice_bounds-paint-count c =
     let some : c.args.first < c.args.last = omega (arith, c.if-first-last.false, c.requires.width_le_limit.2) in
-    let parted : (c.args.last - (c.args.first + 1)) * size_of c.args.f + size_of c.args.f ≤ c.args.held + length c.args.bytes.now = omega (arith, peel c.args.first c.args.last (size_of c.args.f) some, c.requires.1.1) in
+    let parted : (c.args.last - (c.args.first + 1)) * size_of c.args.f + size_of c.args.f ≤ c.args.held + length c.args.bytes.now = omega (arith, peel c.args.first c.args.last (size_of c.args.f) some, c.requires.held_bound.1) in
     omega (arith, parted, c.size.ensures.0)
 
 pub slice_bounds-paint-start : goal.slice_bounds-paint-start
@@ -37,8 +37,8 @@ slice_bounds-paint-start c = sub-paint c
 pub paint-requires-3 : goal.paint-requires-3
 paint-requires-3 c =
     let some : c.args.first < c.args.last = omega (arith, c.if-first-last.false, c.requires.width_le_limit.2) in
-    let parted : (c.args.last - (c.args.first + 1)) * size_of c.args.f + size_of c.args.f ≤ c.args.held + length c.args.bytes.now = omega (arith, peel c.args.first c.args.last (size_of c.args.f) some, c.requires.1.1) in record { width_le_limit = (c.requires.0.0, c.requires.0.1, omega (arith, some), c.requires.0.3); room = (
-        kept c.args.pic _ _ c.requires.0.4 c.paint-2.ensures.same,
+    let parted : (c.args.last - (c.args.first + 1)) * size_of c.args.f + size_of c.args.f ≤ c.args.held + length c.args.bytes.now = omega (arith, peel c.args.first c.args.last (size_of c.args.f) some, c.requires.held_bound.1) in record { width_le_limit = (c.requires.width_le_limit.0, c.requires.width_le_limit.1, omega (arith, some), c.requires.width_le_limit.3); room = (
+        kept c.args.pic _ _ c.requires.width_le_limit.4 c.paint-2.ensures.same,
         omega (arith, parted, c.size.ensures.0, ap length (rest (c.size.result - c.args.held) c.args.bytes.now), length-drop (c.size.result - c.args.held) c.args.bytes.now),
       ) }
 
@@ -47,7 +47,7 @@ returns c =
     let fifteen : length c.args.kept ≡ 15 = search rules in
     let hand : List ℕ = take c.args.held c.args.kept ++ c.args.bytes.now in
     let some : c.args.first < c.args.last = omega (arith, c.if-first-last.false, c.requires.width_le_limit.2) in
-    let parted : (c.args.last - (c.args.first + 1)) * size_of c.args.f + size_of c.args.f ≤ c.args.held + length c.args.bytes.now = omega (arith, peel c.args.first c.args.last (size_of c.args.f) some, c.requires.1.1) in
+    let parted : (c.args.last - (c.args.first + 1)) * size_of c.args.f + size_of c.args.f ≤ c.args.held + length c.args.bytes.now = omega (arith, peel c.args.first c.args.last (size_of c.args.f) some, c.requires.held_bound.1) in
     let a = c.args in
     let w = size_of a.f in
     let e = c.size.ensures in
@@ -61,6 +61,6 @@ returns c =
     (other_bytes a.pic (shows_of a.f) (a.first + 1) a.last _ (bytes_from w a.first hand) _ _
     (λ n i j.
     ap (λ (l : List ℕ). bytes_of w l (n - (a.first + 1))) (rest (c.size.result - a.held) a.bytes.now ∙ ap (λ (x : ℕ). drop (x - a.held) a.bytes.now) e.0)
-    ∙ later_block w (n - (a.first + 1)) (n - a.first) a.held a.kept a.bytes.now (omega (arith, c.requires.1.0)) long (omega arith)
-    (room w (a.last - a.first) (n - a.first) _ (omega (arith, some)) c.requires.1.1))
+    ∙ later_block w (n - (a.first + 1)) (n - a.first) a.held a.kept a.bytes.now (omega (arith, c.requires.held_bound.0)) long (omega arith)
+    (room w (a.last - a.first) (n - a.first) _ (omega (arith, some)) c.requires.held_bound.1))
     c.paint-3.ensures)
