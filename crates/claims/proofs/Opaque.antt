@@ -143,7 +143,7 @@ module _ (d : List ℕ) (pic : Picture) (image : List ℕ) where
     unfolding size_of
     opaque_reads_no_data_beyond_the_last_block e b new' same q =
         only_blocks_are_read (shows_of Etc2Rgba1) 8 pic image (opaque_verdict pic d image) (opaque_verdict pic e image) d e a b new new' p q same
-        (verdict_alike 8 pic d e same (lit< tt) (length image) (guarded 11 (clear d) (blocks pic)) (guarded 11 (clear e) (blocks pic)) (guarded-claims.guard-alike opaque_only d e pic same))
+        (verdict_alike 8 pic d e same (lit< tt) (length image) (guarded 11 (clear d) (blocks pic)) (guarded 11 (clear e) (blocks pic)) (guarded-claims.guard_alike opaque_only d e pic same))
 
     -- so what follows the blocks is ignored
     pub opaque_ignores_what_follows : (more : List ℕ) (b : Answer) (new' : List ℕ) → blocks pic * 8 ≤ length d → ReadsOpaque (d ++ more) pic image b new' → Same a b new new'

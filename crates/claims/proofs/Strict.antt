@@ -115,4 +115,4 @@ module _ (d : List ℕ) (pic : Picture) (image : List ℕ) where
     strict_reads_no_data_beyond_the_last_block e b new' long same q =
         only_blocks_are_read (shows_of Etc2Rgb) 8 pic image (strict_verdict pic d image) (strict_verdict pic e image) d e a b new new' p q same
         (ap (λ (n : ℕ). judged (exact_checks 8 pic n (length image)) (guarded 4 (bad d) (blocks pic))) long
-        ∙ ap (judged (exact_checks 8 pic (length e) (length image))) (guarded-claims.guard-alike in_range d e pic same))
+        ∙ ap (judged (exact_checks 8 pic (length e) (length image))) (guarded-claims.guard_alike in_range d e pic same))

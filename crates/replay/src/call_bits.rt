@@ -44,10 +44,6 @@ fn painted(pixels: &[u32; 16], image: &mut [u32]) -> Answer {
     if image.len() < 16 {
         return Answer::ShortImage;
     }
-    let mut i: usize = 0;
-    while i < 16 {
-        image[i] = pixels[i];
-        i += 1;
-    }
+    image[..16].copy_from_slice(pixels);
     Answer::Done
 }

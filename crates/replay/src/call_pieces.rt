@@ -49,7 +49,7 @@ fn rgtc(k: usize) -> Format {
 }
 
 fn sum(a: usize, b: usize) -> usize {
-    std::num::wrapping_add_usize(a, b)
+    a.wrapping_add(b)
 }
 
 fn least(a: usize, b: usize) -> usize
@@ -137,11 +137,9 @@ pub fn scattered(k: usize, c: Case, data: &[u8], image: &mut [u32]) -> Said {
     }
     let mut course = begin(k, c, image);
     let mut v = moved(c.b);
-    let mut left = least(c.c, 64);
-    while left > 0 {
+    for _ in 0..least(c.c, 64) {
         course = follow(course, length_of(v), data, image);
         v = moved(v);
-        left -= 1;
     }
     ended(follow(course, data.len(), data, image))
 }

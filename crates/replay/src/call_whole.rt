@@ -39,10 +39,8 @@ fn narrowed(image: &[u32], values: &mut [u16]) {
     if values.len() < image.len() {
         return;
     }
-    let mut i = 0;
-    while i < image.len() {
-        values[i] = (image[i] % 0x10000) as u16;
-        i += 1;
+    for (value, element) in values.iter_mut().zip(image) {
+        *value = (element % 0x10000) as u16;
     }
 }
 
@@ -55,10 +53,8 @@ fn widened(values: &[u16], image: &mut [u32]) {
     if values.len() < image.len() {
         return;
     }
-    let mut i = 0;
-    while i < image.len() {
-        image[i] = wide(values[i]);
-        i += 1;
+    for (element, value) in image.iter_mut().zip(values) {
+        *element = wide(*value);
     }
 }
 

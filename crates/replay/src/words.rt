@@ -25,10 +25,8 @@ pub fn unpack(part: &[u8], n: usize, words: &mut [u32]) {
     if part.len() / 4 < n {
         return;
     }
-    let mut i: usize = 0;
-    while i < n {
+    for i in 0..n {
         words[i] = word_at(part, i * 4);
-        i += 1;
     }
 }
 
@@ -54,9 +52,7 @@ pub fn pack(words: &[u32], n: usize, part: &mut [u8]) {
     if part.len() / 4 < n {
         return;
     }
-    let mut i: usize = 0;
-    while i < n {
+    for i in 0..n {
         put(words[i], part, i * 4);
-        i += 1;
     }
 }

@@ -18,6 +18,9 @@ overflow_mul-whole c =
     let fits : c.blocks_of.result * c.size-s.result ≤ 4294967296 = mul-le-mul c.blocks_of.ensures.1 c.size-s.ensures.1 in
     omega (arith, fits)
 
+reckon : (w W g G u n : ℕ) → w ≡ W → g ≡ G → u ≡ min n (w - g) → g ≤ w → g + u ≡ min (G + n) W
+reckon w W g G u n a b c d = omega arith
+
 pub overflow_add-later : goal.overflow_add-later
 overflow_add-later c =
     let s-of : ℕ = c.size-s.result in
@@ -90,10 +93,7 @@ returns c =
     let whole_is : B-of * s-of ≡ whole p-of = ap (λ (x : ℕ). x * s-of) c.blocks_of.ensures.0
     ∙ ap (λ (x : ℕ). blocks p-of.picture * x) c.size-s.ensures.0 in
     let got_is : G-of ≡ got p-of = c.least-got.ensures ∙ ap (min p-of.taken) whole_is in
-    let later_is : L-of ≡ later p-of c.args.bytes.now = reckon _ _ _ _ _ _ whole_is got_is c.least-used.ensures (omega (arith, c.least-got.ensures))
-  where
-    reckon : (w W g G u n : ℕ) → w ≡ W → g ≡ G → u ≡ min n (w - g) → g ≤ w → g + u ≡ min (G + n) W
-    reckon w W g G u n a b c d = omega arith in
+    let later_is : L-of ≡ later p-of c.args.bytes.now = reckon _ _ _ _ _ _ whole_is got_is c.least-used.ensures (omega (arith, c.least-got.ensures)) in
     let a = c.args in
     took a.p a.bytes.now a.image.now s-of G-of L-of c.rest_of-rest.result _ _
     c.size-s.ensures.0 got_is later_is c.rest_of-rest.ensures (omega arith) c.paint_joined.ensures

@@ -14,16 +14,16 @@ use Rattle.whole.proofs.paint.Goals as goal
 pub loop-by-init : goal.loop-by-init
 loop-by-init c =
     let a = c.args in
-    top (lanes a.green) c.span_of.result.signed a.«data».now a.pic a.image.now
+    top (lanes a.green) c.span_of-span.result.signed a.«data».now a.pic a.image.now
 
 pub paint_row-requires : goal.paint_row-requires
-paint_row-requires c = record { green_in_bounds = (c.requires.enough, omega (arith, c.loop-by-test.true, c.across-rows.ensures), c.requires.low, c.span_of.ensures.1); ready = subst (Ready (lanes c.args.green) c.args.pic) (sym c.loop-by.invariant.1.same) (ready c.args.green c.args.pic _ _ _ c.requires) }
+paint_row-requires c = record { green_in_bounds = (c.requires.enough, omega (arith, c.loop-by-test.true, c.across-rows.ensures), c.requires.low, c.span_of-span.ensures.1); ready = subst (Ready (lanes c.args.green) c.args.pic) (sym c.loop-by.invariant.1.same) (ready c.args.green c.args.pic _ _ _ c.requires) }
 
 pub loop-by-preserved : goal.loop-by-preserved
 loop-by-preserved c =
     let a = c.args in
     let l = c.loop-by in
-    next_row (lanes a.green) c.span_of.result.signed a.«data».now a.pic l.by a.image.now l.image _
+    next_row (lanes a.green) c.span_of-span.result.signed a.«data».now a.pic l.by a.image.now l.image _
     (omega (arith, c.loop-by-test.true, c.across-rows.ensures)) l.invariant c.paint_row.ensures
 
 pub shape_of-image : goal.shape_of-image
@@ -31,7 +31,7 @@ shape_of-image c = c.loop-by.invariant.1.same
 
 pub returns : goal.returns
 returns c =
-    let z = c.span_of in
+    let z = c.span_of-span in
     let a = c.args in
     bottom (lanes a.green) z.result.signed a.«data».now a.pic c.loop-by.by a.image.now c.loop-by.image
     (omega (arith, c.loop-by-test.false, c.across-rows.ensures)) c.loop-by.invariant

@@ -5,7 +5,7 @@ use Rattle.whole.proofs.paint_block.Goals as goal
 
 pub paint_red_green-requires : goal.paint_red_green-requires
 paint_red_green-requires c =
-    let p = c.requires in record { in_bounds = (rw c.if-green.true at p.0.0, p.0.1, rw c.if-green.true at p.0.2); bx_bound = p.1 }
+    let p = c.requires in record { in_bounds = (rw c.if-green.true at p.green_in_bounds.0, p.green_in_bounds.1, rw c.if-green.true at p.green_in_bounds.2); bx_bound = p.bx_bound }
 
 pub returns-then-green : goal.returns-then-green
 returns-then-green c =
@@ -13,7 +13,7 @@ returns-then-green c =
 
 pub paint_red-requires : goal.paint_red-requires
 paint_red-requires c =
-    let p = c.requires in record { in_bounds = (rw c.if-green.false at p.0.0, p.0.1, rw c.if-green.false at p.0.2); bx_bound = p.1 }
+    let p = c.requires in record { in_bounds = (rw c.if-green.false at p.green_in_bounds.0, p.green_in_bounds.1, rw c.if-green.false at p.green_in_bounds.2); bx_bound = p.bx_bound }
 
 pub returns : goal.returns
 returns c =

@@ -69,7 +69,7 @@ paint_block-requires c =
     c.across-row.ensures size c.loop-bx-test.true c.requires.green_in_bounds.1 c.requires.green_in_bounds.0 in
     let e = c.across-row.ensures in record { green_in_bounds = (
         simp (length-take, length-drop) (omega (arith, there, size)),
-        c.before.alpha-steps.ensures,
+        c.before.alpha_steps-table.ensures,
         subst (Ready (lanes c.args.green) c.args.pic) (sym (c.loop-bx.invariant.2.same ∙ c.paint_whole-bx.ensures.1.same)) c.requires.ready,
       ); bx_bound = (omega (arith, c.loop-bx-test.true, e, c.requires.ready.narrow), omega (arith, c.requires.green_in_bounds.1, c.requires.green_in_bounds.2), c.requires.green_in_bounds.3) }
 

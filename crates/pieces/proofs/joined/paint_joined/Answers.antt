@@ -32,7 +32,10 @@ slice_bounds-paint-count c =
     omega (arith, parted, c.size.ensures.0)
 
 pub slice_bounds-paint-start : goal.slice_bounds-paint-start
-slice_bounds-paint-start c = sub-paint c
+slice_bounds-paint-start c =
+    let some : c.args.first < c.args.last = omega (arith, c.if-first-last.false, c.requires.width_le_limit.2) in
+    let parted : (c.args.last - (c.args.first + 1)) * size_of c.args.f + size_of c.args.f ≤ c.args.held + length c.args.bytes.now = omega (arith, peel c.args.first c.args.last (size_of c.args.f) some, c.requires.held_bound.1) in
+    omega (arith, parted, c.size.ensures.0)
 
 pub paint-requires-3 : goal.paint-requires-3
 paint-requires-3 c =
