@@ -14,7 +14,7 @@ returns c =
     record {
       reply = reply;
       reads =
-          subst (λ (x : Legend). ReadsDegrees x a.named a.shown a.pixel a.decreases reply) c.legend_at-legend.ensures c.read_degrees.ensures;
+          subst (λ (x : Legend). ReadsDegrees x a.named a.shown a.pixel a.measured reply) c.legend_at-legend.ensures c.read_degrees.ensures;
       says = h.0;
       the_predicted = h.1;
       the_measured = h.2;
