@@ -1,7 +1,7 @@
 -- The eight values of a block as the machine makes them, the one that each pixel picks, and what `eac_bytes` hands on: sixteen numbers,
 -- each the byte of its pixel and below 256.
 -- Assumes nothing.
-use Rattle.std.proofs.Common.{◌≡◌, ℕ, ◌+◌, ◌*◌, ◌/◌, ◌%◌, ◌^◌, ◌<◌, Bool, true, false, T, List, [], get_or, ℤ, pos, ◌+ℤ◌, ◌*ℤ◌, nat_abs, sym, refl, ap, ◌∙◌, subst, arith, w16}
+use Rattle.std.proofs.Common.{◌≡◌, ℕ, ◌/◌, ◌%◌, ◌^◌, ◌<◌, Bool, true, false, T, List, [], get_or, ℤ, pos, ◌+ℤ◌, ◌*ℤ◌, nat_abs, sym, refl, ap, ◌∙◌, subst, arith, w16}
 use lib.IntN.{+ℤ_comm}
 use lib.Signed.{mag, lt_z, non_neg}
 use Rattle.rules.specs.Notation.{byte, bits, build}

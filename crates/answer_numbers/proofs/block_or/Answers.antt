@@ -4,7 +4,6 @@ use mathlib.Core.Path.{sym, ap}
 use lib.ListN.{get_or}
 use Rattle.rules.specs.Answers.{said}
 use Rattle.rules.specs.declared.Answer.{Answer}
-use borrow.Author.Rules.{rules}
 use Rattle.answer_numbers.proofs.block_or.Goals as goal
 
 pub returns-in-Done : goal.returns-in-Done

@@ -4,7 +4,6 @@ use mathlib.Core.Path.{sym, ap}
 use Rattle.rules.specs.Answers.{said}
 use Rattle.rules.specs.declared.Answer.{Answer}
 use Rattle.answer_numbers.specs.Value.{has_value}
-use borrow.Author.Rules.{rules}
 use Rattle.answer_numbers.proofs.names.Goals as goal
 
 pub returns-in-Done : goal.returns-in-Done

@@ -1,19 +1,9 @@
 -- Each pixel that was passed is near.
 -- Assumes nothing.
 use mathlib.Core.Path.{◌≡◌, ◌∙◌, refl, sym, ap}
-use mathlib.Core.Bool.{Bool, true}
-use mathlib.Core.List.{List}
-use Prim.Native.Nat.{ℕ, ◌-◌, ◌≤◌}
 use native.Mathlib.Omega.{arith}
-use lib.ListN.{get_or}
-use borrow.Author.Tests.{not-true, not-false}
-use borrow.Author.Rules.{rules}
 use Rattle.rules.specs.Counting.{each}
-use Rattle.rules.specs.Checking.{near}
 use Rattle.bake.proofs.baking.Each.{each_next, each_not}
-use Rattle.bake_check.proofs.all_near.Reads as reads
-use Rattle.bake_check.proofs.all_near.Lts as lts
-use Rattle.bake.proofs.distance.near.Reads as near-reads
 use Rattle.bake_check.proofs.all_near.Invariants.{test}
 use Rattle.bake_check.proofs.all_near.Goals as goal
 

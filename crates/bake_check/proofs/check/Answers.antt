@@ -3,7 +3,6 @@
 use mathlib.Core.Path.{◌≡◌, ◌∙◌, sym, ap}
 use mathlib.Core.Bool.{Bool, true, false, cond}
 use mathlib.Core.List.{[], ◌∷◌}
-use borrow.Author.Tests.{not-true, not-false}
 use Rattle.rules.specs.Colour.{out_of_range_lem}
 use Rattle.rules.specs.Checking.{like, check_verdict}
 use Rattle.laws.specs.Kinds.{strange}

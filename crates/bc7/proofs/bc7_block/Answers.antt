@@ -6,7 +6,6 @@ use Rattle.rules.specs.Notation.{build}
 use Rattle.rules.specs.Bc7.{block_word, pixel_of, bc7_pixel}
 use Rattle.laws.proofs.Filled.{build_same}
 use Rattle.bc.proofs.bc1.Shown.{by_row}
-use borrow.Author.Rules.{rules}
 use Rattle.bc7.proofs.bc7_block.Goals as goal
 
 pub returns : goal.returns

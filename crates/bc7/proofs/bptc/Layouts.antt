@@ -1,7 +1,7 @@
 -- What a layout says of each pixel: its subset, and whether it is an anchor. A law of packed numbers, at any partition.
 -- Assumes nothing.
 use mathlib.Core.Path.{◌≡◌}
-use Prim.Native.Nat.{ℕ, suc, ◌-◌, ◌*◌, ◌/◌, ◌%◌, ◌^◌, ◌<◌}
+use Prim.Native.Nat.{ℕ, suc, ◌*◌, ◌/◌, ◌%◌, ◌^◌, ◌<◌}
 use lib.Dec.{T, eqb, eqb→eq}
 use Rattle.rules.specs.Bptc.{two, three, anchor_of_two, anchor_of_three1, anchor_of_three2, subset, anchor}
 use Rattle.rules.specs.Bc7.{is_anchor}

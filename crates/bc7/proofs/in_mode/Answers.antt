@@ -13,7 +13,6 @@ use Rattle.bc7.specs.bptc.Layout.{layout_of}
 use Rattle.bc7.specs.endpoints.Stages.{Sane}
 use Rattle.bc7.proofs.endpoints.Fetch.{sane}
 use Rattle.bc7.proofs.Pixel.{partition_below, weights_most, one_most, weights_by, pixels_said}
-use borrow.Author.Rules.{rules}
 use Rattle.bc7.proofs.in_mode.Goals as goal
 
 pub front_of-h-requires : goal.front_of-h-requires

@@ -11,7 +11,6 @@ use Rattle.rules.specs.Notation.{build}
 use Rattle.rules.specs.Bc7.{lowest, mode_of, mode_at, pixel_in, pixel_of}
 use Rattle.bc7.specs.rest.Whole.{whole}
 use Rattle.laws.proofs.Filled.{is_build}
-use borrow.Author.Rules.{rules}
 use Rattle.bc7.proofs.of_words.Goals as goal
 
 -- the first byte is the low word's

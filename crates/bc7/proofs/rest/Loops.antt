@@ -1,7 +1,7 @@
 -- The invariants of the two loops over what is left of a block's bits, and their steps.
 -- Assumes nothing.
 use mathlib.Core.Path.{◌≡◌, ◌∙◌, refl, sym, ap}
-use mathlib.Core.List.{List, []}
+use mathlib.Core.List.{List}
 use Prim.Native.Nat.{ℕ, zero, suc, ◌+◌, ◌-◌, ◌*◌, ◌/◌, ◌%◌, ◌^◌, ◌<◌, ◌≤◌}
 use native.Mathlib.Nat.{add-mul, one-mul, zero-mul, div-one}
 use native.Mathlib.Numerals.{add-one}

@@ -8,7 +8,6 @@ use borrow.Author.Tests.{eq-eqb, ne_eqb}
 use Rattle.rules.specs.Bptc.{weights_of}
 use Rattle.rules.specs.Notation.{build}
 use Rattle.bc7.specs.rest.Whole.{whole, passed_by, width_by}
-use borrow.Author.Rules.{rules}
 use Rattle.bc7.proofs.second_weights.Goals as goal
 
 pub returns-then-k-eq0 : goal.returns-then-k-eq0

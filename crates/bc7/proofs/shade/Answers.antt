@@ -2,13 +2,9 @@
 -- Assumes nothing.
 use Rattle.bc7.proofs.Steps.{same_rotated}
 use mathlib.Core.Path.{◌∙◌, refl}
-use mathlib.Core.List.{List}
-use Prim.Native.Nat.{ℕ, ◌-◌, ◌*◌, ◌/◌, ◌%◌, ◌^◌}
 use native.Mathlib.Omega.{arith}
-use lib.ListN.{get_or, replicate}
-use Rattle.rules.specs.Bc7.{rotated}
-use Rattle.laws.proofs.Filling.{Filling, in_order_lem, begun, stored_next, filled_all}
-use Rattle.bc7.specs.Shaded.{between}
+use lib.ListN.{replicate}
+use Rattle.laws.proofs.Filling.{in_order_lem, begun, stored_next, filled_all}
 use Rattle.bc7.proofs.shade.Invariants.{shade_of}
 use Rattle.bc7.proofs.shade.Goals as goal
 

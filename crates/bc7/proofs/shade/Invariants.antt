@@ -1,12 +1,9 @@
 -- The invariant and the measure of the loop of `bc7::shade`.
-use Rattle.bc7.proofs.Steps.{same_rotated}
-use mathlib.Core.Path.{◌∙◌, refl}
 use mathlib.Core.List.{List}
 use Prim.Native.Nat.{ℕ, ◌-◌, ◌*◌, ◌/◌, ◌%◌, ◌^◌}
-use native.Mathlib.Omega.{arith}
-use lib.ListN.{get_or, replicate}
+use lib.ListN.{get_or}
 use Rattle.rules.specs.Bc7.{rotated}
-use Rattle.laws.proofs.Filling.{Filling, in_order_lem, begun, stored_next, filled_all}
+use Rattle.laws.proofs.Filling.{Filling, in_order_lem}
 use Rattle.bc7.specs.Shaded.{between}
 use Rattle.bc7.proofs.shade.Given as goal
 

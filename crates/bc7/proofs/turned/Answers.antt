@@ -1,7 +1,6 @@
 -- `bc7::turned` meets its contract: rotation by rotation.
 -- Assumes nothing.
 use borrow.Author.Tests.{eq-eqb, ne_eqb}
-use borrow.Author.Rules.{rules}
 use Rattle.bc7.proofs.turned.Goals as goal
 
 pub returns-then-t-eq1 : goal.returns-then-t-eq1

@@ -14,7 +14,6 @@ use Rattle.laws.proofs.Number.{joined}
 use Rattle.bc7_held.specs.declared.Sixteen.{Sixteen}
 use Rattle.bc7_held.specs.Sixteen.{sixteen_of}
 use Rattle.bc7_held.proofs.ByteReads.{there, both}
-use borrow.Author.Rules.{rules}
 use Rattle.bc7_held.proofs.block_from.Goals as goal
 
 abbrev sixteen_in : List ℕ → Sixteen

@@ -2,7 +2,6 @@
 -- Assumes nothing.
 use mathlib.Core.Path.{◌∙◌}
 use Rattle.bc7_held.proofs.ByteReads.{value, not_refused}
-use borrow.Author.Rules.{rules}
 use Rattle.bc7_held.proofs.byte_at.Goals as goal
 
 pub returns-in-Value : goal.returns-in-Value

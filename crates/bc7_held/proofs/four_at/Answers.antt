@@ -6,7 +6,6 @@ use native.Mathlib.Omega.{arith}
 use Rattle.rules.specs.Bits.{field_at}
 use Rattle.laws.proofs.Refuse.{within}
 use Rattle.bc7_held.proofs.ByteReads.{four, below}
-use borrow.Author.Rules.{rules}
 use Rattle.bc7_held.proofs.four_at.Goals as goal
 
 pub byte_at-a-requires : goal.byte_at-a-requires

@@ -4,7 +4,6 @@ use mathlib.Core.Path.{◌∙◌, sym}
 use native.Mathlib.Omega.{arith}
 use lib.ListN.{length}
 use Rattle.bc7_held.proofs.ByteReads.{too_far, near, same_end}
-use borrow.Author.Rules.{rules}
 use Rattle.bc7_held.proofs.missing.Goals as goal
 
 pub returns-then-place-lt128 : goal.returns-then-place-lt128

@@ -2,7 +2,6 @@
 -- Assumes nothing.
 use Rattle.laws.proofs.Number.{joined}
 use Rattle.bc7_held.proofs.ByteReads.{both}
-use borrow.Author.Rules.{rules}
 use Rattle.bc7_held.proofs.word_at.Goals as goal
 
 pub returns : goal.returns

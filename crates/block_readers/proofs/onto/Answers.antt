@@ -7,7 +7,6 @@ use lib.ListN.{get_or}
 use Rattle.rules.specs.Notation.{build}
 use Rattle.block_readers.specs.Joins.{join_of, byte_of}
 use Rattle.block_readers.specs.declared.Joined.{Joined}
-use borrow.Author.Rules.{rules}
 use Rattle.block_readers.proofs.onto.Goals as goal
 
 -- what is joined, once a match has told which it is

@@ -9,7 +9,6 @@ use Rattle.laws.proofs.Outcome.{unchanged, done}
 use Rattle.laws.proofs.Paint.{is_painted}
 use Rattle.laws.proofs.Unique.{refusal}
 use Rattle.block_readers.proofs.Block.{Passed, passed}
-use borrow.Author.Rules.{rules}
 use Rattle.block_readers.proofs.read_alpha.Goals as goal
 
 pub returns-in_default : goal.returns-in_default

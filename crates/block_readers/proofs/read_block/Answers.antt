@@ -10,7 +10,6 @@ use Rattle.block_readers.proofs.Block.{Passed, passed, sixteen}
 use native.Mathlib.Omega.{arith}
 use Rattle.rules.specs.Formats.{size_of, shows_of}
 use Rattle.blocks.proofs.First.{first_block}
-use borrow.Author.Rules.{rules}
 use Rattle.block_readers.proofs.read_block.Goals as goal
 
 pub returns-in_default : goal.returns-in_default

@@ -2,7 +2,6 @@
 -- Assumes nothing.
 use mathlib.Core.Path.{◌∙◌, sym, subst}
 use lib.Dec.{T}
-use borrow.Author.Rules.{rules}
 use Rattle.blocks.proofs.alphas_where.Goals as goal
 
 pub returns-else-alpha : goal.returns-else-alpha

@@ -6,7 +6,6 @@ use native.Mathlib.Omega.{arith}
 use lib.ListN.{length}
 use Rattle.rules.specs.Formats.{size_of, shows_of}
 use Rattle.blocks.proofs.Alone.{enough, alone, whole_four}
-use borrow.Author.Rules.{rules}
 use Rattle.blocks.proofs.block_at.Goals as goal
 
 pub overflow_mul-at : goal.overflow_mul-at

@@ -1,6 +1,5 @@
 -- `blocks::paint_colour` meets its contract: without an alpha half, and with one.
 -- Assumes nothing.
-use borrow.Author.Tests.{not-true, not-false}
 use Rattle.blocks.proofs.Colour.{without, with_alpha_lem, as_tile}
 use borrow.Author.Rules.{rules}
 use Rattle.blocks.proofs.paint_colour.Goals as goal

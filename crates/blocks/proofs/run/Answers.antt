@@ -3,7 +3,6 @@
 use Rattle.rules.specs.Channels.{rgba8_pixel}
 use Rattle.rules.specs.Formats.{size_of, shows_of}
 use Rattle.blocks.proofs.Formats.{enough, shown}
-use borrow.Author.Rules.{rules}
 use Rattle.blocks.proofs.run.Goals as goal
 
 pub run_colour-requires : goal.run_colour-requires

@@ -1,12 +1,10 @@
 -- `blocks::run_bc1` meets its contract: turn i paints block i.
 -- Assumes nothing.
-use Prim.Native.Nat.{◌-◌}
 use native.Mathlib.Omega.{arith}
 use mathlib.Core.Bool.{false}
 use Rattle.rules.specs.Desktop.{bc1_pixel}
 use Rattle.pixel.proofs.place.Grid.{kept}
-use Rattle.blocks.proofs.Beside.{Turned, start, turn, ended}
-use borrow.Author.Rules.{rules}
+use Rattle.blocks.proofs.Beside.{start, turn, ended}
 use Rattle.blocks.proofs.run_bc1.Goals as goal
 
 pub loop-i-init : goal.loop-i-init

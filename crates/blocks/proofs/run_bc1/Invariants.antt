@@ -1,11 +1,8 @@
 -- The invariant and the measure of the loop of `blocks::run_bc1`.
 use Prim.Native.Nat.{◌-◌}
-use native.Mathlib.Omega.{arith}
 use mathlib.Core.Bool.{false}
 use Rattle.rules.specs.Desktop.{bc1_pixel}
-use Rattle.pixel.proofs.place.Grid.{kept}
-use Rattle.blocks.proofs.Beside.{Turned, start, turn, ended}
-use borrow.Author.Rules.{rules}
+use Rattle.blocks.proofs.Beside.{Turned}
 use Rattle.blocks.proofs.run_bc1.Given as goal
 
 abbrev pub invariant-loop-i : goal.invariant-loop-i

@@ -1,11 +1,9 @@
 -- `blocks::run_bc2` meets its contract: turn i paints block i.
 -- Assumes nothing.
-use Prim.Native.Nat.{◌-◌}
 use native.Mathlib.Omega.{arith}
 use Rattle.rules.specs.Desktop.{bc2_pixel}
 use Rattle.pixel.proofs.place.Grid.{kept}
-use Rattle.blocks.proofs.Beside.{Turned, start, turn, ended}
-use borrow.Author.Rules.{rules}
+use Rattle.blocks.proofs.Beside.{start, turn, ended}
 use Rattle.blocks.proofs.run_bc2.Goals as goal
 
 pub loop-i-init : goal.loop-i-init

@@ -1,10 +1,7 @@
 -- The invariant and the measure of the loop of `blocks::run_bc7`.
 use Prim.Native.Nat.{◌-◌}
-use native.Mathlib.Omega.{arith}
 use Rattle.rules.specs.Bc7.{bc7_pixel}
-use Rattle.pixel.proofs.place.Grid.{kept}
-use Rattle.blocks.proofs.Beside.{Turned, start, turn, ended}
-use borrow.Author.Rules.{rules}
+use Rattle.blocks.proofs.Beside.{Turned}
 use Rattle.blocks.proofs.run_bc7.Given as goal
 
 abbrev pub invariant-loop-i : goal.invariant-loop-i

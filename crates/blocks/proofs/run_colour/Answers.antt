@@ -1,15 +1,14 @@
 -- `blocks::run_colour` meets its contract: turn i paints block i.
 -- Assumes nothing.
 use mathlib.Core.Path.{refl, sym, subst}
-use Prim.Native.Nat.{ℕ, ◌+◌, ◌-◌, ◌*◌, ◌≤◌}
+use Prim.Native.Nat.{ℕ, ◌+◌, ◌*◌, ◌≤◌}
 use native.Mathlib.Omega.{arith}
 use lib.ListN.{length, length-take, length-drop}
 use Rattle.pixel.proofs.place.Grid.{kept}
 use Rattle.blocks.specs.Run.{PaintsRow}
 use Rattle.blocks.specs.Colour.{colour_shows}
 use Rattle.blocks.proofs.Blocks.{room}
-use Rattle.blocks.proofs.Beside.{Turned, start, turn, ended}
-use borrow.Author.Rules.{rules}
+use Rattle.blocks.proofs.Beside.{start, turn, ended}
 use Rattle.blocks.proofs.run_colour.Goals as goal
 
 pub loop-i-init : goal.loop-i-init

@@ -2,13 +2,11 @@
 -- Assumes nothing.
 use mathlib.Core.Bool.{Bool}
 use mathlib.Core.Path.{subst}
-use Prim.Native.Nat.{◌-◌}
 use native.Mathlib.Omega.{arith}
 use Rattle.rules.specs.Channels.{red_pixel}
 use Rattle.pixel.proofs.place.Grid.{kept}
 use Rattle.blocks.specs.Run.{PaintsRow}
-use Rattle.blocks.proofs.Beside.{Turned, start, turn, ended}
-use borrow.Author.Rules.{rules}
+use Rattle.blocks.proofs.Beside.{start, turn, ended}
 use Rattle.blocks.proofs.run_red.Goals as goal
 
 pub loop-i-init : goal.loop-i-init

@@ -5,7 +5,6 @@ use Prim.Native.Nat.{ℕ, ◌*◌, ◌≤◌}
 use native.Mathlib.Omega.{arith}
 use Rattle.rules.specs.Places.{across}
 use Rattle.checks.proofs.Checks.{few}
-use borrow.Author.Rules.{rules}
 use Rattle.checks.proofs.blocks_of.Goals as goal
 
 pub overflow_mul-result : goal.overflow_mul-result

@@ -5,7 +5,6 @@ use Prim.Native.Nat.{ℕ, ◌*◌, ◌≤◌}
 use native.Mathlib.Omega.{arith}
 use native.Mathlib.Nat.{mul-le-mul}
 use lib.Dec.{ltb}
-use borrow.Author.Rules.{rules}
 use Rattle.checks.proofs.short_data.Goals as goal
 
 pub overflow_mul-result : goal.overflow_mul-result

@@ -5,7 +5,6 @@ use Prim.Native.Nat.{◌≤◌, ◌<◌}
 use lib.Dec.{lit<, lit≤}
 use Rattle.rules.specs.Formats.{size_of}
 use Rattle.rules.specs.declared.Format.{Format}
-use borrow.Author.Rules.{rules}
 use Rattle.checks.proofs.size.Goals as goal
 
 -- the size of a format that a match has told, where that is between 1 and 16

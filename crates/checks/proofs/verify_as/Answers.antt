@@ -8,7 +8,6 @@ use lib.Dec.{ltb}
 use Rattle.rules.specs.Places.{needed, blocks}
 use Rattle.rules.specs.Answers.{Check, refusal, limit, verdict, limit_check, pitch_check, data_check, image_check}
 use Rattle.checks.proofs.Checks.{fails, passes, within_limit}
-use borrow.Author.Rules.{rules}
 use Rattle.checks.proofs.verify_as.Goals as goal
 
 pub returns-then-large : goal.returns-then-large

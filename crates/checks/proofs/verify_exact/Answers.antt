@@ -1,6 +1,5 @@
 -- `checks::verify_exact` meets its contract: the checks are those of the definition.
 -- Assumes nothing.
-use borrow.Author.Rules.{rules}
 use Rattle.checks.proofs.verify_exact.Goals as goal
 
 pub returns : goal.returns

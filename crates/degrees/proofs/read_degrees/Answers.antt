@@ -2,12 +2,10 @@
 -- Assumes nothing.
 use mathlib.Core.Path.{◌≡◌, sym, ◌∙◌, subst}
 use mathlib.Core.Bool.{true}
-use borrow.Author.Tests.{not-true, not-false}
 use lib.Dec.{T}
 use lib.Ieee.{binary32, fits}
 use Rattle.rules.specs.Degrees.{in_degrees_lem, sound, one_digit_lem}
 use Rattle.degrees.proofs.Checks.{bad_legend, bad_digit, bad_measurement, not_measured, reads}
-use borrow.Author.Rules.{rules}
 use Rattle.degrees.proofs.read_degrees.Goals as goal
 
 pub returns-then-not-good_legend : goal.returns-then-not-good_legend

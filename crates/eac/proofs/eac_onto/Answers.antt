@@ -1,11 +1,10 @@
 -- Turn i stores pixel i, with the byte of its place times the channel's unit in it.
 -- Assumes nothing.
-use Rattle.std.proofs.Common.{◌≡◌, ℕ, ◌-◌, ◌*◌, Bool, get_or, pos, sym, ap, ◌∙◌, arith, rules}
+use Rattle.std.proofs.Common.{◌≡◌, ℕ, ◌*◌, Bool, get_or, pos, sym, ap, ◌∙◌, arith, rules}
 use lib.Bits.{bit_or}
 use Rattle.rules.specs.Notation.{build, byte}
-use Rattle.rules.specs.Channels.{or_channel}
 use Rattle.rules.specs.Whole.{middle}
-use Rattle.laws.proofs.Filling.{Filling, in_order_lem, begun, stored_next, filled_all}
+use Rattle.laws.proofs.Filling.{in_order_lem, begun, stored_next, filled_all}
 use Rattle.laws.proofs.Signed.{times_le}
 use Rattle.eac.specs.Eights.{eighth_of}
 use Rattle.eac.proofs.Bytes.{middle_held, eights_are_bytes, bytes_of, byte_at, byte-at, byte_small}
@@ -18,8 +17,11 @@ pub bounds-d-0 : goal.bounds-d-0
 bounds-d-0 c = omega arith
 
 pub eight_bytes-eight-requires : goal.eight_bytes-eight-requires
-eight_bytes-eight-requires c = record { in_bounds = (c.requires.0, c.alpha_steps-table.ensures, c.span_of.ensures.1); base_value = middle_held c.middle_of-base.result
-          (c.middle_of-base.ensures.0 ∙ ap (λ (t : Bool). middle t (byte c.args.d.now 0)) (sym c.span_of.ensures.0)) c.middle_of-base.ensures.1 }
+eight_bytes-eight-requires c = record {
+  in_bounds = (c.requires.0, c.alpha_steps-table.ensures, c.span_of.ensures.1);
+  base_value = middle_held c.middle_of-base.result
+      (c.middle_of-base.ensures.0 ∙ ap (λ (t : Bool). middle t (byte c.args.d.now 0)) (sym c.span_of.ensures.0)) c.middle_of-base.ensures.1;
+}
 
 pub eac_bytes-bytes-requires : goal.eac_bytes-bytes-requires
 eac_bytes-bytes-requires c =

@@ -1,13 +1,8 @@
 -- The invariant and the measure of the loop of `eac::eac_onto`.
-use Rattle.std.proofs.Common.{◌≡◌, ℕ, ◌-◌, ◌*◌, Bool, get_or, pos, sym, ap, ◌∙◌, arith, rules}
-use lib.Bits.{bit_or}
-use Rattle.rules.specs.Notation.{build, byte}
+use Rattle.std.proofs.Common.{◌-◌, get_or}
 use Rattle.rules.specs.Channels.{or_channel}
-use Rattle.rules.specs.Whole.{middle}
-use Rattle.laws.proofs.Filling.{Filling, in_order_lem, begun, stored_next, filled_all}
-use Rattle.laws.proofs.Signed.{times_le}
-use Rattle.eac.specs.Eights.{eighth_of}
-use Rattle.eac.proofs.Bytes.{middle_held, eights_are_bytes, bytes_of, byte_at, byte-at, byte_small}
+use Rattle.laws.proofs.Filling.{Filling, in_order_lem}
+use Rattle.eac.proofs.Bytes.{byte_at}
 use Rattle.eac.proofs.eac_onto.Given as goal
 
 abbrev pub invariant-loop-i : goal.invariant-loop-i

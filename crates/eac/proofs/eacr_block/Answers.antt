@@ -1,6 +1,6 @@
 -- The bytes of the red half, put into the pixels.
 -- Assumes nothing.
-use Rattle.std.proofs.Common.{◌≡◌, ℕ, List, get_or, ap, ◌∙◌, arith, rules}
+use Rattle.std.proofs.Common.{◌≡◌, ℕ, List, get_or, ap, ◌∙◌, arith}
 use Rattle.rules.specs.Notation.{build}
 use Rattle.rules.specs.Pixel.{word}
 use Rattle.rules.specs.Channels.{red_pixel}

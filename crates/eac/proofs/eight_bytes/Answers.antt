@@ -1,6 +1,6 @@
 -- The byte of each of the block's eight values.
 -- Assumes nothing.
-use Rattle.std.proofs.Common.{pos, ap, ◌∙◌, rules}
+use Rattle.std.proofs.Common.{pos, ap, ◌∙◌}
 use Rattle.laws.proofs.Filled.{build_same}
 use Rattle.eac.proofs.Bytes.{small_added, wholes_at, whole_small, whole_raised, eighth}
 use Rattle.eac.proofs.eight_bytes.Goals as goal

@@ -1,8 +1,8 @@
 -- Turn i stores value i.
 -- Assumes nothing.
-use Rattle.std.proofs.Common.{◌≡◌, ◌-◌, pos, refl, ap, ◌∙◌, arith, w16, rules}
+use Rattle.std.proofs.Common.{◌≡◌, pos, refl, ap, ◌∙◌, arith, w16}
 use Rattle.rules.specs.Channels.{multiplier}
-use Rattle.laws.proofs.Filling.{Filling, in_order_lem, begun, stored_next, filled_all}
+use Rattle.laws.proofs.Filling.{in_order_lem, begun, stored_next, filled_all}
 use Rattle.laws.proofs.Signed.{held, held_small}
 use Rattle.eac.specs.Eights.{whole_of}
 use Rattle.eac.proofs.Bytes.{step_held, step_small, in_order, whole_at_lem}

@@ -1,10 +1,7 @@
 -- The invariant and the measure of the loop of `eac::eight_wholes`.
-use Rattle.std.proofs.Common.{◌≡◌, ◌-◌, pos, refl, ap, ◌∙◌, arith, w16, rules}
-use Rattle.rules.specs.Channels.{multiplier}
-use Rattle.laws.proofs.Filling.{Filling, in_order_lem, begun, stored_next, filled_all}
-use Rattle.laws.proofs.Signed.{held, held_small}
+use Rattle.std.proofs.Common.{◌-◌, pos}
+use Rattle.laws.proofs.Filling.{Filling, in_order_lem}
 use Rattle.eac.specs.Eights.{whole_of}
-use Rattle.eac.proofs.Bytes.{step_held, step_small, in_order, whole_at_lem}
 use Rattle.eac.proofs.eight_wholes.Given as goal
 
 abbrev pub invariant-loop-i : goal.invariant-loop-i

@@ -1,7 +1,7 @@
 -- Turn i stores the byte of value i.
 -- Assumes nothing.
-use Rattle.std.proofs.Common.{◌≡◌, ◌-◌, ◌/◌, get_or, ℤ, pos, ◌+ℤ◌, nat_abs, refl, ap, ◌∙◌, arith, w16}
-use Rattle.laws.proofs.Filling.{Filling, in_order_lem, begun, stored_next, filled_all}
+use Rattle.std.proofs.Common.{◌≡◌, ◌/◌, get_or, ℤ, pos, ◌+ℤ◌, nat_abs, refl, ap, ◌∙◌, arith, w16}
+use Rattle.laws.proofs.Filling.{in_order_lem, begun, stored_next, filled_all}
 use Rattle.laws.proofs.Signed.{held, held_small, mag_add}
 use Rattle.eac.proofs.values.Whole.{as_natural}
 use Rattle.eac.proofs.eighths.Goals as goal

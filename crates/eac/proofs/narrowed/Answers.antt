@@ -1,8 +1,8 @@
 -- Turn i stores value i as sixteen bits.
 -- Assumes nothing.
-use Rattle.std.proofs.Common.{◌≡◌, ◌-◌, get_or, pos, refl, ap, ◌∙◌, arith, w16}
+use Rattle.std.proofs.Common.{◌≡◌, get_or, pos, refl, ap, ◌∙◌, arith, w16}
 use Rattle.rules.specs.Whole.{sixteen}
-use Rattle.laws.proofs.Filling.{Filling, in_order_lem, begun, stored_next, filled_all}
+use Rattle.laws.proofs.Filling.{in_order_lem, begun, stored_next, filled_all}
 use Rattle.laws.proofs.Signed.{held, held_small}
 use Rattle.eac.proofs.narrowed.Goals as goal
 

@@ -1,8 +1,7 @@
 -- The invariant and the measure of the loop of `eac::narrowed`.
-use Rattle.std.proofs.Common.{◌≡◌, ◌-◌, get_or, pos, refl, ap, ◌∙◌, arith, w16}
+use Rattle.std.proofs.Common.{◌-◌, get_or, pos}
 use Rattle.rules.specs.Whole.{sixteen}
-use Rattle.laws.proofs.Filling.{Filling, in_order_lem, begun, stored_next, filled_all}
-use Rattle.laws.proofs.Signed.{held, held_small}
+use Rattle.laws.proofs.Filling.{Filling, in_order_lem}
 use Rattle.eac.proofs.narrowed.Given as goal
 
 abbrev pub invariant-loop-i : goal.invariant-loop-i

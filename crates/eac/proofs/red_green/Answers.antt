@@ -1,8 +1,7 @@
 -- Turn i stores pixel i.
 -- Assumes nothing.
-use Rattle.std.proofs.Common.{◌-◌, get_or, refl, arith}
-use Rattle.rules.specs.Pixel.{word}
-use Rattle.laws.proofs.Filling.{Filling, in_order_lem, begun, stored_next, filled_all}
+use Rattle.std.proofs.Common.{refl, arith}
+use Rattle.laws.proofs.Filling.{in_order_lem, begun, stored_next, filled_all}
 use Rattle.eac.proofs.red_green.Goals as goal
 
 pub loop-i-init : goal.loop-i-init

@@ -1,7 +1,7 @@
 -- The invariant and the measure of the loop of `eac::red_green`.
-use Rattle.std.proofs.Common.{◌-◌, get_or, refl, arith}
+use Rattle.std.proofs.Common.{◌-◌, get_or}
 use Rattle.rules.specs.Pixel.{word}
-use Rattle.laws.proofs.Filling.{Filling, in_order_lem, begun, stored_next, filled_all}
+use Rattle.laws.proofs.Filling.{Filling, in_order_lem}
 use Rattle.eac.proofs.red_green.Given as goal
 
 abbrev pub invariant-loop-i : goal.invariant-loop-i

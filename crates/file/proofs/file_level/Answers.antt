@@ -3,7 +3,6 @@
 use mathlib.Core.Path.{◌∙◌, sym, ap}
 use Rattle.rules.specs.FileLevels.{found_by}
 use Rattle.rules.specs.Files.{found_as, found_said, found_verdict}
-use borrow.Author.Rules.{rules}
 use Rattle.file.proofs.file_level.Goals as goal
 
 pub returns-in-Holds : goal.returns-in-Holds

@@ -2,7 +2,6 @@
 -- Assumes nothing.
 use mathlib.Core.Path.{◌∙◌, sym}
 use Rattle.rules.specs.Files.{header_of}
-use borrow.Author.Rules.{rules}
 use Rattle.file.proofs.header.Goals as goal
 
 pub returns-then-has4 : goal.returns-then-has4

@@ -3,7 +3,6 @@
 use mathlib.Core.Path.{◌∙◌, sym, ap}
 use Rattle.rules.specs.FileLevels.{opened_by}
 use Rattle.rules.specs.Files.{opened_as, opened_said, opened_verdict}
-use borrow.Author.Rules.{rules}
 use Rattle.file.proofs.open_file.Goals as goal
 
 pub returns-in-Holds : goal.returns-in-Holds

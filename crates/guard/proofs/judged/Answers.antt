@@ -5,7 +5,6 @@ use mathlib.Core.Bool.{Bool, cond}
 use mathlib.Core.List.{[], ◌∷◌}
 use Rattle.laws.specs.Kinds.{strange}
 use Rattle.laws.proofs.Range.{exactly}
-use borrow.Author.Rules.{rules}
 use Rattle.guard.proofs.judged.Goals as goal
 
 pub returns-in-Etc1 : goal.returns-in-Etc1

@@ -1,7 +1,6 @@
 -- `guard::opaque` meets its contract: the bit is clear, or it is set.
 -- Assumes nothing.
 use borrow.Author.Tests.{eq-eqb, ne_eqb}
-use borrow.Author.Rules.{rules}
 use Rattle.guard.proofs.opaque.Goals as goal
 
 pub returns-then-d-ne1 : goal.returns-then-d-ne1

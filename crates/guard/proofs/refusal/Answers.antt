@@ -2,15 +2,13 @@
 -- Assumes nothing.
 use borrow.Enum.Refused.{opened}
 use mathlib.Core.Path.{ap}
-use Prim.Native.Nat.{◌-◌}
 use native.Mathlib.Omega.{arith}
 use lib.ListN.{length-take, length-drop}
 use Rattle.rules.specs.Places.{bytes_of}
 use Rattle.rules.specs.Answers.{said}
 use Rattle.laws.proofs.Unique.{refusal}
 use Rattle.guard.specs.Viewers.{guard_of}
-use Rattle.guard.proofs.Scan.{Clear, begin, stops, goes, ends}
-use borrow.Author.Rules.{rules}
+use Rattle.guard.proofs.Scan.{begin, stops, goes, ends}
 use Rattle.guard.proofs.refusal.Goals as goal
 
 pub loop-b-init : goal.loop-b-init

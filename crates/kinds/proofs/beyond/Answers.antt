@@ -3,7 +3,6 @@
 use native.Mathlib.Omega.{arith}
 use borrow.Author.Tests.{lt-ltb, le-ltb}
 use Rattle.kinds.proofs.Sums.{four_more_lem, unsigned}
-use borrow.Author.Rules.{rules}
 use Rattle.kinds.proofs.beyond.Goals as goal
 
 pub returns-then-four_more-lt4 : goal.returns-then-four_more-lt4

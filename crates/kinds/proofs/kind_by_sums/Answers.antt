@@ -2,7 +2,6 @@
 -- Assumes nothing.
 use mathlib.Core.Path.{◌∙◌, sym}
 use Rattle.rules.specs.Colour.{kind_by_sums_lem}
-use borrow.Author.Rules.{rules}
 use Rattle.kinds.proofs.kind_by_sums.Goals as goal
 
 pub returns-then-beyond : goal.returns-then-beyond

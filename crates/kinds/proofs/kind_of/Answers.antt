@@ -3,7 +3,6 @@
 use Prim.Native.Nat.{◌/◌, ◌%◌}
 use lib.ListN.{get_or}
 use borrow.Author.Tests.{eq-eqb, ne_eqb}
-use borrow.Author.Rules.{rules}
 use Rattle.kinds.proofs.kind_of.Goals as goal
 
 pub returns-then-d-eq1 : goal.returns-then-d-eq1

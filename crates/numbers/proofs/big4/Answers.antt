@@ -2,7 +2,6 @@
 -- Assumes nothing.
 use native.Mathlib.Omega.{arith}
 use Rattle.numbers.proofs.Big.{four}
-use borrow.Author.Rules.{rules}
 use Rattle.numbers.proofs.big4.Goals as goal
 
 pub returns : goal.returns

@@ -2,7 +2,6 @@
 -- Assumes nothing.
 use native.Mathlib.Omega.{arith}
 use Rattle.numbers.proofs.Little.{two}
-use borrow.Author.Rules.{rules}
 use Rattle.numbers.proofs.little2.Goals as goal
 
 pub returns : goal.returns

@@ -3,7 +3,6 @@
 use native.Mathlib.Omega.{arith}
 use lib.ListN.{length-set}
 use Rattle.numbers.proofs.Stores.{stores2}
-use borrow.Author.Rules.{rules}
 use Rattle.numbers.proofs.put2.Goals as goal
 
 pub bounds-out-at-2 : goal.bounds-out-at-2

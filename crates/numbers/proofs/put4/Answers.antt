@@ -3,7 +3,6 @@
 use native.Mathlib.Omega.{arith}
 use lib.ListN.{length-set}
 use Rattle.numbers.proofs.Stores.{stores4}
-use borrow.Author.Rules.{rules}
 use Rattle.numbers.proofs.put4.Goals as goal
 
 pub bounds-out-at-2 : goal.bounds-out-at-2

@@ -1,7 +1,6 @@
 -- `numbers::put_big4` meets its contract: four bytes, each by one division.
 -- Assumes nothing.
 use Rattle.numbers.proofs.Big.{fourth}
-use borrow.Author.Rules.{rules}
 use Rattle.numbers.proofs.put_big4.Goals as goal
 
 pub returns : goal.returns

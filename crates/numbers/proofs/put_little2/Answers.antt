@@ -1,7 +1,6 @@
 -- `numbers::put_little2` meets its contract: its low byte, and the next.
 -- Assumes nothing.
 use Rattle.numbers.specs.Numbers.{in_bytes}
-use borrow.Author.Rules.{rules}
 use Rattle.numbers.proofs.put_little2.Goals as goal
 
 pub returns : goal.returns

@@ -1,6 +1,5 @@
 -- `older::block_more` meets its contract: the test holds, or it does not.
 -- Assumes nothing.
-use borrow.Author.Rules.{rules}
 use Rattle.older.proofs.block_more.Goals as goal
 
 pub returns-then-some : goal.returns-then-some

@@ -1,6 +1,5 @@
 -- `older::colour_off` meets its contract: the pixel is wrong, or it is not.
 -- Assumes nothing.
-use borrow.Author.Rules.{rules}
 use Rattle.older.proofs.colour_off.Goals as goal
 
 pub returns-then-wrong : goal.returns-then-wrong

@@ -1,11 +1,7 @@
 -- `older::compare` meets its contract. The loop has compared the places before k.
 -- Assumes nothing.
 use mathlib.Core.Path.{◌≡◌}
-use Prim.Native.Nat.{ℕ, ◌-◌, ◌≤◌}
 use native.Mathlib.Omega.{arith}
-use lib.ListN.{get_or}
-use borrow.Author.Rules.{rules}
-use Rattle.older.specs.Compared.{Compared, clipped}
 use Rattle.older.proofs.Turn.{begin, turn}
 use Rattle.older.proofs.compare.Goals as goal
 

@@ -1,11 +1,7 @@
 -- The invariant and the measure of the loop of `older::compare`.
-use mathlib.Core.Path.{◌≡◌}
 use Prim.Native.Nat.{ℕ, ◌-◌, ◌≤◌}
-use native.Mathlib.Omega.{arith}
 use lib.ListN.{get_or}
-use borrow.Author.Rules.{rules}
 use Rattle.older.specs.Compared.{Compared, clipped}
-use Rattle.older.proofs.Turn.{begin, turn}
 use Rattle.older.proofs.compare.Given as goal
 
 abbrev pub invariant-loop-k : goal.invariant-loop-k

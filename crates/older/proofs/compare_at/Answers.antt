@@ -2,10 +2,10 @@
 -- Assumes nothing.
 use mathlib.Core.Path.{◌≡◌, ◌∙◌, sym, ap}
 use mathlib.Core.List.{List}
-use Prim.Native.Nat.{ℕ, ◌+◌, ◌-◌, ◌*◌, ◌/◌, ◌%◌, ◌<◌, ◌≤◌}
+use Prim.Native.Nat.{ℕ, ◌+◌, ◌*◌, ◌/◌, ◌%◌, ◌<◌, ◌≤◌}
 use native.Mathlib.Omega.{arith}
 use lib.ListN.{get_or}
-use Rattle.rules.specs.Places.{across, blocks, tile, bytes_of}
+use Rattle.rules.specs.Places.{blocks, tile, bytes_of}
 use Rattle.rules.specs.Formats.{size_of, shows_of}
 use Rattle.rules.specs.declared.Format.{Format}
 use Rattle.laws.proofs.Filled.{get_or_build}
@@ -16,7 +16,6 @@ use Rattle.blocks.proofs.Blocks.{room}
 use Rattle.rules.specs.Older.{older_at, newer_at, in_picture}
 use Rattle.older.proofs.Turn.{alike}
 use Rattle.older.proofs.Place as place
-use borrow.Author.Rules.{rules}
 use Rattle.older.proofs.compare_at.Goals as goal
 
 -- a block of eight bytes lies in the data

@@ -1,7 +1,6 @@
 -- `older::first_up_to` meets its contract: each way out knows the tests that led to it.
 -- Assumes nothing.
 use borrow.Author.Tests.{lt-ltb, le-ltb}
-use borrow.Author.Rules.{rules}
 use native.Mathlib.Numerals.{add-one}
 use Rattle.older.proofs.first_up_to.Goals as goal
 

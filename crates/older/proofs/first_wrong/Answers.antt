@@ -1,15 +1,7 @@
 -- `older::first_wrong` meets its contract: no place before k is wrong.
 -- Assumes nothing.
 use mathlib.Core.Path.{◌∙◌, sym}
-use mathlib.Core.Bool.{Bool}
-use mathlib.Core.List.{List}
-use Prim.Native.Nat.{ℕ, ◌-◌}
-use lib.ListN.{get_or}
-use borrow.Author.Rules.{rules}
-use Rattle.guard.proofs.Scan.{Scanned, begin, goes_on, found, ended}
-use Rattle.rules.specs.Older.{wrong}
-use Rattle.older.specs.Compared.{clipped}
-use Rattle.older.proofs.first_wrong.Invariants.{test}
+use Rattle.guard.proofs.Scan.{begin, goes_on, found, ended}
 use Rattle.older.proofs.first_wrong.Goals as goal
 
 pub loop-k-init : goal.loop-k-init

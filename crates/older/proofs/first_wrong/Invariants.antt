@@ -1,11 +1,9 @@
 -- The invariant and the measure of the loop of `older::first_wrong`.
-use mathlib.Core.Path.{◌∙◌, sym}
 use mathlib.Core.Bool.{Bool}
 use mathlib.Core.List.{List}
 use Prim.Native.Nat.{ℕ, ◌-◌}
 use lib.ListN.{get_or}
-use borrow.Author.Rules.{rules}
-use Rattle.guard.proofs.Scan.{Scanned, begin, goes_on, found, ended}
+use Rattle.guard.proofs.Scan.{Scanned}
 use Rattle.rules.specs.Older.{wrong}
 use Rattle.older.specs.Compared.{clipped}
 use Rattle.older.proofs.first_wrong.Given as goal

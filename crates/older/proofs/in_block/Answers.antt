@@ -10,7 +10,6 @@ use Rattle.guard.specs.Viewers.{guard_of}
 use Rattle.guard.proofs.Scan.{sound, passed}
 use Rattle.rules.specs.Older.{older_at, newer_at, in_picture}
 use Rattle.older.proofs.Turn.{nothing}
-use borrow.Author.Rules.{rules}
 use Rattle.older.proofs.in_block.Goals as goal
 
 pub returns : goal.returns

@@ -1,6 +1,5 @@
 -- `older::one_more` meets its contract: the test holds, or it does not.
 -- Assumes nothing.
-use borrow.Author.Rules.{rules}
 use Rattle.older.proofs.one_more.Goals as goal
 
 pub returns-then-holds : goal.returns-then-holds

@@ -1,11 +1,8 @@
 -- `older::tally` meets its contract. The loop has counted the blocks before b.
 -- Assumes nothing.
 use mathlib.Core.Path.{◌≡◌}
-use Prim.Native.Nat.{◌-◌, ◌≤◌}
 use native.Mathlib.Omega.{arith}
-use borrow.Author.Rules.{rules}
 use Rattle.guard.specs.Viewers.{guard_of}
-use Rattle.older.specs.Compared.{Counted}
 use Rattle.older.proofs.Counts.{begin, joins}
 use Rattle.older.proofs.tally.Goals as goal
 

@@ -1,11 +1,7 @@
 -- The invariant and the measure of the loop of `older::tally`.
-use mathlib.Core.Path.{◌≡◌}
 use Prim.Native.Nat.{◌-◌, ◌≤◌}
-use native.Mathlib.Omega.{arith}
-use borrow.Author.Rules.{rules}
 use Rattle.guard.specs.Viewers.{guard_of}
 use Rattle.older.specs.Compared.{Counted}
-use Rattle.older.proofs.Counts.{begin, joins}
 use Rattle.older.proofs.tally.Given as goal
 
 abbrev pub invariant-loop-b : goal.invariant-loop-b

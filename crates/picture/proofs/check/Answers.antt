@@ -7,7 +7,6 @@ use Rattle.rules.specs.Answers.{guarded}
 use Rattle.rules.specs.Guards.{bad_at}
 use Rattle.guard.specs.Viewers.{guard_of}
 use Rattle.picture.proofs.Room.{without_image, largest}
-use borrow.Author.Rules.{rules}
 use Rattle.picture.proofs.check.Goals as goal
 
 pub returns : goal.returns

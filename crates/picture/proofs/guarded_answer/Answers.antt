@@ -18,7 +18,6 @@ use Rattle.guard.specs.Viewers.{guard_of}
 use Rattle.guard.proofs.Scan.{eight, from_first}
 use Rattle.picture.specs.Checked.{checks_for}
 use Rattle.picture.proofs.Viewed.{passed_by_lem, in_order}
-use borrow.Author.Rules.{rules}
 use Rattle.picture.proofs.guarded_answer.Goals as goal
 
 pub returns-in_default : goal.returns-in_default

@@ -5,7 +5,6 @@ use native.Mathlib.Omega.{arith}
 use Rattle.rules.specs.Formats.{size_of, shows_of}
 use Rattle.pixel.proofs.place.Grid.{roomy}
 use Rattle.blocks.proofs.Blocks.{whole}
-use borrow.Author.Rules.{rules}
 use Rattle.picture.proofs.paint_all.Goals as goal
 
 pub paint-requires : goal.paint-requires

@@ -7,7 +7,6 @@ use Rattle.rules.specs.Readers.{picture_of}
 use Rattle.rules.specs.declared.Answer.{Answer}
 use Rattle.laws.proofs.Outcome.{unchanged, done}
 use Rattle.laws.proofs.Unique.{refusal}
-use borrow.Author.Rules.{rules}
 use Rattle.picture.proofs.paint_if_done.Goals as goal
 
 pub returns-in_default : goal.returns-in_default

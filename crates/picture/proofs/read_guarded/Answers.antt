@@ -14,7 +14,6 @@ use Rattle.guard.proofs.Scan.{eight, sound}
 use Rattle.picture.specs.Checked.{checks_for}
 use Rattle.picture.proofs.Guard.{reads}
 use Rattle.picture.proofs.Viewed.{passed_by_lem, in_order, as_own}
-use borrow.Author.Rules.{rules}
 use Rattle.picture.proofs.read_guarded.Goals as goal
 
 pub paint_if_done-requires : goal.paint_if_done-requires

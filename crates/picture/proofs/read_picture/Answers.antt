@@ -7,7 +7,6 @@ use Rattle.rules.specs.Answers.{said}
 use Rattle.rules.specs.Formats.{size_of}
 use Rattle.rules.specs.Readers.{picture_of, picture_verdict}
 use Rattle.checks.proofs.Checks.{as_said, passed_by_lem}
-use borrow.Author.Rules.{rules}
 use Rattle.picture.proofs.read_picture.Goals as goal
 
 pub paint_if_done-requires : goal.paint_if_done-requires

@@ -1,6 +1,5 @@
 -- `picture::verify` meets its contract: each viewer's own checks.
 -- Assumes nothing.
-use borrow.Author.Rules.{rules}
 use Rattle.picture.proofs.verify.Goals as goal
 
 pub returns-in-Etc1 : goal.returns-in-Etc1

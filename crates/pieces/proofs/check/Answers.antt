@@ -1,7 +1,6 @@
 -- `pieces::check` meets its contract: it makes the checks of a picture whose blocks have no bytes.
 -- Assumes nothing.
 use mathlib.Core.Path.{◌∙◌}
-use borrow.Author.Rules.{rules}
 use Rattle.pieces.proofs.Order.{without_data}
 use Rattle.pieces.proofs.check.Goals as goal
 

@@ -2,7 +2,6 @@
 -- Assumes nothing.
 use mathlib.Core.Path.{◌∙◌, ap}
 use Prim.Native.Nat.{ℕ}
-use borrow.Author.Rules.{rules}
 use Rattle.rules.specs.Answers.{verdict, picture_checks}
 use Rattle.rules.specs.Pieces.{size}
 use Rattle.pieces.proofs.Order.{without_image}

@@ -13,7 +13,6 @@ use Rattle.laws.proofs.Unique.{refusal}
 use Rattle.pixel.proofs.place.Grid.{roomy}
 use Rattle.checks.proofs.Checks.{within_limit}
 use Rattle.pieces.proofs.Promise.{refused, accepted}
-use borrow.Author.Rules.{rules}
 use Rattle.pieces.proofs.piece.Goals as goal
 
 pub returns-in_default : goal.returns-in_default

@@ -10,7 +10,6 @@ use Rattle.rules.specs.Pieces.{whole, got, later}
 use Rattle.rules.specs.declared.Progress.{Progress}
 use Rattle.pieces.proofs.kept.Numbers.{blocks_up, blocks_top, shared}
 use Rattle.pieces.proofs.Promise.{took}
-use borrow.Author.Rules.{rules}
 use Rattle.pieces.proofs.take_piece.Goals as goal
 
 pub overflow_mul-whole : goal.overflow_mul-whole
@@ -49,16 +48,19 @@ paint_joined-requires c =
     let some : 0 < s-of = c.size-s.ensures.2 in
     let top : L-of ≤ B-of * s-of = omega (arith, c.least-got.ensures, c.least-used.ensures) in
     let hand : (L-of / s-of - G-of / s-of) * s-of + L-of % s-of ≤ G-of % s-of + length c.args.bytes.now = omega (arith, shared s-of B-of G-of L-of some (omega arith) top, c.least-used.ensures) in
-    let e = c.size-s.ensures.0 in record { width_le_limit = (
+    let e = c.size-s.ensures.0 in record {
+      width_le_limit = (
         c.requires.0,
         c.requires.1,
         blocks_up s-of B-of G-of L-of some (omega arith) top,
         omega (arith, blocks_top s-of B-of G-of L-of some (omega arith) top, c.blocks_of.ensures.0),
         c.requires.2,
-      ); held_bound = (
+      );
+      held_bound = (
         omega (arith, e, mod-lt G-of some),
         rw (sym e) (omega (arith, hand)),
-      ) }
+      );
+    }
 
 pub overflow_mul-count : goal.overflow_mul-count
 overflow_mul-count c =

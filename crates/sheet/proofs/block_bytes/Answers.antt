@@ -9,7 +9,6 @@ use Rattle.rules.specs.declared.Format.{Format}
 use Rattle.rules.specs.declared.Picture.{Picture}
 use Rattle.rules.specs.Sheets.{format_of, block_bytes_lem}
 use Rattle.sheet.proofs.Sizes.{bytes}
-use borrow.Author.Rules.{rules}
 use Rattle.sheet.proofs.block_bytes.Goals as goal
 
 -- the product is the number of bytes that is meant

@@ -1,12 +1,11 @@
 -- Two copies, one behind the other, and the sheet that they make.
 -- Assumes nothing.
 use mathlib.Core.Path.{◌≡◌, ◌∙◌, refl, sym, ap}
-use mathlib.Core.List.{List, [], ◌++◌, append_assoc, append-nil}
-use Prim.Native.Nat.{ℕ, ◌+◌, ◌-◌, ◌≤◌}
+use mathlib.Core.List.{List, ◌++◌, append_assoc}
+use Prim.Native.Nat.{ℕ, ◌+◌, ◌-◌}
 use native.Mathlib.Omega.{arith}
-use lib.ListN.{length, take, drop, length-drop, drop_of_length-le}
-use lib.Seq.{take-length, take_at, drop_at, drop-drop}
-use Rattle.laws.proofs.Parts.{rest}
+use lib.ListN.{length, take, drop}
+use lib.Seq.{take_at, drop_at, drop-drop}
 use Rattle.rules.specs.declared.Picture.{Picture}
 use Rattle.numbers.specs.Numbers.{in_bytes}
 use Rattle.rules.specs.Sheets.{sheet_of, sheet_over}

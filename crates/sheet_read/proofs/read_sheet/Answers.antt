@@ -1,12 +1,10 @@
 -- `sheet_read::read_sheet` meets its contract: the plain reader on exactly the blocks does what the sheet's reader owes.
 -- Assumes nothing.
-use Prim.Native.Nat.{◌-◌}
 use native.Mathlib.Omega.{arith}
 use native.Mathlib.Nat.{add-sub_cancel_left}
 use Rattle.sheet.proofs.Shown.{reads}
 use Rattle.sheet.specs.find.Found.{Sheeted}
 use Rattle.sheet_read.proofs.Sheets.{refuses}
-use borrow.Author.Rules.{rules}
 use Rattle.sheet_read.proofs.read_sheet.Goals as goal
 
 pub overflow_add-end : goal.overflow_add-end

@@ -1,9 +1,7 @@
 -- `sheet_read::sheet_head` meets its contract.
 -- Assumes nothing.
-use Prim.Native.Nat.{◌-◌}
 use Rattle.sheet.proofs.Shown.{tells}
 use Rattle.sheet_read.proofs.Sheets.{tells_refusal}
-use borrow.Author.Rules.{rules}
 use Rattle.sheet_read.proofs.sheet_head.Goals as goal
 
 pub returns-in-At : goal.returns-in-At

@@ -2,12 +2,10 @@
 -- Assumes nothing.
 use mathlib.Core.Bool.{Bool}
 use mathlib.Core.Path.{◌∙◌, sym, ap, subst}
-use Prim.Native.Nat.{◌-◌}
 use native.Mathlib.Omega.{arith}
-use borrow.Author.Rules.{rules}
 use Rattle.rules.specs.Whole.{whole_picture}
 use Rattle.whole.specs.Lanes.{lanes, Ready}
-use Rattle.whole.proofs.Rows.{Down, top, next_row, bottom}
+use Rattle.whole.proofs.Rows.{top, next_row, bottom}
 use Rattle.whole.proofs.Checked.{ready}
 use Rattle.whole.proofs.paint.Goals as goal
 

@@ -1,6 +1,5 @@
 -- `eleven::paint_block` meets its contract: red and green, or red alone.
 -- Assumes nothing.
-use borrow.Author.Rules.{rules}
 use Rattle.whole.proofs.paint_block.Goals as goal
 
 pub paint_red_green-requires : goal.paint_red_green-requires

@@ -1,13 +1,11 @@
 -- `eleven::paint_row` meets its contract: the blocks that are whole, and then turn bx paints block bx.
 -- Assumes nothing.
 use mathlib.Core.Path.{◌≡◌, ◌∙◌, sym, ap, subst}
-use Prim.Native.Nat.{ℕ, ◌+◌, ◌-◌, ◌*◌, ◌≤◌}
+use Prim.Native.Nat.{ℕ, ◌+◌, ◌*◌, ◌≤◌}
 use native.Mathlib.Omega.{arith}
 use lib.ListN.{length, length-take, length-drop}
-use borrow.Author.Rules.{rules}
-use Rattle.rules.specs.Places.{across}
 use Rattle.whole.specs.Lanes.{lanes, Ready}
-use Rattle.whole.proofs.Rows.{Turned, start, turn, ended, fits, small}
+use Rattle.whole.proofs.Rows.{start, turn, ended, fits, small}
 use Rattle.whole.proofs.paint_row.Goals as goal
 
 pub overflow_mul-s : goal.overflow_mul-s
@@ -67,11 +65,14 @@ paint_block-requires c =
     let size : c.lanes_of-s.result * 8 ≡ lanes c.args.green * 8 = ap (λ (z : ℕ). z * 8) c.lanes_of-s.ensures.0 in
     let there : (c.args.by * c.across-row.result + c.loop-bx.bx) * (c.lanes_of-s.result * 8) + c.lanes_of-s.result * 8 ≤ length c.args.«data».now = fits c.args.pic c.args.by c.loop-bx.bx c.across-row.result (c.lanes_of-s.result * 8) (lanes c.args.green) _
     c.across-row.ensures size c.loop-bx-test.true c.requires.green_in_bounds.1 c.requires.green_in_bounds.0 in
-    let e = c.across-row.ensures in record { green_in_bounds = (
+    let e = c.across-row.ensures in record {
+      green_in_bounds = (
         simp (length-take, length-drop) (omega (arith, there, size)),
         c.before.alpha_steps-table.ensures,
         subst (Ready (lanes c.args.green) c.args.pic) (sym (c.loop-bx.invariant.2.same ∙ c.paint_whole-bx.ensures.1.same)) c.requires.ready,
-      ); bx_bound = (omega (arith, c.loop-bx-test.true, e, c.requires.ready.narrow), omega (arith, c.requires.green_in_bounds.1, c.requires.green_in_bounds.2), c.requires.green_in_bounds.3) }
+      );
+      bx_bound = (omega (arith, c.loop-bx-test.true, e, c.requires.ready.narrow), omega (arith, c.requires.green_in_bounds.1, c.requires.green_in_bounds.2), c.requires.green_in_bounds.3);
+    }
 
 pub loop-bx-preserved : goal.loop-bx-preserved
 loop-bx-preserved c =

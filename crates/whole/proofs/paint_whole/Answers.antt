@@ -1,10 +1,9 @@
 -- `eleven::paint_whole` meets its contract: turn bx paints block bx of the row, which the picture has whole.
 -- Assumes nothing.
 use mathlib.Core.Path.{◌≡◌, sym, ap, subst}
-use Prim.Native.Nat.{ℕ, ◌+◌, ◌-◌, ◌*◌, ◌<◌, ◌≤◌}
+use Prim.Native.Nat.{ℕ, ◌+◌, ◌*◌, ◌<◌, ◌≤◌}
 use native.Mathlib.Omega.{arith}
 use lib.ListN.{length, length-take, length-drop}
-use borrow.Author.Rules.{rules}
 use Rattle.whole.specs.Lanes.{lanes, Ready}
 use Rattle.whole.proofs.Rows.{Turned, start, turn, from_first, fits, small}
 use Rattle.whole.proofs.paint_whole.Goals as goal
@@ -77,11 +76,14 @@ whole_block-requires c =
     let in_row : c.loop-bx.bx < c.across-row.result = omega (arith, c.loop-bx-test.true, c.whole_in-n.ensures.0, c.across-row.ensures) in
     let there : (c.args.by * c.across-row.result + c.loop-bx.bx) * (c.lanes_of-s.result * 8) + c.lanes_of-s.result * 8 ≤ length c.args.«data».now = fits c.args.pic c.args.by c.loop-bx.bx c.across-row.result (c.lanes_of-s.result * 8) (lanes c.args.green) _
     c.across-row.ensures size in_row c.requires.green_in_bounds.1 c.requires.green_in_bounds.0 in
-    let w = c.whole_in-n.ensures in record { green_in_bounds = (
+    let w = c.whole_in-n.ensures in record {
+      green_in_bounds = (
         simp (length-take, length-drop) (omega (arith, there, size)),
         c.alpha_steps-table.ensures,
         subst (Ready (lanes c.args.green) c.args.pic) (sym c.loop-bx.invariant.1.2.same) c.requires.ready,
-      ); bx_bound = (omega (arith, c.loop-bx-test.true, w.0), w.1 (omega (arith, c.loop-bx-test.true)), c.requires.green_in_bounds.3) }
+      );
+      bx_bound = (omega (arith, c.loop-bx-test.true, w.0), w.1 (omega (arith, c.loop-bx-test.true)), c.requires.green_in_bounds.3);
+    }
 
 pub loop-bx-preserved : goal.loop-bx-preserved
 loop-bx-preserved c =

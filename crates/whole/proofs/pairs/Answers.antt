@@ -1,11 +1,8 @@
 -- `eleven::pairs` meets its contract: turn i stores number i of the tile.
 -- Assumes nothing.
 use mathlib.Core.Path.{refl}
-use mathlib.Core.List.{[]}
-use Prim.Native.Nat.{◌+◌, ◌-◌, ◌*◌, ◌/◌, ◌%◌}
 use native.Mathlib.Omega.{arith}
-use lib.ListN.{get_or}
-use Rattle.laws.proofs.Filling.{Filling, in_order_lem, begun, stored_next, filled_all}
+use Rattle.laws.proofs.Filling.{in_order_lem, begun, stored_next, filled_all}
 use Rattle.whole.specs.Lanes.{paired}
 use Rattle.whole.proofs.pairs.Goals as goal
 

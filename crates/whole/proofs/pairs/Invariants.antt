@@ -1,11 +1,8 @@
 -- The invariant and the measure of the loop of `whole::pairs`.
-use mathlib.Core.Path.{refl}
 use mathlib.Core.List.{[]}
 use Prim.Native.Nat.{◌+◌, ◌-◌, ◌*◌, ◌/◌, ◌%◌}
-use native.Mathlib.Omega.{arith}
 use lib.ListN.{get_or}
-use Rattle.laws.proofs.Filling.{Filling, in_order_lem, begun, stored_next, filled_all}
-use Rattle.whole.specs.Lanes.{paired}
+use Rattle.laws.proofs.Filling.{Filling, in_order_lem}
 use Rattle.whole.proofs.pairs.Given as goal
 
 abbrev pub invariant-loop-i : goal.invariant-loop-i

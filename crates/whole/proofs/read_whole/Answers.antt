@@ -13,7 +13,6 @@ use Rattle.laws.proofs.Unique.{refusal}
 use Rattle.checks.proofs.Checks.{passed_by_lem}
 use Rattle.whole.specs.Lanes.{lanes}
 use Rattle.whole.proofs.Checked.{same_verdict}
-use borrow.Author.Rules.{rules}
 use Rattle.whole.proofs.read_whole.Goals as goal
 
 pub returns-in_default : goal.returns-in_default

@@ -1,6 +1,5 @@
 -- `eleven::whole_block` meets its contract: red and green, or red alone.
 -- Assumes nothing.
-use borrow.Author.Rules.{rules}
 use Rattle.whole.proofs.whole_block.Goals as goal
 
 pub whole_red_green-requires : goal.whole_red_green-requires

@@ -3,7 +3,6 @@
 use native.Mathlib.Omega.{arith}
 use Rattle.pixel.proofs.place.Grid.{roomy}
 use Rattle.whole.proofs.Lanes.{one_tile}
-use borrow.Author.Rules.{rules}
 use Rattle.whole.proofs.whole_red.Goals as goal
 
 pub place_whole-requires : goal.place_whole-requires

@@ -1,7 +1,6 @@
 -- Each way out knows the tests that led to it.
 -- Assumes nothing.
 use borrow.Author.Tests.{lt-ltb, le-ltb}
-use borrow.Author.Rules.{rules}
 use Rattle.bake.proofs.baker.above.Goals as goal
 
 pub returns-then-c-gt15 : goal.returns-then-c-gt15

@@ -8,7 +8,6 @@ use native.Mathlib.Omega.{arith}
 use Rattle.rules.specs.Baking.{above, no_base, eight_over}
 use Rattle.bake.proofs.baking.Bases.{four, bad_first, bad_second, bad_flip, good}
 use Rattle.bake.proofs.baker.Verdict.{no_base_lem, short_block, short_tile, done}
-use borrow.Author.Rules.{rules}
 use Rattle.bake.proofs.baker.bake.Goals as goal
 
 pub returns-then-above : goal.returns-then-above

@@ -1,7 +1,6 @@
 -- The parts, and the block that they make.
 -- Assumes nothing.
 use Rattle.bake.proofs.baker.Assembled.{assembled}
-use borrow.Author.Rules.{rules}
 use Rattle.bake.proofs.baker.baked.Goals as goal
 
 pub returns : goal.returns

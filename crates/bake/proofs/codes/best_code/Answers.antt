@@ -1,12 +1,9 @@
 -- The best of the codes passed.
 -- Assumes nothing.
-use Prim.Native.Nat.{◌-◌, ◌≤◌}
 use native.Mathlib.Omega.{arith}
 use Rattle.rules.specs.Baking.{cost_for, code_for}
-use Rattle.bake.specs.baking.Chosen.{Chosen}
 use Rattle.bake.proofs.baking.Least.{begun, goes_on}
 use Rattle.bake.proofs.nearest.Search.{ended}
-use borrow.Author.Rules.{rules}
 use Rattle.bake.proofs.codes.best_code.Goals as goal
 
 pub loop-c-init : goal.loop-c-init

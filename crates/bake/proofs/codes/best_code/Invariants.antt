@@ -1,11 +1,7 @@
 -- The invariant and the measure of the loop of `bake::codes::best_code`.
 use Prim.Native.Nat.{◌-◌, ◌≤◌}
-use native.Mathlib.Omega.{arith}
-use Rattle.rules.specs.Baking.{cost_for, code_for}
+use Rattle.rules.specs.Baking.{cost_for}
 use Rattle.bake.specs.baking.Chosen.{Chosen}
-use Rattle.bake.proofs.baking.Least.{begun, goes_on}
-use Rattle.bake.proofs.nearest.Search.{ended}
-use borrow.Author.Rules.{rules}
 use Rattle.bake.proofs.codes.best_code.Given as goal
 
 abbrev pub invariant-loop-c : goal.invariant-loop-c

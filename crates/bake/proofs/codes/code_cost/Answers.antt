@@ -5,7 +5,6 @@ use mathlib.Core.List.{List}
 use Prim.Native.Nat.{ℕ}
 use Rattle.bake.specs.nearest.Search.{cost_of}
 use Rattle.bake.proofs.codes.Coloured.{by_code}
-use borrow.Author.Rules.{rules}
 use Rattle.bake.proofs.codes.code_cost.Goals as goal
 
 pub returns : goal.returns

@@ -5,7 +5,6 @@ use Rattle.rules.specs.Colour.{steps_of}
 use Rattle.etc_colour.proofs.shade.Tone.{steps_opaque}
 use Rattle.etc_colour.proofs.etc1.Steps.{small_step}
 use Rattle.bake.proofs.codes.Coloured.{coloured}
-use borrow.Author.Rules.{rules}
 use Rattle.bake.proofs.codes.colours.Goals as goal
 
 pub four_colours-requires : goal.four_colours-requires

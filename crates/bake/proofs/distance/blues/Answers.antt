@@ -1,7 +1,6 @@
 -- A blue's place is 1, and a pixel divided by it the pixel.
 -- Assumes nothing.
 use native.Mathlib.Omega.{arith}
-use borrow.Author.Rules.{rules}
 use Rattle.bake.proofs.distance.blues.Goals as goal
 
 pub returns : goal.returns

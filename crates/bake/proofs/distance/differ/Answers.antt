@@ -2,7 +2,6 @@
 -- Assumes nothing.
 use native.Mathlib.Omega.{arith}
 use Rattle.rules.specs.Checking.{differ}
-use borrow.Author.Rules.{rules}
 use Rattle.bake.proofs.distance.differ.Goals as goal
 
 pub returns : goal.returns

@@ -1,7 +1,6 @@
 -- The three differences, and the larger of each two.
 -- Assumes nothing.
 use Rattle.rules.specs.Checking.{farthest}
-use borrow.Author.Rules.{rules}
 use Rattle.bake.proofs.distance.farthest.Goals as goal
 
 pub returns : goal.returns

@@ -2,7 +2,6 @@
 -- Assumes nothing.
 use borrow.Author.Tests.{le-leb, lt-leb}
 use Rattle.rules.specs.Checking.{near}
-use borrow.Author.Rules.{rules}
 use Rattle.bake.proofs.distance.near.Goals as goal
 
 pub returns-then-tolerance-reds : goal.returns-then-tolerance-reds

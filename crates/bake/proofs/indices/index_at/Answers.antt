@@ -5,7 +5,6 @@ use mathlib.Core.List.{List}
 use Prim.Native.Nat.{ℕ}
 use Rattle.rules.specs.Baking.{of_half_lem}
 use Rattle.bake.specs.nearest.Search.{nearest_of}
-use borrow.Author.Rules.{rules}
 use Rattle.bake.proofs.indices.index_at.Goals as goal
 
 pub returns : goal.returns

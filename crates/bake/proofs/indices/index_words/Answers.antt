@@ -6,8 +6,7 @@ use lib.ListN.{get_or}
 use Rattle.bake.specs.indices.Index.{index_by}
 use Rattle.rules.specs.Baking.{of_half_lem, half_of}
 use Rattle.bake.proofs.nearest.Search.{one_of_four}
-use Rattle.bake.proofs.indices.Spelling.{Spelt, begun, turned, small, ended}
-use borrow.Author.Rules.{rules}
+use Rattle.bake.proofs.indices.Spelling.{begun, turned, small, ended}
 use Rattle.bake.proofs.indices.index_words.Goals as goal
 
 pub loop-i-init : goal.loop-i-init

@@ -4,7 +4,6 @@ use mathlib.Core.Path.{◌≡◌, refl}
 use mathlib.Core.List.{List}
 use Prim.Native.Nat.{ℕ, zero, suc}
 use Rattle.rules.specs.Baking.{of_half_lem}
-use borrow.Author.Rules.{rules}
 use Rattle.bake.proofs.indices.of_half.Goals as goal
 
 other : (a b : List ℕ) (h : ℕ) → (h ≡ 0 → ⊥) → b ≡ of_half_lem a b h

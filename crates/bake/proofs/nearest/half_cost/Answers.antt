@@ -1,13 +1,12 @@
 -- The sum of the pixels passed.
 -- Assumes nothing.
 use mathlib.Core.Path.{◌≡◌, ◌∙◌, refl, ap}
-use Prim.Native.Nat.{ℕ, ◌-◌, ◌*◌, ◌≤◌}
+use Prim.Native.Nat.{ℕ}
 use native.Mathlib.Omega.{arith}
 use lib.ListN.{get_or}
 use Rattle.rules.specs.Counting.{sum_of}
 use Rattle.bake.specs.nearest.Search.{away, nearest_of, part_of, cost_of}
 use Rattle.bake.proofs.nearest.Search.{adds}
-use borrow.Author.Rules.{rules}
 use Rattle.bake.proofs.nearest.half_cost.Goals as goal
 
 pub loop-j-init : goal.loop-j-init

@@ -1,12 +1,8 @@
 -- The invariant and the measure of the loop of `bake::nearest::half_cost`.
-use mathlib.Core.Path.{◌≡◌, ◌∙◌, refl, ap}
-use Prim.Native.Nat.{ℕ, ◌-◌, ◌*◌, ◌≤◌}
-use native.Mathlib.Omega.{arith}
-use lib.ListN.{get_or}
+use mathlib.Core.Path.{◌≡◌}
+use Prim.Native.Nat.{◌-◌, ◌*◌, ◌≤◌}
 use Rattle.rules.specs.Counting.{sum_of}
-use Rattle.bake.specs.nearest.Search.{away, nearest_of, part_of, cost_of}
-use Rattle.bake.proofs.nearest.Search.{adds}
-use borrow.Author.Rules.{rules}
+use Rattle.bake.specs.nearest.Search.{part_of}
 use Rattle.bake.proofs.nearest.half_cost.Given as goal
 
 abbrev pub invariant-loop-j : goal.invariant-loop-j

@@ -1,12 +1,9 @@
 -- The best of the colours passed.
 -- Assumes nothing.
-use Prim.Native.Nat.{◌-◌, ◌≤◌}
 use native.Mathlib.Omega.{arith}
-use Rattle.bake.specs.baking.Chosen.{Chosen}
 use Rattle.bake.proofs.baking.Least.{begun, goes_on}
 use Rattle.bake.specs.nearest.Search.{away, nearest_of}
 use Rattle.bake.proofs.nearest.Search.{ended, far}
-use borrow.Author.Rules.{rules}
 use Rattle.bake.proofs.nearest.nearest.Goals as goal
 
 pub loop-i-init : goal.loop-i-init

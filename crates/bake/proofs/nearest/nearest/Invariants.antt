@@ -1,11 +1,7 @@
 -- The invariant and the measure of the loop of `bake::nearest::nearest`.
 use Prim.Native.Nat.{◌-◌, ◌≤◌}
-use native.Mathlib.Omega.{arith}
 use Rattle.bake.specs.baking.Chosen.{Chosen}
-use Rattle.bake.proofs.baking.Least.{begun, goes_on}
-use Rattle.bake.specs.nearest.Search.{away, nearest_of}
-use Rattle.bake.proofs.nearest.Search.{ended, far}
-use borrow.Author.Rules.{rules}
+use Rattle.bake.specs.nearest.Search.{away}
 use Rattle.bake.proofs.nearest.nearest.Given as goal
 
 abbrev pub invariant-loop-i : goal.invariant-loop-i

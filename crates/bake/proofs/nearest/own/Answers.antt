@@ -2,7 +2,6 @@
 -- Assumes nothing.
 use native.Mathlib.Omega.{arith}
 use borrow.Author.Tests.{eq-eqb, ne_eqb}
-use borrow.Author.Rules.{rules}
 use Rattle.bake.proofs.nearest.own.Goals as goal
 
 pub returns-then-flip-eq1 : goal.returns-then-flip-eq1

@@ -8,7 +8,6 @@ use lib.Dec.{ltb}
 use lib.ListN.{get_or}
 use Rattle.rules.specs.Notation.{build}
 use Rattle.bc.proofs.alpha_lanes.Orders.{lanes, in_order}
-use borrow.Author.Rules.{rules}
 use Rattle.bc.proofs.alpha_lanes.all_alphas.Goals as goal
 
 pub returns : goal.returns

@@ -2,7 +2,6 @@
 -- Assumes nothing.
 use mathlib.Core.Path.{◌∙◌}
 use Rattle.bc.specs.alpha_lanes.Lanes.{alpha_lane_lem}
-use borrow.Author.Rules.{rules}
 use Rattle.bc.proofs.alpha_lanes.alpha_lane.Goals as goal
 
 pub returns : goal.returns

@@ -1,11 +1,8 @@
 -- One lane a turn.
 -- Assumes nothing.
 use mathlib.Core.Path.{refl}
-use Prim.Native.Nat.{◌-◌, ◌%◌}
 use native.Mathlib.Omega.{arith}
-use Rattle.laws.proofs.Filling.{Filling, in_order_lem, begun, stored_next, filled_all}
-use Rattle.bc.specs.alpha_lanes.Lanes.{alpha_lane_lem}
-use borrow.Author.Rules.{rules}
+use Rattle.laws.proofs.Filling.{in_order_lem, begun, stored_next, filled_all}
 use Rattle.bc.proofs.alpha_lanes.alpha_lanes.Goals as goal
 
 pub loop-i-init : goal.loop-i-init

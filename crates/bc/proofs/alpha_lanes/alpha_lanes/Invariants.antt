@@ -1,10 +1,7 @@
 -- The invariant and the measure of the loop of `bc::alpha_lanes::alpha_lanes`.
-use mathlib.Core.Path.{refl}
 use Prim.Native.Nat.{◌-◌, ◌%◌}
-use native.Mathlib.Omega.{arith}
-use Rattle.laws.proofs.Filling.{Filling, in_order_lem, begun, stored_next, filled_all}
+use Rattle.laws.proofs.Filling.{Filling, in_order_lem}
 use Rattle.bc.specs.alpha_lanes.Lanes.{alpha_lane_lem}
-use borrow.Author.Rules.{rules}
 use Rattle.bc.proofs.alpha_lanes.alpha_lanes.Given as goal
 
 abbrev pub invariant-loop-i : goal.invariant-loop-i

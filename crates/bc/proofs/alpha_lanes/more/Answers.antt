@@ -1,7 +1,6 @@
 -- What is picked for the alpha.
 -- Assumes nothing.
 use mathlib.Core.Path.{◌∙◌}
-use borrow.Author.Rules.{rules}
 use Rattle.bc.proofs.alpha_lanes.more.Goals as goal
 
 pub returns : goal.returns

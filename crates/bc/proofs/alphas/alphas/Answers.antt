@@ -5,7 +5,6 @@ use Prim.Native.Nat.{◌≤◌}
 use native.Mathlib.Omega.{arith}
 use lib.Dec.{ltb}
 use Rattle.bc.proofs.alphas.Shares.{eight, few, listed}
-use borrow.Author.Rules.{rules}
 use Rattle.bc.proofs.alphas.alphas.Goals as goal
 
 pub overflow_add-p-2 : goal.overflow_add-p-2

@@ -6,7 +6,6 @@ use Prim.Native.Nat.{ℕ, ◌<◌}
 use lib.ListN.{get_or}
 use Rattle.rules.specs.Desktop.{alphas_in_lem}
 use Rattle.laws.proofs.Between.{alphas_small}
-use borrow.Author.Rules.{rules}
 use Rattle.bc.proofs.alphas.alphas_in.Goals as goal
 
 pub returns : goal.returns

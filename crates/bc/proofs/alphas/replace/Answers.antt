@@ -4,7 +4,6 @@ use mathlib.Core.Path.{◌≡◌}
 use Prim.Native.Nat.{ℕ, ◌<◌}
 use native.Mathlib.Omega.{arith}
 use Rattle.bc.proofs.alphas.Shares.{known}
-use borrow.Author.Rules.{rules}
 use Rattle.bc.proofs.alphas.replace.Goals as goal
 
 last : (n : ℕ) → (n ≡ 0 → ⊥) → (n ≡ 1 → ⊥) → (n ≡ 2 → ⊥) → n < 4 → n ≡ 3

@@ -2,7 +2,6 @@
 -- Assumes nothing.
 use native.Mathlib.Omega.{arith}
 use Rattle.bc.proofs.alphas.Shares.{shared_or}
-use borrow.Author.Rules.{rules}
 use Rattle.bc.proofs.alphas.share_or.Goals as goal
 
 pub overflow_mul-result : goal.overflow_mul-result

@@ -2,7 +2,6 @@
 -- Assumes nothing.
 use native.Mathlib.Omega.{arith}
 use Rattle.bc.proofs.bc1.Colours.{sign}
-use borrow.Author.Rules.{rules}
 use Rattle.bc.proofs.bc1.above.Goals as goal
 
 pub returns : goal.returns

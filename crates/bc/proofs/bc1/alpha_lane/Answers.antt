@@ -1,7 +1,6 @@
 -- What is picked for the lane.
 -- Assumes nothing.
 use mathlib.Core.Path.{◌∙◌}
-use borrow.Author.Rules.{rules}
 use Rattle.bc.proofs.bc1.alpha_lane.Goals as goal
 
 pub returns : goal.returns

@@ -3,7 +3,6 @@
 use mathlib.Core.Path.{◌∙◌}
 use mathlib.Core.Bool.{false}
 use Rattle.bc.proofs.bc1.Shown.{shown}
-use borrow.Author.Rules.{rules}
 use Rattle.bc.proofs.bc1.bc1_block.Goals as goal
 
 pub returns : goal.returns

@@ -1,6 +1,5 @@
 -- By the one test.
 -- Assumes nothing.
-use borrow.Author.Rules.{rules}
 use Rattle.bc.proofs.bc1.clear.Goals as goal
 
 pub returns-then-alpha : goal.returns-then-alpha

@@ -2,7 +2,6 @@
 -- Assumes nothing.
 use native.Mathlib.Omega.{arith}
 use Rattle.numbers.specs.Numbers.{little}
-use borrow.Author.Rules.{rules}
 use Rattle.bc.proofs.bc1.half_word.Goals as goal
 
 pub returns : goal.returns

@@ -1,7 +1,6 @@
 -- The two colours' channel, mixed, and alpha.
 -- Assumes nothing.
 use Rattle.bc.specs.bc1.Lanes.{lane}
-use borrow.Author.Rules.{rules}
 use Rattle.bc.proofs.bc1.lane.Goals as goal
 
 pub returns : goal.returns

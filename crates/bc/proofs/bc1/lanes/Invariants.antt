@@ -1,10 +1,7 @@
 -- The invariant and the measure of the loop of `bc::bc1::lanes`.
-use mathlib.Core.Path.{refl}
 use Prim.Native.Nat.{◌-◌}
-use native.Mathlib.Omega.{arith}
-use Rattle.laws.proofs.Filling.{Filling, in_order_lem, begun, stored_next, filled_all}
+use Rattle.laws.proofs.Filling.{Filling, in_order_lem}
 use Rattle.bc.specs.bc1.Lanes.{lane}
-use borrow.Author.Rules.{rules}
 use Rattle.bc.proofs.bc1.lanes.Given as goal
 
 abbrev pub invariant-loop-i : goal.invariant-loop-i

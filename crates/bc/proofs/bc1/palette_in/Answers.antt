@@ -4,7 +4,6 @@ use mathlib.Core.Path.{◌∙◌}
 use lib.Dec.{ltb}
 use Rattle.rules.specs.Notation.{bits}
 use Rattle.bc.proofs.bc1.Colours.{at_most, listed}
-use borrow.Author.Rules.{rules}
 use Rattle.bc.proofs.bc1.palette_in.Goals as goal
 
 pub clear-requires : goal.clear-requires

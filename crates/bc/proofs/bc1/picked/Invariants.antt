@@ -1,12 +1,8 @@
 -- The invariant and the measure of the loop of `bc::bc1::picked`.
-use mathlib.Core.Path.{◌≡◌, ◌∙◌, refl, ap}
-use Prim.Native.Nat.{ℕ, ◌-◌, ◌*◌, ◌/◌, ◌%◌, ◌^◌}
-use native.Mathlib.Omega.{arith}
+use mathlib.Core.Path.{◌≡◌}
+use Prim.Native.Nat.{◌-◌, ◌*◌, ◌/◌, ◌^◌}
 use lib.ListN.{get_or}
-use borrow.Author.Rules.{rules}
-use Rattle.laws.proofs.Filling.{Filling, in_order_lem, begun, stored_next, filled_all}
-use Rattle.laws.proofs.Order.{shifted}
-use lib.Pow.{shr-shr}
+use Rattle.laws.proofs.Filling.{Filling, in_order_lem}
 use Rattle.rules.specs.Desktop.{colour_index}
 use Rattle.bc.proofs.bc1.picked.Given as goal
 

@@ -3,7 +3,6 @@
 use Prim.Native.Nat.{ℕ, ◌*◌, ◌≤◌, ◌<◌}
 use native.Mathlib.Omega.{arith}
 use native.Mathlib.Nat.{mul-le-mul}
-use borrow.Author.Rules.{rules}
 use Rattle.bc.proofs.bc1.times.Goals as goal
 
 below : (n : ℕ) → n < 65536 → n ≤ 65535

@@ -1,6 +1,5 @@
 -- Three products, by what is picked for the channel.
 -- Assumes nothing.
-use borrow.Author.Rules.{rules}
 use Rattle.bc.proofs.bc1.widened.Goals as goal
 
 pub returns : goal.returns

@@ -1,7 +1,6 @@
 -- Four bytes a word.
 -- Assumes nothing.
 use Rattle.bc.proofs.bc1.Colours.{each}
-use borrow.Author.Rules.{rules}
 use Rattle.bc.proofs.bc1.words.Goals as goal
 
 pub returns : goal.returns

@@ -9,7 +9,6 @@ use Rattle.rules.specs.Desktop.{half_word_lem, palette_in_lem}
 use Rattle.laws.proofs.Parts.{rest}
 use Rattle.bc.proofs.bc2.Shown.{shown}
 use Rattle.bc.proofs.bc3.Turns.{at_most}
-use borrow.Author.Rules.{rules}
 use Rattle.bc.proofs.bc2.bc2_block.Goals as goal
 
 below : (a : ℕ) → a ≤ 0xFFFFFF → a < 0x1000000

@@ -1,14 +1,12 @@
 -- Turn i adds the low bits of one word and what those of the other pick, and the words lose them.
 -- Assumes nothing.
-use mathlib.Core.Path.{◌≡◌, ◌∙◌, refl, ap}
-use Prim.Native.Nat.{ℕ, ◌+◌, ◌-◌, ◌*◌, ◌/◌, ◌%◌, ◌^◌}
+use mathlib.Core.Path.{◌∙◌, refl, ap}
+use Prim.Native.Nat.{ℕ, ◌+◌, ◌*◌, ◌/◌, ◌%◌, ◌^◌}
 use native.Mathlib.Omega.{arith}
 use lib.ListN.{get_or}
 use lib.Pow.{shr-shr}
-use borrow.Author.Rules.{rules}
-use Rattle.laws.proofs.Filling.{Filling, in_order_lem, begun, stored_next, filled_all}
+use Rattle.laws.proofs.Filling.{in_order_lem, begun, stored_next, filled_all}
 use Rattle.laws.proofs.Order.{shifted}
-use Rattle.rules.specs.Desktop.{colour_index}
 use Rattle.bc.proofs.bc2.both.Goals as goal
 
 pub loop-i-init : goal.loop-i-init

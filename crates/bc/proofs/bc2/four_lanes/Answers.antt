@@ -1,11 +1,8 @@
 -- One lane a turn.
 -- Assumes nothing.
 use mathlib.Core.Path.{refl}
-use Prim.Native.Nat.{◌-◌}
 use native.Mathlib.Omega.{arith}
-use Rattle.laws.proofs.Filling.{Filling, in_order_lem, begun, stored_next, filled_all}
-use Rattle.bc.specs.bc1.Lanes.{lane}
-use borrow.Author.Rules.{rules}
+use Rattle.laws.proofs.Filling.{in_order_lem, begun, stored_next, filled_all}
 use Rattle.bc.proofs.bc2.four_lanes.Goals as goal
 
 pub loop-i-init : goal.loop-i-init

@@ -8,7 +8,6 @@ use lib.ListN.{get_or}
 use Rattle.rules.specs.Notation.{bits, build}
 use Rattle.rules.specs.Desktop.{palette_in_lem}
 use Rattle.bc.proofs.bc1.Colours.{listed}
-use borrow.Author.Rules.{rules}
 use Rattle.bc.proofs.bc2.hues_in.Goals as goal
 
 pub returns : goal.returns

@@ -1,13 +1,13 @@
 -- Turn i stores pixel i with what the word's low three bits pick, and the word loses them.
 -- Assumes nothing.
-use mathlib.Core.Path.{◌≡◌, ◌∙◌, ap}
-use Prim.Native.Nat.{ℕ, ◌-◌, ◌*◌, ◌/◌, ◌%◌, ◌^◌}
+use mathlib.Core.Path.{◌∙◌, ap}
+use Prim.Native.Nat.{ℕ, ◌/◌, ◌%◌}
 use native.Mathlib.Omega.{arith}
 use borrow.Author.Rules.{rules}
 use lib.ListN.{get_or}
-use Rattle.laws.proofs.Filling.{Filling, in_order_lem, begun, stored_next, filled_all}
+use Rattle.laws.proofs.Filling.{in_order_lem, begun, stored_next, filled_all}
 use Rattle.laws.proofs.Order.{shifted}
-use Rattle.rules.specs.Desktop.{bc3_alpha, replaced}
+use Rattle.rules.specs.Desktop.{replaced}
 use Rattle.bc.proofs.bc3.Turns.{alpha_at_lem}
 use Rattle.bc.proofs.bc3.alpha_onto.Goals as goal
 

@@ -1,13 +1,9 @@
 -- The invariant and the measure of the loop of `bc::bc3::alpha_onto`.
-use mathlib.Core.Path.{◌≡◌, ◌∙◌, ap}
-use Prim.Native.Nat.{ℕ, ◌-◌, ◌*◌, ◌/◌, ◌%◌, ◌^◌}
-use native.Mathlib.Omega.{arith}
-use borrow.Author.Rules.{rules}
+use mathlib.Core.Path.{◌≡◌}
+use Prim.Native.Nat.{◌-◌, ◌*◌, ◌/◌, ◌%◌, ◌^◌}
 use lib.ListN.{get_or}
-use Rattle.laws.proofs.Filling.{Filling, in_order_lem, begun, stored_next, filled_all}
-use Rattle.laws.proofs.Order.{shifted}
+use Rattle.laws.proofs.Filling.{Filling, in_order_lem}
 use Rattle.rules.specs.Desktop.{bc3_alpha, replaced}
-use Rattle.bc.proofs.bc3.Turns.{alpha_at_lem}
 use Rattle.bc.proofs.bc3.alpha_onto.Given as goal
 
 abbrev pub invariant-loop-i : goal.invariant-loop-i

@@ -11,7 +11,6 @@ use Rattle.laws.proofs.Between.{alphas_small}
 use Rattle.laws.proofs.Filled.{build_same}
 use Rattle.laws.proofs.Parts.{rest}
 use Rattle.bc.proofs.bc3.Turns.{at_most, shown}
-use borrow.Author.Rules.{rules}
 use Rattle.bc.proofs.bc3.bc3_block.Goals as goal
 
 below : (a : ℕ) → a ≤ 0xFFFFFF → a < 0x1000000

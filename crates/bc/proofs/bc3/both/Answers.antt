@@ -1,14 +1,13 @@
 -- Turn i adds what the two words' low bits pick, and the words lose them.
 -- Assumes nothing.
-use mathlib.Core.Path.{◌≡◌, ◌∙◌, refl, ap}
-use Prim.Native.Nat.{ℕ, ◌+◌, ◌-◌, ◌*◌, ◌/◌, ◌%◌, ◌^◌}
+use mathlib.Core.Path.{◌∙◌, refl, ap}
+use Prim.Native.Nat.{ℕ, ◌+◌, ◌*◌, ◌/◌, ◌%◌}
 use native.Mathlib.Omega.{arith}
 use lib.ListN.{get_or}
 use lib.Pow.{shr-shr}
-use borrow.Author.Rules.{rules}
-use Rattle.laws.proofs.Filling.{Filling, in_order_lem, begun, stored_next, filled_all}
+use Rattle.laws.proofs.Filling.{in_order_lem, begun, stored_next, filled_all}
 use Rattle.laws.proofs.Order.{shifted}
-use Rattle.rules.specs.Desktop.{alpha_index_in, colour_index}
+use Rattle.rules.specs.Desktop.{alpha_index_in}
 use Rattle.bc.proofs.bc3.both.Goals as goal
 
 pub loop-i-init : goal.loop-i-init

@@ -1,12 +1,8 @@
 -- The invariant and the measure of the loop of `bc::bc3::both`.
-use mathlib.Core.Path.{◌≡◌, ◌∙◌, refl, ap}
-use Prim.Native.Nat.{ℕ, ◌+◌, ◌-◌, ◌*◌, ◌/◌, ◌%◌, ◌^◌}
-use native.Mathlib.Omega.{arith}
+use mathlib.Core.Path.{◌≡◌}
+use Prim.Native.Nat.{◌+◌, ◌-◌, ◌*◌, ◌/◌, ◌^◌}
 use lib.ListN.{get_or}
-use lib.Pow.{shr-shr}
-use borrow.Author.Rules.{rules}
-use Rattle.laws.proofs.Filling.{Filling, in_order_lem, begun, stored_next, filled_all}
-use Rattle.laws.proofs.Order.{shifted}
+use Rattle.laws.proofs.Filling.{Filling, in_order_lem}
 use Rattle.rules.specs.Desktop.{alpha_index_in, colour_index}
 use Rattle.bc.proofs.bc3.both.Given as goal
 

@@ -4,7 +4,6 @@ use mathlib.Core.Path.{◌∙◌}
 use mathlib.Core.Bool.{true, false}
 use Rattle.rules.specs.Notation.{bits}
 use Rattle.bc.proofs.bc1.Colours.{listed}
-use borrow.Author.Rules.{rules}
 use Rattle.bc.proofs.bc3.palette_in.Goals as goal
 
 pub returns : goal.returns

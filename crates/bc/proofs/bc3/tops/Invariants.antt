@@ -1,9 +1,7 @@
 -- The invariant and the measure of the loop of `bc::bc3::tops`.
-use mathlib.Core.Path.{refl}
 use Prim.Native.Nat.{◌-◌, ◌*◌, ◌%◌}
-use native.Mathlib.Omega.{arith}
 use lib.ListN.{get_or}
-use Rattle.laws.proofs.Filling.{Filling, in_order_lem, begun, stored_next, filled_all}
+use Rattle.laws.proofs.Filling.{Filling, in_order_lem}
 use Rattle.bc.proofs.bc3.tops.Given as goal
 
 abbrev pub invariant-loop-i : goal.invariant-loop-i

@@ -2,7 +2,6 @@
 -- Assumes nothing.
 use mathlib.Core.Path.{◌∙◌}
 use Rattle.bc.proofs.rgtc.Values.{shown_red}
-use borrow.Author.Rules.{rules}
 use Rattle.bc.proofs.rgtc.bc4_block.Goals as goal
 
 pub returns : goal.returns

@@ -10,7 +10,6 @@ use Rattle.laws.proofs.Between.{values_small}
 use Rattle.laws.proofs.Parts.{rest}
 use Rattle.bc.proofs.bc3.Turns.{at_most}
 use Rattle.bc.proofs.rgtc.Values.{shown_both}
-use borrow.Author.Rules.{rules}
 use Rattle.bc.proofs.rgtc.bc5_block.Goals as goal
 
 pub both-requires : goal.both-requires

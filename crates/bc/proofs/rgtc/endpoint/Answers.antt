@@ -1,6 +1,5 @@
 -- By the one test.
 -- Assumes nothing.
-use borrow.Author.Rules.{rules}
 use Rattle.bc.proofs.rgtc.endpoint.Goals as goal
 
 pub returns-then-signed : goal.returns-then-signed

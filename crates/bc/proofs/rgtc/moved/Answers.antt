@@ -2,7 +2,6 @@
 -- Assumes nothing.
 use native.Mathlib.Omega.{arith}
 use Rattle.bc.proofs.rgtc.Values.{lowest, others}
-use borrow.Author.Rules.{rules}
 use Rattle.bc.proofs.rgtc.moved.Goals as goal
 
 pub returns-then-b-eq128 : goal.returns-then-b-eq128

@@ -1,11 +1,8 @@
 -- The invariant and the measure of the loop of `bc::rgtc::picked`.
-use mathlib.Core.Path.{◌≡◌, ◌∙◌, refl, ap}
-use Prim.Native.Nat.{ℕ, ◌-◌, ◌*◌, ◌/◌, ◌%◌, ◌^◌}
-use native.Mathlib.Omega.{arith}
+use mathlib.Core.Path.{◌≡◌}
+use Prim.Native.Nat.{◌-◌, ◌*◌, ◌/◌, ◌^◌}
 use lib.ListN.{get_or}
-use Rattle.laws.proofs.Filling.{Filling, in_order_lem, begun, stored_next, filled_all}
-use Rattle.laws.proofs.Order.{shifted}
-use lib.Pow.{shr-shr}
+use Rattle.laws.proofs.Filling.{Filling, in_order_lem}
 use Rattle.rules.specs.Desktop.{alpha_index_in}
 use Rattle.bc.proofs.rgtc.picked.Given as goal
 

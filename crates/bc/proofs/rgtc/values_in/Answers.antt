@@ -3,7 +3,6 @@
 use mathlib.Core.Path.{◌∙◌, ap}
 use Rattle.rules.specs.Rgtc.{endpoint}
 use Rattle.bc.proofs.rgtc.Values.{made}
-use borrow.Author.Rules.{rules}
 use Rattle.bc.proofs.rgtc.values_in.Goals as goal
 
 pub returns : goal.returns

@@ -3,7 +3,6 @@
 use mathlib.Core.Path.{refl}
 use native.Mathlib.Omega.{arith}
 use Rattle.laws.proofs.Shades.{blend_most}
-use borrow.Author.Rules.{rules}
 use Rattle.bc7.proofs.bptc.blend.Goals as goal
 
 pub overflow_mul-result : goal.overflow_mul-result

@@ -3,7 +3,6 @@
 use native.Mathlib.Nat.{lt_trans}
 use lib.Dec.{lit<}
 use Rattle.laws.proofs.Shades.{shifted, expand_byte}
-use borrow.Author.Rules.{rules}
 use Rattle.bc7.proofs.bptc.expand.Goals as goal
 
 pub overflow_add-result : goal.overflow_add-result

@@ -8,7 +8,6 @@ use lib.ListN.{get_or}
 use Rattle.rules.specs.Bptc.{subset, anchor}
 use Rattle.laws.proofs.Filled.{get_or_build}
 use Rattle.bc7.specs.bptc.Layout.{packed, layout_of}
-use borrow.Author.Rules.{rules}
 use Rattle.bc7.proofs.bptc.layout.Goals as goal
 
 pub returns-then-n-eq1 : goal.returns-then-n-eq1

@@ -4,7 +4,6 @@ use mathlib.Core.Path.{◌≡◌, ◌∙◌, ap, sym}
 use native.Mathlib.Omega.{arith}
 use Rattle.rules.specs.Bc7.{mode_table, mode_at}
 use Rattle.bc7.proofs.bptc.Arms.{at_least}
-use borrow.Author.Rules.{rules}
 use Rattle.bc7.proofs.bptc.row.Goals as goal
 
 pub returns-in-0 : goal.returns-in-0

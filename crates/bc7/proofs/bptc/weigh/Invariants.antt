@@ -1,13 +1,9 @@
 -- The invariant and the measure of the loop of `bc7::bptc::weigh`.
-use mathlib.Core.Path.{◌∙◌, ap, refl}
 use mathlib.Core.List.{List}
 use Prim.Native.Nat.{ℕ, ◌-◌}
-use native.Mathlib.Omega.{arith}
-use borrow.Author.Rules.{rules}
-use lib.ListN.{get_or, replicate}
+use lib.ListN.{get_or}
 use Rattle.rules.specs.Bptc.{weights_of}
-use Rattle.laws.proofs.Filled.{get_or_build}
-use Rattle.laws.proofs.Filling.{Filling, in_order_lem, begun, stored_next, filled_all}
+use Rattle.laws.proofs.Filling.{Filling, in_order_lem}
 use Rattle.bc7.proofs.bptc.weigh.Given as goal
 
 abbrev pub weight_by : ℕ → List ℕ → ℕ → ℕ

@@ -1,14 +1,11 @@
 -- `bc7::endpoints::channel` meets its contract: turn e makes endpoint e.
 -- Assumes nothing.
 use mathlib.Core.Path.{◌∙◌, ap, refl}
-use mathlib.Core.Bool.{cond}
-use mathlib.Core.List.{List}
-use Prim.Native.Nat.{ℕ, ◌+◌, ◌-◌, ◌*◌, ◌/◌, ◌^◌}
+use Prim.Native.Nat.{ℕ, ◌+◌, ◌*◌, ◌^◌}
 use native.Mathlib.Omega.{arith}
-use lib.Dec.{eqb}
 use lib.ListN.{get_or}
 use Rattle.rules.specs.Bc7.{expand}
-use Rattle.bc7.proofs.endpoints.Steps.{Made, make}
+use Rattle.bc7.proofs.endpoints.Steps.{make}
 use Rattle.bc7.proofs.endpoints.channel.Invariants.{end_of}
 use Rattle.bc7.proofs.endpoints.channel.Goals as goal
 

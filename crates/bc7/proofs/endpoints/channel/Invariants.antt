@@ -1,13 +1,11 @@
 -- The invariant and the measure of the loop of `bc7::endpoints::channel`.
-use mathlib.Core.Path.{◌∙◌, ap, refl}
 use mathlib.Core.Bool.{cond}
 use mathlib.Core.List.{List}
 use Prim.Native.Nat.{ℕ, ◌+◌, ◌-◌, ◌*◌, ◌/◌, ◌^◌}
-use native.Mathlib.Omega.{arith}
 use lib.Dec.{eqb}
 use lib.ListN.{get_or}
 use Rattle.rules.specs.Bc7.{expand}
-use Rattle.bc7.proofs.endpoints.Steps.{Made, make}
+use Rattle.bc7.proofs.endpoints.Steps.{Made}
 use Rattle.bc7.proofs.endpoints.channel.Given as goal
 
 abbrev pub end_of : List ℕ → List ℕ → ℕ → ℕ → ℕ → ℕ → ℕ → ℕ

@@ -5,7 +5,6 @@ use Prim.Native.Nat.{ℕ, ◌+◌}
 use native.Mathlib.Omega.{arith}
 use Rattle.rules.specs.Bc7.{expand}
 use Rattle.laws.proofs.Shades.{put_up, with_p, with_p_byte}
-use borrow.Author.Rules.{rules}
 use Rattle.bc7.proofs.endpoints.endpoint.Goals as goal
 
 pub overflow_shl-v : goal.overflow_shl-v

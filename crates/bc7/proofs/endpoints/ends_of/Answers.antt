@@ -11,7 +11,6 @@ use Rattle.rules.specs.Bc7.{expand, alpha_place, p_bits, p_of}
 use Rattle.bc7.specs.rest.Whole.{whole}
 use Rattle.bc7.proofs.endpoints.Steps.{below_all}
 use Rattle.bc7.proofs.endpoints.Fetch.{fetched, colour_end_lem, alpha_end_lem}
-use borrow.Author.Rules.{rules}
 use Rattle.bc7.proofs.endpoints.ends_of.Goals as goal
 
 pub channel-red-requires : goal.channel-red-requires

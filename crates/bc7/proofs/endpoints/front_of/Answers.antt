@@ -5,7 +5,6 @@ use Prim.Native.Nat.{ℕ, ◌+◌, ◌/◌, ◌%◌, ◌^◌}
 use lib.Pow.{shr-shr}
 use Rattle.rules.specs.Bc7.{rotation_place, selection_place}
 use Rattle.bc7.specs.rest.Whole.{whole}
-use borrow.Author.Rules.{rules}
 use Rattle.bc7.proofs.endpoints.front_of.Goals as goal
 
 pub returns : goal.returns

@@ -2,7 +2,6 @@
 -- Assumes nothing.
 use borrow.Author.Tests.{eq-eqb, ne_eqb}
 use native.Mathlib.Omega.{arith}
-use borrow.Author.Rules.{rules}
 use Rattle.bc7.proofs.endpoints.p_count.Goals as goal
 
 pub returns-then-k-eq0 : goal.returns-then-k-eq0

@@ -1,9 +1,8 @@
 -- `bc7::rest::indices` meets its contract: turn i reads index i, and what is left is shifted by as many bits.
 -- Assumes nothing.
-use Prim.Native.Nat.{◌-◌}
 use native.Mathlib.Omega.{arith}
 use Rattle.laws.proofs.Filling.{filled_all}
-use Rattle.bc7.proofs.rest.Loops.{Indexed, index_of, started, indexed}
+use Rattle.bc7.proofs.rest.Loops.{index_of, started, indexed}
 use Rattle.bc7.proofs.rest.indices.Goals as goal
 
 pub loop-i-init : goal.loop-i-init

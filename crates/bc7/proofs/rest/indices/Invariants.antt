@@ -1,8 +1,6 @@
 -- The invariant and the measure of the loop of `bc7::rest::indices`.
 use Prim.Native.Nat.{◌-◌}
-use native.Mathlib.Omega.{arith}
-use Rattle.laws.proofs.Filling.{filled_all}
-use Rattle.bc7.proofs.rest.Loops.{Indexed, index_of, started, indexed}
+use Rattle.bc7.proofs.rest.Loops.{Indexed}
 use Rattle.bc7.proofs.rest.indices.Given as goal
 
 abbrev pub invariant-loop-i : goal.invariant-loop-i

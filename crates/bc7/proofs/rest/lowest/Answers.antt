@@ -4,7 +4,6 @@ use native.Mathlib.Nat.{mod-lt, lt_of_lt_of_le}
 use native.Mathlib.Omega.{arith}
 use lib.Pow.{pow_pos, pow_mono}
 use Rattle.laws.proofs.Shift.{one_shl}
-use borrow.Author.Rules.{rules}
 use Rattle.bc7.proofs.rest.lowest.Goals as goal
 
 pub overflow_cast-result : goal.overflow_cast-result

@@ -3,7 +3,6 @@
 use mathlib.Core.Path.{sym, ◌∙◌}
 use native.Mathlib.Omega.{arith}
 use Rattle.laws.proofs.Shift.{whole_low}
-use borrow.Author.Rules.{rules}
 use Rattle.bc7.proofs.rest.next.Goals as goal
 
 pub returns : goal.returns

@@ -1,7 +1,6 @@
 -- `bc7::rest::next_low` meets its contract: the two words shifted as one, so that nothing overlaps.
 -- Assumes nothing.
 use Rattle.laws.proofs.Shift.{on_top, low_fits}
-use borrow.Author.Rules.{rules}
 use Rattle.bc7.proofs.rest.next_low.Goals as goal
 
 pub overflow_add-result : goal.overflow_add-result

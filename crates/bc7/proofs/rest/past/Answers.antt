@@ -3,7 +3,6 @@
 use mathlib.Core.Path.{ap, ◌∙◌}
 use Prim.Native.Nat.{ℕ, ◌+◌, ◌*◌, ◌/◌, ◌^◌}
 use Rattle.laws.proofs.Shift.{whole_past}
-use borrow.Author.Rules.{rules}
 use Rattle.bc7.proofs.rest.past.Goals as goal
 
 pub returns : goal.returns

@@ -1,11 +1,10 @@
 -- `bc7::rest::several` meets its contract: turn i reads field i, and what is left is shifted by as many bits.
 -- Assumes nothing.
 use mathlib.Core.Path.{◌≡◌, refl, ap, ◌∙◌}
-use Prim.Native.Nat.{ℕ, ◌+◌, ◌-◌, ◌*◌, ◌/◌, ◌^◌}
+use Prim.Native.Nat.{ℕ, ◌*◌, ◌/◌, ◌^◌}
 use native.Mathlib.Omega.{arith}
-use borrow.Author.Rules.{rules}
 use Rattle.bc7.specs.rest.Whole.{whole}
-use Rattle.bc7.proofs.rest.Loops.{Several, begun, read}
+use Rattle.bc7.proofs.rest.Loops.{begun, read}
 use Rattle.bc7.proofs.rest.several.Goals as goal
 
 pub loop-i-init : goal.loop-i-init

@@ -1,10 +1,6 @@
 -- The invariant and the measure of the loop of `bc7::rest::several`.
-use mathlib.Core.Path.{◌≡◌, refl, ap, ◌∙◌}
-use Prim.Native.Nat.{ℕ, ◌+◌, ◌-◌, ◌*◌, ◌/◌, ◌^◌}
-use native.Mathlib.Omega.{arith}
-use borrow.Author.Rules.{rules}
-use Rattle.bc7.specs.rest.Whole.{whole}
-use Rattle.bc7.proofs.rest.Loops.{Several, begun, read}
+use Prim.Native.Nat.{◌+◌, ◌-◌, ◌*◌, ◌^◌}
+use Rattle.bc7.proofs.rest.Loops.{Several}
 use Rattle.bc7.proofs.rest.several.Given as goal
 
 abbrev pub invariant-loop-i : goal.invariant-loop-i

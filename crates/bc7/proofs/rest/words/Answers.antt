@@ -7,7 +7,6 @@ use native.Mathlib.Omega.{arith}
 use lib.ListN.{length, take, drop}
 use Rattle.numbers.specs.Numbers.{little}
 use Rattle.numbers.proofs.Little.{inside, moved}
-use borrow.Author.Rules.{rules}
 use Rattle.bc7.proofs.rest.words.Goals as goal
 
 -- the second eight bytes, as a part of the list

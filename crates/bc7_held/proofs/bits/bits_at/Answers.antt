@@ -9,7 +9,6 @@ use lib.ListN.{get_or}
 use Rattle.rules.specs.Bits.{field_at}
 use Rattle.laws.proofs.Number.{in_two}
 use Rattle.laws.proofs.Refuse.{allowed}
-use borrow.Author.Rules.{rules}
 use Rattle.bc7_held.proofs.bits.bits_at.Goals as goal
 
 pub returns-then-refused : goal.returns-then-refused

@@ -3,7 +3,6 @@
 use mathlib.Core.Path.{sym}
 use lib.Dec.{lit<}
 use lib.ListN.{get_or-eq_default}
-use borrow.Author.Rules.{rules}
 use Rattle.bc7_held.proofs.bits.byte_or_0.Goals as goal
 
 pub returns-else-i-s : goal.returns-else-i-s

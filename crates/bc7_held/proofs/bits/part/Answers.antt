@@ -5,7 +5,6 @@ use native.Mathlib.Nat.{mod-lt, lt_of_lt_of_le}
 use lib.Pow.{pow_pos, pow_mono}
 use native.Mathlib.Omega.{arith}
 use Rattle.laws.proofs.Shift.{one_shl}
-use borrow.Author.Rules.{rules}
 use Rattle.bc7_held.proofs.bits.part.Goals as goal
 
 pub overflow_cast-result : goal.overflow_cast-result

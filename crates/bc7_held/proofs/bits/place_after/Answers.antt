@@ -3,7 +3,6 @@
 use mathlib.Core.Path.{sym, ◌∙◌}
 use native.Mathlib.Omega.{arith}
 use Rattle.laws.proofs.Refuse.{allowed}
-use borrow.Author.Rules.{rules}
 use Rattle.bc7_held.proofs.bits.place_after.Goals as goal
 
 pub returns-then-refused : goal.returns-then-refused

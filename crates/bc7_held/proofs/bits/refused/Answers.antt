@@ -3,7 +3,6 @@
 use mathlib.Core.Path.{sym}
 use native.Mathlib.Omega.{arith}
 use Rattle.laws.proofs.Refuse.{too_wide, too_far, past, within}
-use borrow.Author.Rules.{rules}
 use Rattle.bc7_held.proofs.bits.refused.Goals as goal
 
 pub returns-then-n-gt8 : goal.returns-then-n-gt8

@@ -6,10 +6,9 @@ use mathlib.Core.List.{List, [], ◌∷◌}
 use Prim.Native.Nat.{ℕ, ◌+◌, ◌-◌, ◌*◌, ◌≤◌}
 use native.Mathlib.Omega.{arith}
 use lib.ListN.{get_or, set, take, drop, length-take, length-drop}
-use borrow.Author.Rules.{rules}
 use Rattle.rules.specs.Places.{bytes_of}
 use Rattle.laws.proofs.Parts.{part}
-use Rattle.rules.specs.Census.{count_of, counts}
+use Rattle.rules.specs.Census.{count_of}
 use Rattle.laws.specs.Sorted.{met, only, eight}
 use Rattle.census.proofs.tally.Grown.{one_more, within}
 use Rattle.census.proofs.tally.tally.Invariants.{before}

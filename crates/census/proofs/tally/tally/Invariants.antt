@@ -1,16 +1,11 @@
 -- The invariant and the measure of the loop of `census::tally::tally`.
-use mathlib.Core.Path.{◌≡◌, ◌∙◌, refl, ap}
-use mathlib.Core.Bool.{Bool, true, false}
-use mathlib.Core.List.{List, [], ◌∷◌}
-use Prim.Native.Nat.{ℕ, ◌+◌, ◌-◌, ◌*◌, ◌≤◌}
-use native.Mathlib.Omega.{arith}
-use lib.ListN.{get_or, set, take, drop, length-take, length-drop}
-use borrow.Author.Rules.{rules}
+use mathlib.Core.Path.{◌≡◌}
+use mathlib.Core.Bool.{Bool}
+use mathlib.Core.List.{List}
+use Prim.Native.Nat.{ℕ, ◌-◌, ◌≤◌}
 use Rattle.rules.specs.Places.{bytes_of}
-use Rattle.laws.proofs.Parts.{part}
-use Rattle.rules.specs.Census.{count_of, counts}
-use Rattle.laws.specs.Sorted.{met, only, eight}
-use Rattle.census.proofs.tally.Grown.{one_more, within}
+use Rattle.rules.specs.Census.{counts}
+use Rattle.laws.specs.Sorted.{eight}
 use Rattle.census.proofs.tally.tally.Given as goal
 
 -- the counts of the blocks before b

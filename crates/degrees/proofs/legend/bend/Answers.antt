@@ -2,7 +2,6 @@
 -- Assumes nothing.
 use native.Mathlib.Omega.{arith}
 use borrow.Author.Tests.{le-leb, lt-leb}
-use borrow.Author.Rules.{rules}
 use Rattle.degrees.proofs.legend.bend.Goals as goal
 
 pub returns-then-red-le128 : goal.returns-then-red-le128

@@ -1,7 +1,6 @@
 -- `degrees::legend::predicted` meets its contract: each arm is given that the legend is its constructor at some values, at which the rule
 -- computes.
 -- Assumes nothing.
-use borrow.Author.Rules.{rules}
 use Rattle.degrees.proofs.legend.predicted.Goals as goal
 
 pub returns-in-Line : goal.returns-in-Line

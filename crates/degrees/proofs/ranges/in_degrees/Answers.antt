@@ -3,7 +3,6 @@
 use mathlib.Core.Path.{refl, ◌∙◌}
 use lib.Dec.{lit<}
 use lib.Ieee.{of_bits}
-use borrow.Author.Rules.{rules}
 use Rattle.degrees.proofs.floats.Range.{spans}
 use Rattle.degrees.proofs.ranges.in_degrees.Goals as goal
 

@@ -1,6 +1,6 @@
 -- An eighth of the number that the value is with as much added.
 -- Assumes nothing.
-use Rattle.std.proofs.Common.{◌/◌, ℤ, pos, ◌+ℤ◌, nat_abs, ap, ◌∙◌, arith, w16, rules}
+use Rattle.std.proofs.Common.{◌/◌, ℤ, pos, ◌+ℤ◌, nat_abs, ap, ◌∙◌, arith, w16}
 use mir.ValLaws.{to_z-of_z}
 use Rattle.laws.proofs.Signed.{held_small}
 use Rattle.eac.proofs.values.byte_of.Goals as goal

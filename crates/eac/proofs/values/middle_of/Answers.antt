@@ -1,6 +1,6 @@
 -- Both ways are 8 * z, of a z that a byte bounds, and of unsigned ones 4 more.
 -- Assumes nothing.
-use Rattle.std.proofs.Common.{◌≡◌, ℕ, ◌<◌, Bool, ltb, ℤ, pos, ◌+ℤ◌, ◌*ℤ◌, sym, refl, ap, ◌∙◌, subst, arith, ltb→lt, w16, SFits, rules}
+use Rattle.std.proofs.Common.{◌≡◌, ℕ, ◌<◌, Bool, ltb, ℤ, pos, ◌+ℤ◌, ◌*ℤ◌, sym, refl, ap, ◌∙◌, subst, arith, ltb→lt, w16, SFits}
 use lib.IntN.{+ℤ_comm}
 use lib.Signed.{mag}
 use Rattle.rules.specs.Channels.{signed_base}
@@ -15,8 +15,10 @@ fits z h = record { sfits = omega arith }
 module _ (n : ℕ) (z : ℤ) (h : n < 1024) (b : mag z < 256) where
   scaled : SFits w16 (pos 8 *ℤ held w16 z)
   scaled = by_fits w16 (pos n) (pos 8) z 8 refl (fits (pos n) h) (fits (pos 8) (omega arith)) (fits z (omega arith)) (omega arith)
+
   moved : SFits w16 (held w16 (pos n) +ℤ held w16 (pos 8 *ℤ held w16 z))
   moved = on_fits w16 (pos n) (pos 8) z 8 refl (fits (pos n) h) (fits (pos 8) (omega arith)) (fits z (omega arith)) (omega arith)
+
   ends : (t : Bool) (m : ℕ) → pos 8 *ℤ z +ℤ pos n ≡ middle t m
       → (held w16 (held w16 (pos n) +ℤ held w16 (pos 8 *ℤ held w16 z)) ≡ middle t m) × (mag (held w16 (held w16 (pos n) +ℤ held w16 (pos 8 *ℤ held w16 z))) < 4096)
   ends t m e =
@@ -28,6 +30,7 @@ module _ (n : ℕ) (z : ℤ) (h : n < 1024) (b : mag z < 256) where
 module _ (z : ℤ) (b : mag z < 256) where
   eightfold : held w16 (pos 8 *ℤ held w16 z) ≡ pos 8 *ℤ z
   eightfold = held_is w16 _ (pos 8 *ℤ z) (ap (λ (y : ℤ). pos 8 *ℤ y) (held_small w16 z (omega arith))) (omega (arith, mag_mul 8 z))
+
   ends-eightfold : (t : Bool) (m : ℕ) → pos 8 *ℤ z ≡ middle t m
       → (held w16 (pos 8 *ℤ held w16 z) ≡ middle t m) × (mag (held w16 (pos 8 *ℤ held w16 z)) < 4096)
   ends-eightfold t m e = (eightfold ∙ e, subst (λ (y : ℤ). mag y < 4096) (sym eightfold) (omega (arith, mag_mul 8 z)))

@@ -1,6 +1,6 @@
 -- The sum fits, and is not negative.
 -- Assumes nothing.
-use Rattle.std.proofs.Common.{◌≡◌, ◌+◌, ◌<◌, pos, ◌+ℤ◌, nat_abs, arith, w16, to_z, rules}
+use Rattle.std.proofs.Common.{◌≡◌, ◌<◌, pos, ◌+ℤ◌, nat_abs, arith, w16, to_z}
 use Rattle.laws.proofs.Signed.{held, mag_add, sum_fits, sum_held}
 use Rattle.eac.proofs.values.Whole.{as_natural}
 use Rattle.eac.proofs.values.raised.Goals as goal

@@ -1,6 +1,6 @@
 -- What the code makes of a byte is its signed base: one test that antt computes over all 256.
 -- Assumes nothing.
-use Rattle.std.proofs.Common.{◌≡◌, ℕ, ◌<◌, Bool, true, false, cond, T, eqb, ltb, ℤ, pos, negsuc, ◌-ℤ◌, sym, ap, ◌∙◌, arith, eqb→eq, w16, to_z, rules, le-ltb, lt-ltb, eq-eqb, ne_eqb}
+use Rattle.std.proofs.Common.{◌≡◌, ℕ, ◌<◌, Bool, true, false, cond, T, eqb, ltb, ℤ, pos, negsuc, ◌-ℤ◌, sym, ap, ◌∙◌, arith, eqb→eq, w16, to_z, le-ltb, lt-ltb, eq-eqb, ne_eqb}
 use Rattle.rules.specs.Channels.{signed_base}
 use Rattle.laws.proofs.Every.{below}
 use Rattle.laws.proofs.Signed.{held}

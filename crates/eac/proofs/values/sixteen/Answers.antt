@@ -1,6 +1,6 @@
 -- As much is taken back as was added, in sixteen bits.
 -- Assumes nothing.
-use Rattle.std.proofs.Common.{ℤ, pos, ◌+ℤ◌, ap, ◌∙◌, arith, w16, rules}
+use Rattle.std.proofs.Common.{ℤ, pos, ◌+ℤ◌, ap, ◌∙◌, arith, w16}
 use mir.ValLaws.{to_z-of_z}
 use Rattle.eac.proofs.values.Whole.{taken_back}
 use Rattle.eac.proofs.values.sixteen.Goals as goal

@@ -1,6 +1,6 @@
 -- The rule's two cases are the code's.
 -- Assumes nothing.
-use Rattle.std.proofs.Common.{arith, rules, eq-eqb, ne_eqb}
+use Rattle.std.proofs.Common.{arith, eq-eqb, ne_eqb}
 use Rattle.eac.proofs.values.times_of.Goals as goal
 
 pub returns-then-m-eq0 : goal.returns-then-m-eq0

@@ -1,7 +1,7 @@
 -- Turn i stores pixel i with the alpha that it picks.
 -- Assumes nothing.
 use mathlib.Core.Path.{◌≡◌, ◌∙◌, refl, ap}
-use Prim.Native.Nat.{◌-◌, ◌/◌, ◌%◌}
+use Prim.Native.Nat.{◌/◌, ◌%◌}
 use native.Mathlib.Omega.{arith}
 use borrow.Author.Rules.{rules}
 use lib.IntN.{ℤ, pos, nat_abs}
@@ -9,7 +9,7 @@ use lib.ListN.{get_or}
 use mir.Syntax.{w16}
 use Rattle.rules.specs.Notation.{byte}
 use Rattle.rules.specs.Channels.{alpha_byte, with_alpha}
-use Rattle.laws.proofs.Filling.{Filling, in_order_lem, begun, stored_next, filled_all}
+use Rattle.laws.proofs.Filling.{in_order_lem, begun, stored_next, filled_all}
 use Rattle.laws.proofs.Signed.{held}
 use Rattle.etc_alpha.proofs.channel.Moves.{small_alpha, small_byte, alpha_held}
 use Rattle.etc_alpha.proofs.channel.a8_onto.Goals as goal

@@ -1,18 +1,9 @@
 -- The invariant and the measure of the loop of `etc_alpha::channel::a8_over`.
-use mathlib.Core.Path.{◌≡◌, ◌∙◌, refl, sym, ap, subst}
 use mathlib.Core.List.{List}
-use Prim.Native.Nat.{ℕ, ◌+◌, ◌-◌, ◌/◌, ◌%◌, ◌≤◌, ◌<◌}
-use native.Mathlib.Omega.{arith}
-use borrow.Author.Rules.{rules}
-use lib.IntN.{ℤ, pos, nat_abs}
-use lib.ListN.{length, get_or, set}
-use mir.Syntax.{w16}
-use Rattle.rules.specs.Notation.{byte}
+use Prim.Native.Nat.{ℕ, ◌-◌, ◌/◌, ◌%◌, ◌≤◌}
+use lib.ListN.{get_or}
 use Rattle.rules.specs.Channels.{alpha_byte, with_alpha}
-use Rattle.laws.proofs.Paint.{said}
-use Rattle.laws.proofs.Signed.{held}
-use Rattle.pixel.proofs.fill.Part.{Begun, begin, go_on}
-use Rattle.etc_alpha.proofs.channel.Moves.{small_alpha, small_byte, alpha_held}
+use Rattle.pixel.proofs.fill.Part.{Begun}
 use Rattle.etc_alpha.proofs.channel.a8_over.Given as goal
 
 -- what element k is to be

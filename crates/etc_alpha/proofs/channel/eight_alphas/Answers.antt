@@ -2,17 +2,15 @@
 -- Assumes nothing.
 use mathlib.Core.Path.{◌≡◌, ◌∙◌, refl, ap}
 use mathlib.Core.List.{List}
-use Prim.Native.Nat.{ℕ, ◌-◌, ◌<◌}
+use Prim.Native.Nat.{ℕ, ◌<◌}
 use native.Mathlib.Omega.{arith}
-use borrow.Author.Rules.{rules}
 use lib.IntN.{ℤ, pos, ◌+ℤ◌}
 use lib.ListN.{get_or}
 use lib.Signed.{mag}
 use mir.Syntax.{w16}
 use Rattle.rules.specs.Notation.{bits, clamp}
-use Rattle.laws.proofs.Filling.{Filling, in_order_lem, begun, stored_next, filled_all}
+use Rattle.laws.proofs.Filling.{in_order_lem, begun, stored_next, filled_all}
 use Rattle.laws.proofs.Signed.{held, held_small, cast_pos}
-use Rattle.tables.specs.products.Products.{products_of_lem}
 use Rattle.etc_alpha.proofs.channel.Moves.{small_product}
 use Rattle.etc_alpha.proofs.channel.eight_alphas.Invariants.{product_at}
 use Rattle.etc_alpha.proofs.channel.eight_alphas.Goals as goal

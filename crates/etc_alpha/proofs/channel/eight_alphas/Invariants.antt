@@ -1,18 +1,10 @@
 -- The invariant and the measure of the loop of `etc_alpha::channel::eight_alphas`.
-use mathlib.Core.Path.{◌≡◌, ◌∙◌, refl, ap}
-use mathlib.Core.List.{List}
-use Prim.Native.Nat.{ℕ, ◌-◌, ◌<◌}
-use native.Mathlib.Omega.{arith}
-use borrow.Author.Rules.{rules}
+use Prim.Native.Nat.{ℕ, ◌-◌}
 use lib.IntN.{ℤ, pos, ◌+ℤ◌}
 use lib.ListN.{get_or}
-use lib.Signed.{mag}
-use mir.Syntax.{w16}
 use Rattle.rules.specs.Notation.{bits, clamp}
-use Rattle.laws.proofs.Filling.{Filling, in_order_lem, begun, stored_next, filled_all}
-use Rattle.laws.proofs.Signed.{held, held_small, cast_pos}
+use Rattle.laws.proofs.Filling.{Filling, in_order_lem}
 use Rattle.tables.specs.products.Products.{products_of_lem}
-use Rattle.etc_alpha.proofs.channel.Moves.{small_product}
 use Rattle.etc_alpha.proofs.channel.eight_alphas.Given as goal
 
 -- the product at place j of a row

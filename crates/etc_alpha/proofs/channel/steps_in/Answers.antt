@@ -2,7 +2,7 @@
 -- Assumes nothing.
 use mathlib.Core.Path.{◌≡◌, ◌∙◌, refl, sym, ap}
 use mathlib.Core.List.{List, []}
-use Prim.Native.Nat.{◌-◌, ◌<◌}
+use Prim.Native.Nat.{◌<◌}
 use native.Mathlib.Omega.{arith}
 use lib.IntN.{ℤ, pos}
 use lib.ListN.{get_or}
@@ -10,7 +10,7 @@ use lib.Signed.{mag}
 use mir.Syntax.{w8, w16}
 use Rattle.rules.specs.Channels.{alpha_steps_lem}
 use Rattle.laws.proofs.Filled.{is_build}
-use Rattle.laws.proofs.Filling.{Filling, in_order_lem, begun, stored_next, filled_all}
+use Rattle.laws.proofs.Filling.{in_order_lem, begun, stored_next, filled_all}
 use Rattle.laws.proofs.Signed.{held_small, held_twice}
 use Rattle.etc_alpha.proofs.channel.Steps.{small_row, eight_in_row}
 use Rattle.etc_alpha.proofs.channel.steps_in.Goals as goal

@@ -1,17 +1,10 @@
 -- The invariant and the measure of the loop of `etc_alpha::channel::steps_in`.
-use mathlib.Core.Path.{◌≡◌, ◌∙◌, refl, sym, ap}
-use mathlib.Core.List.{List, []}
-use Prim.Native.Nat.{◌-◌, ◌<◌}
-use native.Mathlib.Omega.{arith}
-use lib.IntN.{ℤ, pos}
+use mathlib.Core.List.{[]}
+use Prim.Native.Nat.{◌-◌}
+use lib.IntN.{pos}
 use lib.ListN.{get_or}
-use lib.Signed.{mag}
-use mir.Syntax.{w8, w16}
 use Rattle.rules.specs.Channels.{alpha_steps_lem}
-use Rattle.laws.proofs.Filled.{is_build}
-use Rattle.laws.proofs.Filling.{Filling, in_order_lem, begun, stored_next, filled_all}
-use Rattle.laws.proofs.Signed.{held_small, held_twice}
-use Rattle.etc_alpha.proofs.channel.Steps.{small_row, eight_in_row}
+use Rattle.laws.proofs.Filling.{Filling, in_order_lem}
 use Rattle.etc_alpha.proofs.channel.steps_in.Given as goal
 
 abbrev pub invariant-loop-i : goal.invariant-loop-i

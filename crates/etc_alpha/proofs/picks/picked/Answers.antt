@@ -4,13 +4,12 @@ use mathlib.Core.Path.{◌≡◌, ◌∙◌, refl, sym, ap}
 use mathlib.Core.List.{List}
 use Prim.Native.Nat.{ℕ, ◌-◌, ◌*◌, ◌/◌, ◌%◌, ◌^◌}
 use native.Mathlib.Omega.{arith}
-use borrow.Author.Rules.{rules}
 use lib.IntN.{pos}
 use lib.ListN.{get_or}
 use mir.Syntax.{w16}
 use Rattle.tables.specs.consts.Tables.{write_order_lem}
 use Rattle.laws.proofs.Filled.{get_or_build}
-use Rattle.laws.proofs.Filling.{Filling, begun, stored, filled}
+use Rattle.laws.proofs.Filling.{begun, stored, filled}
 use Rattle.laws.proofs.Order.{shifted, place, place_only}
 use Rattle.laws.proofs.Signed.{held_small}
 use Rattle.etc_alpha.specs.picks.Picks.{pick_at}

@@ -1,19 +1,10 @@
 -- The invariant and the measure of the loop of `etc_alpha::picks::picked`.
-use mathlib.Core.Path.{◌≡◌, ◌∙◌, refl, sym, ap}
-use mathlib.Core.List.{List}
-use Prim.Native.Nat.{ℕ, ◌-◌, ◌*◌, ◌/◌, ◌%◌, ◌^◌}
-use native.Mathlib.Omega.{arith}
-use borrow.Author.Rules.{rules}
+use mathlib.Core.Path.{◌≡◌}
+use Prim.Native.Nat.{ℕ, ◌-◌, ◌*◌, ◌/◌, ◌^◌}
 use lib.IntN.{pos}
-use lib.ListN.{get_or}
-use mir.Syntax.{w16}
-use Rattle.tables.specs.consts.Tables.{write_order_lem}
-use Rattle.laws.proofs.Filled.{get_or_build}
-use Rattle.laws.proofs.Filling.{Filling, begun, stored, filled}
-use Rattle.laws.proofs.Order.{shifted, place, place_only}
-use Rattle.laws.proofs.Signed.{held_small}
+use Rattle.laws.proofs.Filling.{Filling}
+use Rattle.laws.proofs.Order.{place}
 use Rattle.etc_alpha.specs.picks.Picks.{pick_at}
-use Rattle.etc_alpha.proofs.picks.Indices.{reads}
 use Rattle.etc_alpha.proofs.picks.picked.Given as goal
 
 -- the turn of place k

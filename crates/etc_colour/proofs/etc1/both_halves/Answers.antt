@@ -1,6 +1,6 @@
 -- The colours of the first half, and then those of the second.
 -- Assumes nothing.
-use Rattle.std.proofs.Common.{[], get_or, ◌∙◌, rules}
+use Rattle.std.proofs.Common.{[], get_or, ◌∙◌}
 use Rattle.etc_colour.proofs.shade.Pick.{halves}
 use Rattle.etc_colour.specs.etc1.Halves.{shades, of_half_lem}
 use Rattle.etc_colour.proofs.etc1.both_halves.Goals as goal

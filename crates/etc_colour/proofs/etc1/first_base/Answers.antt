@@ -1,6 +1,6 @@
 -- A byte has no bits above the eighth.
 -- Assumes nothing.
-use Rattle.std.proofs.Common.{ap, ◌∙◌, arith, rules}
+use Rattle.std.proofs.Common.{ap, ◌∙◌, arith}
 use Rattle.rules.specs.Colour.{five}
 use Rattle.etc_colour.proofs.etc1.first_base.Goals as goal
 

@@ -1,7 +1,6 @@
 -- Each channel of the two base colours, by its leaf.
 -- Assumes nothing.
 use Rattle.laws.proofs.Rows.{rows}
-use Rattle.std.proofs.Common.{rules}
 use Rattle.etc_colour.proofs.etc1.individual_bases.Goals as goal
 
 pub returns : goal.returns

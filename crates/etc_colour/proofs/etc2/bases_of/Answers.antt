@@ -1,7 +1,7 @@
 -- An individual block has its own, and every other those of a difference.
 -- Assumes nothing.
 use borrow.Enum.Refused.{opened}
-use Rattle.std.proofs.Common.{sym, ap, ◌∙◌, rules}
+use Rattle.std.proofs.Common.{sym, ap, ◌∙◌}
 use Rattle.rules.specs.declared.Kind.{Kind}
 use Rattle.etc_colour.specs.etc2.Colours.{half_bases}
 use Rattle.etc_colour.proofs.etc2.Colours.{not_individual}

@@ -1,6 +1,6 @@
 -- The steps of each half, and the colours that they make.
 -- Assumes nothing.
-use Rattle.std.proofs.Common.{◌≡◌, ℕ, ◌+◌, ◌<◌, List, [], get_or, ℤ, sym, ap, ◌∙◌, subst, arith, rules}
+use Rattle.std.proofs.Common.{◌≡◌, ℕ, ◌+◌, ◌<◌, List, [], get_or, ℤ, sym, ap, ◌∙◌, subst, arith}
 use Rattle.rules.specs.Colour.{code, half_colours}
 use Rattle.etc_colour.specs.shade.Pick.{eight}
 use Rattle.etc_colour.specs.shade.Tone.{punched, Steps}

@@ -1,6 +1,6 @@
 -- The kind and the opaque bit are the ones of the format.
 -- Assumes nothing.
-use Rattle.std.proofs.Common.{◌/◌, ◌%◌, Bool, ap, ◌∙◌, rules}
+use Rattle.std.proofs.Common.{◌/◌, ◌%◌, Bool, ap, ◌∙◌}
 use Rattle.rules.specs.Places.{tile}
 use Rattle.rules.specs.declared.Kind.{Kind}
 use Rattle.laws.proofs.Filled.{build_same}

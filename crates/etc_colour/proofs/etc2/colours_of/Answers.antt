@@ -1,7 +1,7 @@
 -- T and H by their own functions, and every other by its halves.
 -- Assumes nothing.
 use borrow.Enum.Refused.{opened}
-use Rattle.std.proofs.Common.{sym, ap, ◌∙◌, rules}
+use Rattle.std.proofs.Common.{sym, ap, ◌∙◌}
 use Rattle.rules.specs.declared.Kind.{Kind}
 use Rattle.etc_colour.specs.shade.Pick.{eight}
 use Rattle.etc_colour.specs.shade.Tone.{punched}

@@ -1,6 +1,6 @@
 -- The difference bit decides.
 -- Assumes nothing.
-use Rattle.std.proofs.Common.{◌/◌, ◌%◌, get_or, rules, eq-eqb, ne_eqb}
+use Rattle.std.proofs.Common.{◌/◌, ◌%◌, get_or, eq-eqb, ne_eqb}
 use Rattle.etc_colour.proofs.etc2.etc1_kind.Goals as goal
 
 pub returns-then-d-eq1 : goal.returns-then-d-eq1

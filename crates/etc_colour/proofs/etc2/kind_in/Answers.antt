@@ -1,6 +1,5 @@
 -- Each format by its own way.
 -- Assumes nothing.
-use Rattle.std.proofs.Common.{rules}
 use Rattle.etc_colour.proofs.etc2.kind_in.Goals as goal
 
 pub returns-then-punch : goal.returns-then-punch

@@ -1,7 +1,7 @@
 -- A planar block by its plane, and every other by the pick of its eight colours.
 -- Assumes nothing.
 use borrow.Enum.Refused.{opened}
-use Rattle.std.proofs.Common.{sym, ap, ◌∙◌, rules}
+use Rattle.std.proofs.Common.{sym, ap, ◌∙◌}
 use Rattle.rules.specs.Places.{tile}
 use Rattle.rules.specs.declared.Kind.{Kind}
 use Rattle.etc_colour.specs.etc2.Colours.{made_pixel}

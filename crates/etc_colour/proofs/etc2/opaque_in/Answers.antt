@@ -1,6 +1,6 @@
 -- Only RGBA1 asks for the bit.
 -- Assumes nothing.
-use Rattle.std.proofs.Common.{◌≡◌, Bool, true, false, cond, not, ◌||◌, refl, rules}
+use Rattle.std.proofs.Common.{◌≡◌, Bool, true, false, cond, not, ◌||◌, refl}
 use Rattle.rules.specs.Colour.{differs}
 use Rattle.etc_colour.proofs.etc2.opaque_in.Goals as goal
 

@@ -1,6 +1,6 @@
 -- The number gains 1 where the comparison holds.
 -- Assumes nothing.
-use Rattle.std.proofs.Common.{sym, ◌∙◌, arith, rules}
+use Rattle.std.proofs.Common.{sym, ◌∙◌, arith}
 use Rattle.etc_colour.proofs.fields.h_number.Goals as goal
 
 pub returns-then-not_less : goal.returns-then-not_less

@@ -1,6 +1,6 @@
 -- Each way out knows the tests that led to it.
 -- Assumes nothing.
-use Rattle.std.proofs.Common.{get_or, rules, eq-eqb, ne_eqb}
+use Rattle.std.proofs.Common.{get_or, eq-eqb, ne_eqb}
 use Rattle.etc_colour.proofs.fields.not_less.Goals as goal
 
 pub returns-then-a-b : goal.returns-then-a-b

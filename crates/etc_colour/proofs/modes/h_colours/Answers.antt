@@ -1,6 +1,6 @@
 -- The four colours of H, for each half the same.
 -- Assumes nothing.
-use Rattle.std.proofs.Common.{ap, ◌∙◌, rules}
+use Rattle.std.proofs.Common.{ap, ◌∙◌}
 use Rattle.rules.specs.Modes.{h_bases, h_distance, h_colours_lem}
 use Rattle.etc_colour.specs.shade.Tone.{punched}
 use Rattle.etc_colour.proofs.shade.Pick.{halves}

@@ -1,6 +1,6 @@
 -- The four colours of T, for each half the same.
 -- Assumes nothing.
-use Rattle.std.proofs.Common.{◌∙◌, rules}
+use Rattle.std.proofs.Common.{◌∙◌}
 use Rattle.rules.specs.Modes.{t_bases, t_distance, t_colours_lem}
 use Rattle.etc_colour.specs.shade.Tone.{punched}
 use Rattle.etc_colour.proofs.shade.Pick.{halves}

@@ -1,6 +1,6 @@
 -- A distance and its opposite, which fit.
 -- Assumes nothing.
-use Rattle.std.proofs.Common.{refl, arith, w16, rules}
+use Rattle.std.proofs.Common.{refl, arith, w16}
 use Rattle.laws.proofs.Signed.{cast_pos, opposite_fits, opposite_held}
 use Rattle.laws.proofs.Rows.{four}
 use Rattle.etc_colour.proofs.modes.t_steps.Goals as goal

@@ -2,7 +2,6 @@
 -- Assumes nothing.
 use Rattle.rules.specs.Modes.{planar_bases_lem}
 use Rattle.laws.proofs.Rows.{three}
-use Rattle.std.proofs.Common.{rules}
 use Rattle.etc_colour.proofs.planar.planar_bases.Goals as goal
 
 pub returns : goal.returns

@@ -1,8 +1,8 @@
 -- The loop has made the pixels passed, each from its column and its row.
 -- Assumes nothing.
-use Rattle.std.proofs.Common.{ℕ, ◌-◌, ◌/◌, ◌%◌, List, refl, ap, ◌∙◌, arith, rules}
-use Rattle.rules.specs.Modes.{planar_pixel_lem, planar_bases_lem}
-use Rattle.laws.proofs.Filling.{Filling, in_order_lem, begun, stored_next, filled_all}
+use Rattle.std.proofs.Common.{ℕ, ◌/◌, ◌%◌, List, refl, ap, ◌∙◌, arith}
+use Rattle.rules.specs.Modes.{planar_pixel_lem}
+use Rattle.laws.proofs.Filling.{in_order_lem, begun, stored_next, filled_all}
 use Rattle.etc_colour.proofs.planar.planar_block.Goals as goal
 
 pub loop-i-init : goal.loop-i-init

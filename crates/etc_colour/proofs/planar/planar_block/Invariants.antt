@@ -1,7 +1,7 @@
 -- The invariant and the measure of the loop of `etc_colour::planar::planar_block`.
-use Rattle.std.proofs.Common.{ℕ, ◌-◌, ◌/◌, ◌%◌, List, refl, ap, ◌∙◌, arith, rules}
+use Rattle.std.proofs.Common.{◌-◌, ◌/◌, ◌%◌}
 use Rattle.rules.specs.Modes.{planar_pixel_lem, planar_bases_lem}
-use Rattle.laws.proofs.Filling.{Filling, in_order_lem, begun, stored_next, filled_all}
+use Rattle.laws.proofs.Filling.{Filling, in_order_lem}
 use Rattle.etc_colour.proofs.planar.planar_block.Given as goal
 
 abbrev pub invariant-loop-i : goal.invariant-loop-i

@@ -1,4 +1,4 @@
-use Rattle.std.proofs.Common.{◌∙◌, arith, w16, rules}
+use Rattle.std.proofs.Common.{◌∙◌, arith, w16}
 use mir.ValLaws.{to_z-of_z}
 use Rattle.etc_colour.proofs.shade.applicate_color.Goals as goal
 

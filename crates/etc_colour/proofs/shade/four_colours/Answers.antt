@@ -1,9 +1,8 @@
 -- The loop has made the colours passed, each from its base, its step and its alpha.
 -- Assumes nothing.
-use Rattle.std.proofs.Common.{◌≡◌, ℕ, ◌-◌, [], get_or, pos, refl, ◌∙◌, arith, w16, rules}
+use Rattle.std.proofs.Common.{◌≡◌, ℕ, [], get_or, pos, refl, ◌∙◌, arith, w16}
 use Rattle.laws.proofs.Signed.{held, held_small}
-use Rattle.laws.proofs.Filling.{Filling, in_order_lem, begun, stored_next, filled_all}
-use Rattle.etc_colour.specs.shade.Tone.{toned}
+use Rattle.laws.proofs.Filling.{in_order_lem, begun, stored_next, filled_all}
 use Rattle.etc_colour.proofs.shade.Tone.{small_alpha, tone}
 use Rattle.etc_colour.proofs.shade.four_colours.Goals as goal
 

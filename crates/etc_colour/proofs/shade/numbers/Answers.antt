@@ -1,10 +1,10 @@
 -- Turn k stores the number of the pixel at place k.
 -- Assumes nothing.
-use Rattle.std.proofs.Common.{◌≡◌, ℕ, ◌+◌, ◌-◌, ◌*◌, ◌/◌, ◌%◌, refl, ap, ◌∙◌, div-one, arith, rules}
+use Rattle.std.proofs.Common.{◌≡◌, ℕ, ◌+◌, ◌*◌, ◌/◌, ◌%◌, refl, ap, ◌∙◌, div-one, arith}
 use Rattle.rules.specs.Notation.{bit}
 use Rattle.rules.specs.Colour.{flipped}
-use Rattle.laws.proofs.Filling.{Filling, in_order_lem, begun, stored_next, filled_all}
-use Rattle.etc_colour.specs.shade.Pick.{second_half_lem, number_at}
+use Rattle.laws.proofs.Filling.{in_order_lem, begun, stored_next, filled_all}
+use Rattle.etc_colour.specs.shade.Pick.{second_half_lem}
 use Rattle.etc_colour.proofs.shade.Pick.{number}
 use Rattle.etc_colour.proofs.shade.numbers.Goals as goal
 

@@ -1,10 +1,7 @@
 -- The invariant and the measure of the loop of `etc_colour::shade::numbers`.
-use Rattle.std.proofs.Common.{◌≡◌, ℕ, ◌+◌, ◌-◌, ◌*◌, ◌/◌, ◌%◌, refl, ap, ◌∙◌, div-one, arith, rules}
-use Rattle.rules.specs.Notation.{bit}
-use Rattle.rules.specs.Colour.{flipped}
-use Rattle.laws.proofs.Filling.{Filling, in_order_lem, begun, stored_next, filled_all}
-use Rattle.etc_colour.specs.shade.Pick.{second_half_lem, number_at}
-use Rattle.etc_colour.proofs.shade.Pick.{number}
+use Rattle.std.proofs.Common.{◌-◌}
+use Rattle.laws.proofs.Filling.{Filling, in_order_lem}
+use Rattle.etc_colour.specs.shade.Pick.{number_at}
 use Rattle.etc_colour.proofs.shade.numbers.Given as goal
 
 abbrev pub invariant-loop-k : goal.invariant-loop-k

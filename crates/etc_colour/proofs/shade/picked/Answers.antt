@@ -1,8 +1,8 @@
 -- Turn i stores what the pixel at place i takes.
 -- Assumes nothing.
-use Rattle.std.proofs.Common.{◌≡◌, ℕ, ◌-◌, ◌<◌, List, get_or, refl, ap, ◌∙◌, arith, rules}
+use Rattle.std.proofs.Common.{◌≡◌, ℕ, ◌<◌, List, get_or, refl, ap, ◌∙◌, arith}
 use Rattle.laws.proofs.Filled.{get_or_build}
-use Rattle.laws.proofs.Filling.{Filling, in_order_lem, begun, stored_next, filled_all}
+use Rattle.laws.proofs.Filling.{in_order_lem, begun, stored_next, filled_all}
 use Rattle.etc_colour.specs.shade.Pick.{number_at, taken}
 use Rattle.etc_colour.proofs.shade.Pick.{small_number}
 use Rattle.etc_colour.proofs.shade.picked.Goals as goal

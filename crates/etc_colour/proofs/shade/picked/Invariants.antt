@@ -1,9 +1,7 @@
 -- The invariant and the measure of the loop of `etc_colour::shade::picked`.
-use Rattle.std.proofs.Common.{◌≡◌, ℕ, ◌-◌, ◌<◌, List, get_or, refl, ap, ◌∙◌, arith, rules}
-use Rattle.laws.proofs.Filled.{get_or_build}
-use Rattle.laws.proofs.Filling.{Filling, in_order_lem, begun, stored_next, filled_all}
-use Rattle.etc_colour.specs.shade.Pick.{number_at, taken}
-use Rattle.etc_colour.proofs.shade.Pick.{small_number}
+use Rattle.std.proofs.Common.{◌-◌}
+use Rattle.laws.proofs.Filling.{Filling, in_order_lem}
+use Rattle.etc_colour.specs.shade.Pick.{taken}
 use Rattle.etc_colour.proofs.shade.picked.Given as goal
 
 abbrev pub invariant-loop-i : goal.invariant-loop-i

@@ -1,4 +1,4 @@
-use Rattle.std.proofs.Common.{ℤ, pos, ◌+ℤ◌, ap, ◌∙◌, arith, w16, rules}
+use Rattle.std.proofs.Common.{ℤ, pos, ◌+ℤ◌, ap, ◌∙◌, arith, w16}
 use Rattle.rules.specs.Notation.{clamp}
 use Rattle.laws.proofs.Signed.{sum_fits, sum_held}
 use Rattle.etc_colour.proofs.shade.Tone.{nothing}

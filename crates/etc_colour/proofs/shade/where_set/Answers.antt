@@ -1,4 +1,4 @@
-use Rattle.std.proofs.Common.{◌≡◌, arith, rules}
+use Rattle.std.proofs.Common.{◌≡◌, arith}
 use Rattle.rules.specs.Notation.{bit}
 use Rattle.etc_colour.proofs.shade.where_set.Goals as goal
 

@@ -5,7 +5,6 @@ use mathlib.Core.Bool.{not, ◌&&◌}
 use Prim.Native.Nat.{ℕ, ◌/◌, ◌%◌}
 use lib.Dec.{eqb}
 use Rattle.rules.specs.Dds.{dds_flat_lem}
-use borrow.Author.Rules.{rules}
 use Rattle.file.proofs.dds.dds_flat.Goals as goal
 
 pub returns : goal.returns

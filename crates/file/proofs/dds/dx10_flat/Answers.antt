@@ -2,7 +2,6 @@
 -- Assumes nothing.
 use mathlib.Core.Path.{sym}
 use Rattle.rules.specs.Dds.{dx10_flat_lem}
-use borrow.Author.Rules.{rules}
 use Rattle.file.proofs.dds.dx10_flat.Goals as goal
 
 pub returns : goal.returns

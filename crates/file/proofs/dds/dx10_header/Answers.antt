@@ -6,7 +6,6 @@ use borrow.Author.Tests.{lt-ltb, le-ltb}
 use Rattle.rules.specs.FileFormats.{known}
 use Rattle.rules.specs.Dds.{dxgi_rows, dds_as, dx10_of}
 use Rattle.rules.specs.declared.KnownFormat.{KnownFormat}
-use borrow.Author.Rules.{rules}
 use Rattle.file.proofs.dds.dx10_header.Goals as goal
 
 pub returns-then-d-lt148 : goal.returns-then-d-lt148

@@ -3,7 +3,6 @@
 use mathlib.Core.Path.{◌∙◌, sym, ap}
 use Rattle.rules.specs.FileFormats.{known}
 use Rattle.rules.specs.Dds.{four_cc_rows, four_cc_format}
-use borrow.Author.Rules.{rules}
 use Rattle.file.proofs.dds.fourcc_format.Goals as goal
 
 pub returns-then-has_fourcc : goal.returns-then-has_fourcc

@@ -4,7 +4,6 @@ use mathlib.Core.Path.{◌∙◌, sym, ap}
 use borrow.Author.Tests.{lt-ltb, le-ltb}
 use Rattle.rules.specs.Dds.{dds_as, dds_of}
 use Rattle.rules.specs.declared.KnownFormat.{KnownFormat}
-use borrow.Author.Rules.{rules}
 use Rattle.file.proofs.dds.header.Goals as goal
 
 pub returns-then-d-lt128 : goal.returns-then-d-lt128

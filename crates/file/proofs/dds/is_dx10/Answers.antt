@@ -4,7 +4,6 @@ use mathlib.Core.Path.{ap, ap₂}
 use mathlib.Core.Bool.{◌&&◌}
 use Prim.Native.Nat.{ℕ}
 use lib.Dec.{eqb}
-use borrow.Author.Rules.{rules}
 use Rattle.file.proofs.dds.is_dx10.Goals as goal
 
 pub returns : goal.returns

@@ -4,7 +4,6 @@ use mathlib.Core.Path.{ap}
 use Prim.Native.Nat.{ℕ}
 use borrow.Author.Tests.{lt-ltb, le-ltb}
 use lib.Dec.{eqb}
-use borrow.Author.Rules.{rules}
 use Rattle.file.proofs.formats.has4.Goals as goal
 
 pub returns-then-d-at : goal.returns-then-d-at

@@ -1,11 +1,9 @@
 -- `file::formats::known_in` meets its contract: what the rows that are left say comes to the same at each turn.
 -- Assumes nothing.
-use mathlib.Core.Path.{◌≡◌, ◌∙◌, refl, sym}
-use Prim.Native.Nat.{◌-◌, ◌≤◌}
+use mathlib.Core.Path.{◌∙◌, refl, sym}
 use native.Mathlib.Omega.{arith}
 use borrow.Author.Tests.{eq-eqb, ne_eqb}
-use lib.ListN.{length, drop, get_or}
-use Rattle.rules.specs.FileFormats.{known}
+use lib.ListN.{get_or}
 use Rattle.file.proofs.Words.{turn, over}
 use Rattle.file.proofs.formats.known_in.Goals as goal
 

@@ -1,11 +1,8 @@
 -- The invariant and the measure of the loop of `file::formats::known_in`.
-use mathlib.Core.Path.{◌≡◌, ◌∙◌, refl, sym}
+use mathlib.Core.Path.{◌≡◌}
 use Prim.Native.Nat.{◌-◌, ◌≤◌}
-use native.Mathlib.Omega.{arith}
-use borrow.Author.Tests.{eq-eqb, ne_eqb}
-use lib.ListN.{length, drop, get_or}
+use lib.ListN.{length, drop}
 use Rattle.rules.specs.FileFormats.{known}
-use Rattle.file.proofs.Words.{turn, over}
 use Rattle.file.proofs.formats.known_in.Given as goal
 
 abbrev pub invariant-loop-i : goal.invariant-loop-i

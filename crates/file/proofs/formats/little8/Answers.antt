@@ -2,7 +2,6 @@
 -- Assumes nothing.
 use native.Mathlib.Omega.{arith}
 use Rattle.file.proofs.Words.{eight}
-use borrow.Author.Rules.{rules}
 use Rattle.file.proofs.formats.little8.Goals as goal
 
 pub returns : goal.returns

@@ -3,7 +3,6 @@
 use mathlib.Core.Path.{◌∙◌, sym, ap}
 use mathlib.Core.Bool.{Bool}
 use Rattle.rules.specs.FileFormats.{word32}
-use borrow.Author.Rules.{rules}
 use Rattle.file.proofs.formats.word.Goals as goal
 
 pub returns-then-order : goal.returns-then-order

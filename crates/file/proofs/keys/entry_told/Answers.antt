@@ -1,7 +1,6 @@
 -- `file::keys::entry_told` meets its contract, by its test.
 -- Assumes nothing.
 use mathlib.Core.Path.{◌∙◌, sym}
-use borrow.Author.Rules.{rules}
 use Rattle.file.proofs.keys.entry_told.Goals as goal
 
 pub returns-then-is_orientation : goal.returns-then-is_orientation

@@ -3,7 +3,6 @@
 use mathlib.Core.Path.{ap₂}
 use mathlib.Core.Bool.{◌&&◌, ◌||◌}
 use Rattle.rules.specs.Keys.{is_orientation_lem}
-use borrow.Author.Rules.{rules}
 use Rattle.file.proofs.keys.is_orientation.Goals as goal
 
 pub returns : goal.returns

@@ -2,7 +2,6 @@
 -- Assumes nothing.
 use borrow.Author.Tests.{lt-ltb, le-ltb}
 use Rattle.rules.specs.Keys.{orientation_of}
-use borrow.Author.Rules.{rules}
 use Rattle.file.proofs.keys.orientation.Goals as goal
 
 pub returns-then-d-start : goal.returns-then-d-start

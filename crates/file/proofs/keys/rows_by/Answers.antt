@@ -1,7 +1,6 @@
 -- `file::keys::rows_by` meets its contract, by its two tests.
 -- Assumes nothing.
 use mathlib.Core.Path.{◌∙◌, sym}
-use borrow.Author.Rules.{rules}
 use Rattle.file.proofs.keys.rows_by.Goals as goal
 
 pub returns-then-has4 : goal.returns-then-has4

@@ -1,12 +1,10 @@
 -- `file::keys::rows_in` meets its contract: what is left to walk tells the same at each turn.
 -- Assumes nothing.
-use mathlib.Core.Path.{◌≡◌, ◌∙◌, sym}
-use Prim.Native.Nat.{◌-◌, ◌≤◌}
+use mathlib.Core.Path.{◌∙◌, sym}
 use native.Mathlib.Omega.{arith}
 use native.Mathlib.Nat.{sub-zero}
 use borrow.Author.Tests.{eq-eqb, ne_eqb, lt-ltb, le-ltb}
 use lib.ListN.{length}
-use Rattle.rules.specs.Keys.{rows_in_lem}
 use Rattle.file.proofs.KeyTurns.{turn, over}
 use Rattle.file.proofs.keys.rows_in.Goals as goal
 

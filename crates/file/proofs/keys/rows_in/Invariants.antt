@@ -1,12 +1,8 @@
 -- The invariant and the measure of the loop of `file::keys::rows_in`.
-use mathlib.Core.Path.{◌≡◌, ◌∙◌, sym}
+use mathlib.Core.Path.{◌≡◌}
 use Prim.Native.Nat.{◌-◌, ◌≤◌}
-use native.Mathlib.Omega.{arith}
-use native.Mathlib.Nat.{sub-zero}
-use borrow.Author.Tests.{eq-eqb, ne_eqb, lt-ltb, le-ltb}
 use lib.ListN.{length}
 use Rattle.rules.specs.Keys.{rows_in_lem}
-use Rattle.file.proofs.KeyTurns.{turn, over}
 use Rattle.file.proofs.keys.rows_in.Given as goal
 
 abbrev pub invariant-loop-i : goal.invariant-loop-i

@@ -2,7 +2,6 @@
 -- Assumes nothing.
 use borrow.Author.Tests.{lt-ltb, le-ltb}
 use Rattle.rules.specs.Keys.{rows_told_lem}
-use borrow.Author.Rules.{rules}
 use Rattle.file.proofs.keys.rows_told.Goals as goal
 
 pub returns-then-size-lt17 : goal.returns-then-size-lt17

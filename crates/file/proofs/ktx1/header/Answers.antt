@@ -3,7 +3,6 @@
 use borrow.Author.Tests.{lt-ltb, le-ltb}
 use Rattle.file.proofs.Picks.{same, other}
 use Rattle.rules.specs.Ktx1.{ktx1_of}
-use borrow.Author.Rules.{rules}
 use Rattle.file.proofs.ktx1.header.Goals as goal
 
 pub returns-then-d-lt64 : goal.returns-then-d-lt64

@@ -2,7 +2,6 @@
 -- Assumes nothing.
 use mathlib.Core.Path.{sym}
 use Rattle.rules.specs.Ktx1.{ktx1_as}
-use borrow.Author.Rules.{rules}
 use Rattle.file.proofs.ktx1.header_as.Goals as goal
 
 pub returns-in-Not : goal.returns-in-Not

@@ -4,7 +4,6 @@ use mathlib.Core.Path.{◌∙◌, sym, ap}
 use Rattle.rules.specs.FileFormats.{known}
 use Rattle.rules.specs.Ktx1.{gl_rows, ktx1_as, ktx1_in}
 use Rattle.rules.specs.declared.KnownFormat.{KnownFormat}
-use borrow.Author.Rules.{rules}
 use Rattle.file.proofs.ktx1.header_in.Goals as goal
 
 pub returns-then-is_flat : goal.returns-then-is_flat

@@ -6,7 +6,6 @@ use Rattle.file.proofs.Picks.{same, other}
 use Rattle.rules.specs.FileFormats.{known}
 use Rattle.rules.specs.Ktx2.{vk_rows, ktx2_as, ktx2_of}
 use Rattle.rules.specs.declared.KnownFormat.{KnownFormat}
-use borrow.Author.Rules.{rules}
 use Rattle.file.proofs.ktx2.header.Goals as goal
 
 pub returns-then-d-lt80 : goal.returns-then-d-lt80

@@ -5,7 +5,6 @@ use lib.ListN.{get_or}
 use Rattle.rules.specs.Files.{found_said}
 use Rattle.rules.specs.declared.FoundLevel.{FoundLevel}
 use Rattle.file.specs.lent.Lent.{level_or}
-use borrow.Author.Rules.{rules}
 use Rattle.file.proofs.lent.file_level.Goals as goal
 
 pub returns-in-Level : goal.returns-in-Level

@@ -5,7 +5,6 @@ use lib.ListN.{get_or}
 use Rattle.rules.specs.Files.{opened_said}
 use Rattle.rules.specs.declared.Opened.{Opened}
 use Rattle.file.specs.lent.Lent.{file_or}
-use borrow.Author.Rules.{rules}
 use Rattle.file.proofs.lent.open_file.Goals as goal
 
 pub returns-in-File : goal.returns-in-File

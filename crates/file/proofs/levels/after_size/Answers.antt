@@ -6,7 +6,6 @@ use native.Mathlib.Omega.{arith}
 use borrow.Author.Tests.{lt-ltb, le-ltb}
 use Rattle.file.proofs.Picks.{same, other}
 use Rattle.rules.specs.FileLevels.{after_size_lem}
-use borrow.Author.Rules.{rules}
 use Rattle.file.proofs.levels.after_size.Goals as goal
 
 pub returns-then-bytes-at : goal.returns-then-bytes-at

@@ -6,7 +6,6 @@ use native.Mathlib.Omega.{arith}
 use native.Mathlib.Nat.{mul-le-mul}
 use Rattle.rules.specs.Formats.{size_of}
 use Rattle.rules.specs.FileLevels.{bytes_for_lem}
-use borrow.Author.Rules.{rules}
 use Rattle.file.proofs.levels.bytes_for.Goals as goal
 
 pub overflow_mul-result : goal.overflow_mul-result

@@ -3,7 +3,6 @@
 use mathlib.Core.Path.{sym}
 use borrow.Author.Tests.{eq-eqb, ne_eqb}
 use Rattle.rules.specs.FileLevels.{fit_of_lem}
-use borrow.Author.Rules.{rules}
 use Rattle.file.proofs.levels.fit_of.Goals as goal
 
 pub returns-then-l-eq2 : goal.returns-then-l-eq2

@@ -3,7 +3,6 @@
 use mathlib.Core.Path.{sym, ap}
 use borrow.Author.Tests.{lt-ltb, le-ltb}
 use Rattle.rules.specs.FileLevels.{found_by}
-use borrow.Author.Rules.{rules}
 use Rattle.file.proofs.levels.found.Goals as goal
 
 pub returns-then-n-l : goal.returns-then-n-l

@@ -1,11 +1,8 @@
 -- `file::levels::held` meets its contract: the first test that fails decides.
 -- Assumes nothing.
 use mathlib.Core.Path.{◌∙◌, sym, ap₂}
-use borrow.Author.Tests.{not-true, not-false}
-use Prim.Native.Nat.{◌-◌}
-use Rattle.rules.specs.FileLevels.{too_many_lem, larger, held_of}
+use Rattle.rules.specs.FileLevels.{too_many_lem, held_of}
 use Rattle.file.proofs.Walk.{sound}
-use borrow.Author.Rules.{rules}
 use Rattle.file.proofs.levels.held.Goals as goal
 
 pub returns-then-is_empty : goal.returns-then-is_empty

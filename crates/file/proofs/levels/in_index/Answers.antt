@@ -5,7 +5,6 @@ use Prim.Native.Nat.{ℕ}
 use borrow.Author.Tests.{lt-ltb, le-ltb}
 use Rattle.file.proofs.Picks.{same, other}
 use Rattle.rules.specs.FileLevels.{inside_of, in_index_lem}
-use borrow.Author.Rules.{rules}
 use Rattle.file.proofs.levels.in_index.Goals as goal
 
 pub returns-then-bytes-n : goal.returns-then-bytes-n

@@ -2,7 +2,6 @@
 -- Assumes nothing.
 use borrow.Author.Tests.{lt-ltb, le-ltb}
 use Rattle.rules.specs.FileLevels.{inside_of}
-use borrow.Author.Rules.{rules}
 use Rattle.file.proofs.levels.inside.Goals as goal
 
 pub returns-then-bytes-start : goal.returns-then-bytes-start

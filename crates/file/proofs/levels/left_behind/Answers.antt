@@ -1,7 +1,6 @@
 -- `file::levels::left_behind` meets its contract, by its test.
 -- Assumes nothing.
 use borrow.Author.Tests.{lt-ltb, le-ltb}
-use borrow.Author.Rules.{rules}
 use Rattle.file.proofs.levels.left_behind.Goals as goal
 
 pub returns-then-left-behind : goal.returns-then-left-behind

@@ -2,7 +2,6 @@
 -- Assumes nothing.
 use mathlib.Core.Path.{sym}
 use Rattle.rules.specs.FileLevels.{level_at_lem}
-use borrow.Author.Rules.{rules}
 use Rattle.file.proofs.levels.level_at.Goals as goal
 
 pub returns : goal.returns

@@ -1,15 +1,13 @@
 -- `file::levels::levels` meets its contract: what is left to walk comes to the same at each turn.
 -- Assumes nothing.
-use mathlib.Core.Path.{◌≡◌, ◌∙◌, sym, ap}
-use Prim.Native.Nat.{◌+◌, ◌-◌, ◌≤◌}
+use mathlib.Core.Path.{◌∙◌, sym, ap}
+use Prim.Native.Nat.{◌+◌, ◌-◌}
 use native.Mathlib.Omega.{arith}
 use native.Mathlib.Nat.{sub-zero}
 use lib.ListN.{length}
-use Rattle.rules.specs.Answers.{limit}
-use Rattle.rules.specs.FileLevels.{level_at_lem, lesser, chosen, levels_from, levels_of}
+use Rattle.rules.specs.FileLevels.{level_at_lem, lesser, chosen, levels_of}
 use Rattle.rules.specs.declared.FileLevel.{FileLevel}
 use Rattle.file.proofs.Walk.{fits, stops, onward, over}
-use borrow.Author.Rules.{rules}
 use Rattle.file.proofs.levels.levels.Goals as goal
 
 pub loop-i-init : goal.loop-i-init

@@ -1,14 +1,8 @@
 -- The invariant and the measure of the loop of `file::levels::levels`.
-use mathlib.Core.Path.{◌≡◌, ◌∙◌, sym, ap}
-use Prim.Native.Nat.{◌+◌, ◌-◌, ◌≤◌}
-use native.Mathlib.Omega.{arith}
-use native.Mathlib.Nat.{sub-zero}
-use lib.ListN.{length}
+use mathlib.Core.Path.{◌≡◌}
+use Prim.Native.Nat.{◌-◌, ◌≤◌}
 use Rattle.rules.specs.Answers.{limit}
-use Rattle.rules.specs.FileLevels.{level_at_lem, lesser, chosen, levels_from, levels_of}
-use Rattle.rules.specs.declared.FileLevel.{FileLevel}
-use Rattle.file.proofs.Walk.{fits, stops, onward, over}
-use borrow.Author.Rules.{rules}
+use Rattle.rules.specs.FileLevels.{levels_from, levels_of}
 use Rattle.file.proofs.levels.levels.Given as goal
 
 abbrev pub invariant-loop-i : goal.invariant-loop-i

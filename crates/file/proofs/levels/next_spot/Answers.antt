@@ -3,7 +3,6 @@
 use mathlib.Core.Path.{sym}
 use native.Mathlib.Omega.{arith}
 use Rattle.rules.specs.FileLevels.{next_spot_lem}
-use borrow.Author.Rules.{rules}
 use Rattle.file.proofs.levels.next_spot.Goals as goal
 
 pub overflow_add-at : goal.overflow_add-at

@@ -2,7 +2,6 @@
 -- Assumes nothing.
 use mathlib.Core.Path.{sym, ap}
 use Rattle.rules.specs.FileLevels.{opened_by}
-use borrow.Author.Rules.{rules}
 use Rattle.file.proofs.levels.opened.Goals as goal
 
 pub returns-in-Levels : goal.returns-in-Levels

@@ -1,10 +1,8 @@
 -- `file::levels::too_many` meets its contract: what is left to halve comes to the same at each turn.
 -- Assumes nothing.
-use mathlib.Core.Path.{◌≡◌, ◌∙◌, sym}
-use Prim.Native.Nat.{◌-◌, ◌≤◌}
+use mathlib.Core.Path.{◌∙◌, sym}
 use native.Mathlib.Omega.{arith}
 use native.Mathlib.Nat.{sub-zero}
-use Rattle.rules.specs.FileLevels.{too_many_lem}
 use Rattle.file.proofs.Walk.{halves, ends, enough}
 use Rattle.file.proofs.levels.too_many.Goals as goal
 

@@ -1,10 +1,7 @@
 -- The invariant and the measure of the loop of `file::levels::too_many`.
-use mathlib.Core.Path.{◌≡◌, ◌∙◌, sym}
+use mathlib.Core.Path.{◌≡◌}
 use Prim.Native.Nat.{◌-◌, ◌≤◌}
-use native.Mathlib.Omega.{arith}
-use native.Mathlib.Nat.{sub-zero}
 use Rattle.rules.specs.FileLevels.{too_many_lem}
-use Rattle.file.proofs.Walk.{halves, ends, enough}
 use Rattle.file.proofs.levels.too_many.Given as goal
 
 abbrev pub invariant-loop-i : goal.invariant-loop-i

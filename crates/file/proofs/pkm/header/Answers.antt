@@ -6,7 +6,6 @@ use Rattle.file.proofs.Picks.{same, other}
 use Rattle.rules.specs.FileFormats.{known}
 use Rattle.rules.specs.Pkm.{pkm_rows1, pkm_rows2, pkm_as, pkm_of}
 use Rattle.rules.specs.declared.KnownFormat.{KnownFormat}
-use borrow.Author.Rules.{rules}
 use Rattle.file.proofs.pkm.header.Goals as goal
 
 pub returns-then-d-lt16 : goal.returns-then-d-lt16

@@ -1,7 +1,6 @@
 -- `file::sheets::header` meets its contract, by what the walk found.
 -- Assumes nothing.
 use Rattle.file.proofs.SheetHeader.{holds, refused}
-use borrow.Author.Rules.{rules}
 use Rattle.file.proofs.sheets.header.Goals as goal
 
 pub returns-in-At : goal.returns-in-At

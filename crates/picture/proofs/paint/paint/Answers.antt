@@ -5,13 +5,12 @@ use Prim.Native.Nat.{ℕ, ◌+◌, ◌-◌, ◌*◌, ◌<◌, ◌≤◌}
 use native.Mathlib.Nat.{add-mul}
 use native.Mathlib.Omega.{arith}
 use lib.ListN.{length, drop, length-take, length-drop}
-use Rattle.rules.specs.Places.{across, bytes_from, pixel_by}
+use Rattle.rules.specs.Places.{across, bytes_from}
 use Rattle.rules.specs.Formats.{size_of, shows_of}
-use Rattle.laws.specs.Painted.{Painted}
 use Rattle.laws.proofs.Paint.{none}
 use Rattle.laws.proofs.Parts.{rest}
 use Rattle.pixel.proofs.place.Grid.{kept}
-use Rattle.blocks.specs.Run.{InRun, Stands}
+use Rattle.blocks.specs.Run.{Stands}
 use Rattle.blocks.proofs.Blocks.{empty, stands, high, start}
 use Rattle.blocks.proofs.Beside.{go_on, left_over}
 use borrow.Author.Rules.{rules}
@@ -75,12 +74,15 @@ paint_some-n-requires c =
     let both : b - a.first + (a.last - b) ≡ a.last - a.first = omega (arith, c.loop-b.invariant.0, c.loop-b-test.true) in
     let all = rw (sym both) at c.requires.room.1 in
     (omega (arith, add-mul (b - a.first) (a.last - b) (size_of a.f), all), left_over (size_of a.f) (b - a.first) (a.last - b) (length a.«data».now) all) in
-    let l = c.loop-b in record { left_nonzero = (
+    let l = c.loop-b in record {
+      left_nonzero = (
         omega (arith, c.loop-b-test.true),
         simp (length-take, length-drop) (omega (arith, before, left.1)),
         c.requires.width_le_limit.0,
         kept c.args.pic _ _ c.requires.room.0 l.invariant.3.same,
-      ); bx_bound = (at.short, low) }
+      );
+      bx_bound = (at.short, low);
+    }
 
 pub after-spot-requires : goal.after-spot-requires
 after-spot-requires c =

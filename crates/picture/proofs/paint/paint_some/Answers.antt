@@ -7,7 +7,6 @@ use lib.ListN.{length}
 use Rattle.rules.specs.Formats.{size_of, shows_of}
 use Rattle.blocks.proofs.Blocks.{room}
 use Rattle.blocks.proofs.Beside.{one}
-use borrow.Author.Rules.{rules}
 use Rattle.picture.proofs.paint.paint_some.Goals as goal
 
 pub block_at-tile-requires : goal.block_at-tile-requires

@@ -40,10 +40,13 @@ slice_bounds-paint-start c =
 pub paint-requires-3 : goal.paint-requires-3
 paint-requires-3 c =
     let some : c.args.first < c.args.last = omega (arith, c.if-first-last.false, c.requires.width_le_limit.2) in
-    let parted : (c.args.last - (c.args.first + 1)) * size_of c.args.f + size_of c.args.f ≤ c.args.held + length c.args.bytes.now = omega (arith, peel c.args.first c.args.last (size_of c.args.f) some, c.requires.held_bound.1) in record { width_le_limit = (c.requires.width_le_limit.0, c.requires.width_le_limit.1, omega (arith, some), c.requires.width_le_limit.3); room = (
+    let parted : (c.args.last - (c.args.first + 1)) * size_of c.args.f + size_of c.args.f ≤ c.args.held + length c.args.bytes.now = omega (arith, peel c.args.first c.args.last (size_of c.args.f) some, c.requires.held_bound.1) in record {
+      width_le_limit = (c.requires.width_le_limit.0, c.requires.width_le_limit.1, omega (arith, some), c.requires.width_le_limit.3);
+      room = (
         kept c.args.pic _ _ c.requires.width_le_limit.4 c.paint-2.ensures.same,
         omega (arith, parted, c.size.ensures.0, ap length (rest (c.size.result - c.args.held) c.args.bytes.now), length-drop (c.size.result - c.args.held) c.args.bytes.now),
-      ) }
+      );
+    }
 
 pub returns : goal.returns
 returns c =

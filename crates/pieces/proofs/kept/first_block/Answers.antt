@@ -1,10 +1,6 @@
 -- `pieces::kept::first_block` meets its contract: turn i stores byte i.
 -- Assumes nothing.
-use mathlib.Core.List.{◌++◌}
-use Prim.Native.Nat.{◌-◌}
-use lib.ListN.{take}
-use Rattle.rules.specs.Notation.{byte}
-use Rattle.laws.proofs.Filling.{Filling, in_order_lem, begun, stored_next, filled_all}
+use Rattle.laws.proofs.Filling.{in_order_lem, begun, stored_next, filled_all}
 use borrow.Author.Rules.{rules}
 use Rattle.pieces.proofs.kept.first_block.Goals as goal
 

@@ -3,8 +3,7 @@ use mathlib.Core.List.{◌++◌}
 use Prim.Native.Nat.{◌-◌}
 use lib.ListN.{take}
 use Rattle.rules.specs.Notation.{byte}
-use Rattle.laws.proofs.Filling.{Filling, in_order_lem, begun, stored_next, filled_all}
-use borrow.Author.Rules.{rules}
+use Rattle.laws.proofs.Filling.{Filling, in_order_lem}
 use Rattle.pieces.proofs.kept.first_block.Given as goal
 
 abbrev pub invariant-loop-i : goal.invariant-loop-i

@@ -2,10 +2,8 @@
 -- Assumes nothing.
 use mathlib.Core.Path.{◌≡◌, refl}
 use mathlib.Core.List.{◌++◌}
-use Prim.Native.Nat.{◌-◌, ◌≤◌}
 use native.Mathlib.Omega.{arith}
 use lib.ListN.{take}
-use Rattle.rules.specs.Pieces.{padded}
 use Rattle.pieces.proofs.kept.Joined.{padded_more}
 use borrow.Author.Rules.{rules}
 use Rattle.pieces.proofs.kept.rest_of.Goals as goal

@@ -1,12 +1,9 @@
 -- The invariant and the measure of the loop of `pieces::kept::rest_of`.
-use mathlib.Core.Path.{◌≡◌, refl}
+use mathlib.Core.Path.{◌≡◌}
 use mathlib.Core.List.{◌++◌}
 use Prim.Native.Nat.{◌-◌, ◌≤◌}
-use native.Mathlib.Omega.{arith}
 use lib.ListN.{take}
 use Rattle.rules.specs.Pieces.{padded}
-use Rattle.pieces.proofs.kept.Joined.{padded_more}
-use borrow.Author.Rules.{rules}
 use Rattle.pieces.proofs.kept.rest_of.Given as goal
 
 abbrev pub invariant-loop-i : goal.invariant-loop-i

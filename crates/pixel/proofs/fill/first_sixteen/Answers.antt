@@ -1,11 +1,8 @@
 -- `pixel::fill::first_sixteen` meets its contract: turn i copies element i.
 -- Assumes nothing.
 use mathlib.Core.Path.{refl}
-use Prim.Native.Nat.{◌-◌}
 use native.Mathlib.Omega.{arith}
-use lib.ListN.{get_or}
-use Rattle.laws.proofs.Filling.{Filling, in_order_lem, begun, stored_next, filled_all}
-use borrow.Author.Rules.{rules}
+use Rattle.laws.proofs.Filling.{in_order_lem, begun, stored_next, filled_all}
 use Rattle.pixel.proofs.fill.first_sixteen.Goals as goal
 
 pub loop-i-init : goal.loop-i-init

@@ -1,10 +1,7 @@
 -- The invariant and the measure of the loop of `pixel::fill::first_sixteen`.
-use mathlib.Core.Path.{refl}
 use Prim.Native.Nat.{◌-◌}
-use native.Mathlib.Omega.{arith}
 use lib.ListN.{get_or}
-use Rattle.laws.proofs.Filling.{Filling, in_order_lem, begun, stored_next, filled_all}
-use borrow.Author.Rules.{rules}
+use Rattle.laws.proofs.Filling.{Filling, in_order_lem}
 use Rattle.pixel.proofs.fill.first_sixteen.Given as goal
 
 abbrev pub invariant-loop-i : goal.invariant-loop-i

@@ -3,7 +3,6 @@
 use native.Mathlib.Omega.{arith}
 use lib.ListN.{length-take}
 use Rattle.pixel.proofs.fill.Part.{sixteen}
-use borrow.Author.Rules.{rules}
 use Rattle.pixel.proofs.fill.place_block.Goals as goal
 
 pub slice_bounds-fill-end-2 : goal.slice_bounds-fill-end-2

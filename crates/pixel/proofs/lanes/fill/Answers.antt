@@ -1,9 +1,8 @@
 -- `pixel::lanes::fill` meets its contract: turn k paints element k.
 -- Assumes nothing.
-use Prim.Native.Nat.{◌+◌, ◌-◌}
-use lib.ListN.{length, get_or}
-use Rattle.pixel.proofs.fill.Part.{Begun, begin, go_on, ended}
-use borrow.Author.Rules.{rules}
+use Prim.Native.Nat.{◌+◌}
+use lib.ListN.{get_or}
+use Rattle.pixel.proofs.fill.Part.{begin, go_on, ended}
 use Rattle.pixel.proofs.lanes.fill.Goals as goal
 
 pub loop-k-init : goal.loop-k-init

@@ -1,8 +1,7 @@
 -- The invariant and the measure of the loop of `pixel::lanes::fill`.
 use Prim.Native.Nat.{◌+◌, ◌-◌}
 use lib.ListN.{length, get_or}
-use Rattle.pixel.proofs.fill.Part.{Begun, begin, go_on, ended}
-use borrow.Author.Rules.{rules}
+use Rattle.pixel.proofs.fill.Part.{Begun}
 use Rattle.pixel.proofs.lanes.fill.Given as goal
 
 abbrev pub invariant-loop-k : goal.invariant-loop-k

@@ -1,7 +1,6 @@
 -- `pixel::lanes::place` meets its contract: the picture has none of the tile, or some of it.
 -- Assumes nothing.
 use Rattle.pixel.proofs.place.Tile.{nothing}
-use borrow.Author.Rules.{rules}
 use Rattle.pixel.proofs.lanes.place.Goals as goal
 
 pub returns-then-pic-bx : goal.returns-then-pic-bx

@@ -5,7 +5,7 @@ use native.Mathlib.Omega.{arith}
 use lib.ListN.{length}
 use Rattle.rules.specs.Places.{element}
 use Rattle.pixel.proofs.place.Tile.{enough, pieced}
-use borrow.Author.Rules.{rules, scaled_Fits}
+use borrow.Author.Rules.{scaled_Fits}
 use Rattle.pixel.proofs.lanes.place_row.Goals as goal
 
 pub overflow_mul-at : goal.overflow_mul-at

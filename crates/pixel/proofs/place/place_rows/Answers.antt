@@ -1,10 +1,8 @@
 -- `pixel::place::place_rows` meets its contract: turn i paints row i of the tile.
 -- Assumes nothing.
-use Prim.Native.Nat.{◌-◌}
 use native.Mathlib.Omega.{arith}
 use Rattle.pixel.proofs.place.Grid.{kept}
-use Rattle.pixel.proofs.place.Tile.{Turned, start, turn, whole}
-use borrow.Author.Rules.{rules}
+use Rattle.pixel.proofs.place.Tile.{start, turn, whole}
 use Rattle.pixel.proofs.place.place_rows.Goals as goal
 
 pub loop-i-init : goal.loop-i-init
@@ -19,14 +17,13 @@ pub overflow_add-by : goal.overflow_add-by
 overflow_add-by c = omega (arith, c.requires.n_value.1)
 
 pub place_row-requires : goal.place_row-requires
-place_row-requires c =
-    (
-      omega (arith, c.requires.n_value.1),
-      omega (arith, c.requires.n_value.1),
-      c.requires.bx_bound.0,
-      c.requires.n_value.0,
-      kept c.args.pic _ _ c.requires.bx_bound.1 c.loop-i.invariant.1.same,
-    )
+place_row-requires c = (
+  omega (arith, c.requires.n_value.1),
+  omega (arith, c.requires.n_value.1),
+  c.requires.bx_bound.0,
+  c.requires.n_value.0,
+  kept c.args.pic _ _ c.requires.bx_bound.1 c.loop-i.invariant.1.same,
+)
 
 pub loop-i-preserved : goal.loop-i-preserved
 loop-i-preserved c =

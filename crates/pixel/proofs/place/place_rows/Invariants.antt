@@ -1,9 +1,6 @@
 -- The invariant and the measure of the loop of `pixel::place::place_rows`.
 use Prim.Native.Nat.{◌-◌}
-use native.Mathlib.Omega.{arith}
-use Rattle.pixel.proofs.place.Grid.{kept}
-use Rattle.pixel.proofs.place.Tile.{Turned, start, turn, whole}
-use borrow.Author.Rules.{rules}
+use Rattle.pixel.proofs.place.Tile.{Turned}
 use Rattle.pixel.proofs.place.place_rows.Given as goal
 
 abbrev pub invariant-loop-i : goal.invariant-loop-i

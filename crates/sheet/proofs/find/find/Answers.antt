@@ -1,9 +1,7 @@
 -- `sheet::find::find` meets its contract.
 -- Assumes nothing.
-use Prim.Native.Nat.{◌-◌}
 use Rattle.sheet.specs.first.Heads.{Headed}
 use Rattle.sheet.proofs.find.Sheets.{sheeted, lost}
-use borrow.Author.Rules.{rules}
 use Rattle.sheet.proofs.find.find.Goals as goal
 
 pub after_head-blocks-requires : goal.after_head-blocks-requires

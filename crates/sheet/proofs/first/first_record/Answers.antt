@@ -2,7 +2,6 @@
 -- Assumes nothing.
 use borrow.Enum.Refused.{opened}
 use mathlib.Core.Path.{◌∙◌, sym}
-use Prim.Native.Nat.{◌-◌}
 use native.Mathlib.Omega.{arith}
 use Rattle.rules.specs.Places.{sized}
 use Rattle.rules.specs.Sheets.{sheet_limit}
@@ -10,7 +9,6 @@ use Rattle.checks.proofs.Checks.{within}
 use Rattle.sheet.specs.records.Turns.{all, Turn}
 use Rattle.sheet.proofs.records.Turns.{turn_of}
 use Rattle.sheet.proofs.first.Heads.{nothing, wrong_kind, wrong_length, wrong_format, too_large, headed}
-use borrow.Author.Rules.{rules}
 use Rattle.sheet.proofs.first.first_record.Goals as goal
 
 pub returns-in_default : goal.returns-in_default

@@ -1,11 +1,9 @@
 -- `sheet::later::after_blocks` meets its contract.
 -- Assumes nothing.
-use Prim.Native.Nat.{◌-◌}
 use Rattle.rules.specs.Records.{kept}
 use Rattle.sheet.specs.records.Turns.{Turn}
 use Rattle.sheet.proofs.records.Turns.{turn_of, ended_of, short_of}
 use Rattle.sheet.proofs.later.Follow.{none, cut_behind, second, other_behind}
-use borrow.Author.Rules.{rules}
 use Rattle.sheet.proofs.later.after_blocks.Goals as goal
 
 pub returns-then-kind-eq2 : goal.returns-then-kind-eq2

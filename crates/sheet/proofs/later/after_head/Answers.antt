@@ -1,14 +1,12 @@
 -- `sheet::later::after_head` meets its contract.
 -- Assumes nothing.
 use borrow.Enum.Refused.{opened}
-use Prim.Native.Nat.{◌-◌}
 use native.Mathlib.Omega.{arith}
 use Rattle.rules.specs.Records.{kept}
 use Rattle.laws.proofs.Unique.{refusal}
 use Rattle.sheet.specs.records.Turns.{Turn}
 use Rattle.sheet.proofs.records.Turns.{turn_of, ended_of, short_of}
 use Rattle.sheet.proofs.later.Follow.{missing, cut, other, wrong_length, later_refused, blocked}
-use borrow.Author.Rules.{rules}
 use Rattle.sheet.proofs.later.after_head.Goals as goal
 
 pub returns-then-kind-ne2 : goal.returns-then-kind-ne2

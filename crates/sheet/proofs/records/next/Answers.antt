@@ -1,12 +1,10 @@
 -- `sheet::records::next` meets its contract: what was passed is skipped, so that what is met behind it is what is met.
 -- Assumes nothing.
 use borrow.Enum.Refused.{opened}
-use mathlib.Core.Path.{◌≡◌, ◌∙◌, refl, ap}
-use Prim.Native.Nat.{◌-◌, ◌≤◌}
+use mathlib.Core.Path.{◌∙◌, refl, ap}
 use native.Mathlib.Omega.{arith}
-use lib.ListN.{length, drop}
 use borrow.Author.Rules.{rules}
-use Rattle.rules.specs.Records.{records_of, kept, payload_at}
+use Rattle.rules.specs.Records.{kept}
 use Rattle.sheet.specs.records.Turns.{all, Turn}
 use Rattle.sheet.specs.declared.records.Met.TheVariants.{Whole}
 use Rattle.sheet.proofs.records.Turns.{is_end, skips, stays, begins_behind, none_kept, sooner, turn_of}

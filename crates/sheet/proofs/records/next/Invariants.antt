@@ -1,13 +1,8 @@
 -- The invariant and the measure of the loop of `sheet::records::next`.
-use mathlib.Core.Path.{◌≡◌, ◌∙◌, refl, ap}
+use mathlib.Core.Path.{◌≡◌}
 use Prim.Native.Nat.{◌-◌, ◌≤◌}
-use native.Mathlib.Omega.{arith}
 use lib.ListN.{length, drop}
-use borrow.Author.Rules.{rules}
 use Rattle.rules.specs.Records.{records_of, kept, payload_at}
-use Rattle.sheet.specs.records.Turns.{all, Turn}
-use Rattle.sheet.specs.declared.records.Met.TheVariants.{Whole}
-use Rattle.sheet.proofs.records.Turns.{is_end, skips, stays, begins_behind, none_kept, sooner, turn_of}
 use Rattle.sheet.proofs.records.next.Given as goal
 
 abbrev pub invariant-loop-at : goal.invariant-loop-at

@@ -2,7 +2,6 @@
 -- Assumes nothing.
 use mathlib.Core.Path.{refl}
 use Rattle.numbers.specs.Numbers.{in_bytes}
-use borrow.Author.Rules.{rules}
 use Rattle.sheet.proofs.write.front_of.Goals as goal
 
 pub returns : goal.returns

@@ -7,7 +7,6 @@ use Rattle.rules.specs.Answers.{too_large_lem}
 use Rattle.rules.specs.Sheets.{sheet_limit}
 use Rattle.checks.proofs.Checks.{within}
 use Rattle.sheet.proofs.Checks.{no_format, too_large, wrong_blocks_lem, no_room, accepted}
-use borrow.Author.Rules.{rules}
 use Rattle.sheet.proofs.write.verify.Goals as goal
 
 pub returns-then-format-gt7 : goal.returns-then-format-gt7

@@ -14,7 +14,6 @@ use Rattle.sheet.proofs.Checks.{Accepted, passed}
 use Rattle.sheet.specs.write.Front.{front_of_lem}
 use Rattle.sheet.proofs.write.Copied.{twice, is_sheet_said, front_length}
 use Rattle.sheet.proofs.write.Owes.{refuses, writes}
-use borrow.Author.Rules.{rules}
 use Rattle.sheet.proofs.write.write_sheet.Goals as goal
 
 pub returns-in_default : goal.returns-in_default
