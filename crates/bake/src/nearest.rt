@@ -25,7 +25,8 @@ pub fn better(b: Best, at: usize, value: u32) -> Best
 
 // The first of four colours that is least far from a pixel.
 pub fn nearest(colours: [u32; 4], v: u32) -> Best
-    ensures { (result.at ≡ nearest_of colours v) × (result.at < 4) × (result.value ≡ away colours v (nearest_of colours v)) × (result.value ≤ 765) }
+    ensures { (result.at ≡ nearest_of colours v) × (result.at < 4) × (result.value ≡ away colours v (nearest_of colours v))
+        × (result.value ≤ 765) }
 {
     let mut b = Best {
         at: 0,

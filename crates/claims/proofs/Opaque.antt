@@ -24,7 +24,16 @@ use Rattle.checks.proofs.Checks.{passed_by_lem}
 use Rattle.claims.proofs.Outcomes.{Same}
 use Rattle.claims.proofs.Alike.{OnlyInTile, verdict_alike, behind}
 use Rattle.claims.proofs.Guarded as guarded-claims
-use Rattle.claims.proofs.Pictures.{Empty, no_blocks, empty_passes, only_its_own_pixels, each_accepted_pixel, an_empty_picture, own_tile, only_blocks_are_read}
+use Rattle.claims.proofs.Pictures.{
+  Empty,
+  no_blocks,
+  empty_passes,
+  only_its_own_pixels,
+  each_accepted_pixel,
+  an_empty_picture,
+  own_tile,
+  only_blocks_are_read,
+}
 
 -- "some block has its opaque bit clear"
 abbrev pub clear : List ℕ → ℕ → Bool
@@ -38,12 +47,14 @@ abbrev pub Accepted : List ℕ → Picture → List ℕ → Answer → List ℕ 
 Accepted = guarded-claims.Accepted opaque_only opaque_sound NotOpaque (λ n. refl)
 
 -- "Checks 1, 12, 2, 3 come first."
-module _ (d : List ℕ) (pic : Picture) (image : List ℕ) (a : Answer) (new : List ℕ) (p : ReadsOpaque d pic image a new) (ok : 0 ∷ [] ≡ verdict (opaque_checks pic d image)) where
+module _ (d : List ℕ) (pic : Picture) (image : List ℕ) (a : Answer) (new : List ℕ) (p : ReadsOpaque d pic image a new)
+    (ok : 0 ∷ [] ≡ verdict (opaque_checks pic d image)) where
   -- "refuses with 11 exactly when some block has its opaque bit clear, names the first one, and paints nothing then"
   pub opaque_refuses_and_names_the_first : (n : ℕ) → n < blocks pic → clear d n ≡ true → Refused d pic image a new
   unfolding size_of
   opaque_refuses_and_names_the_first =
-      guarded-claims.refuses_and_names_the_first opaque_only opaque_sound NotOpaque (λ n. refl) d pic image a new (opaque_checks pic d image) tt p ok
+      guarded-claims.refuses_and_names_the_first opaque_only opaque_sound NotOpaque (λ n. refl) d pic image a new
+      (opaque_checks pic d image) tt p ok
 
   -- "exactly"; and "Where it accepts, every pixel equals the Khronos RGB reading and the RGBA1 reading of the same bytes."
   pub opaque_accepts_otherwise : ((n : ℕ) → n < blocks pic → clear d n ≡ false) → Accepted d pic image a new
@@ -83,7 +94,8 @@ module _ (d : List ℕ) (pic : Picture) (image new : List ℕ) (p : ReadsOpaque 
       record { says = ok; leaves = accepted.shows ∙ ap (λ (v : List ℕ). left v (picture_of Etc2Rgba1 pic d image) image) ok }
 
 -- what RGB shows at a pixel is what RGBA1 shows there, unless the pixel's own block has its opaque bit clear
-pub rgb_differs_only_where_clear : (d : List ℕ) (pic : Picture) (k : ℕ) → not_opaque (bytes_of 8 d (block_at pic k)) ≡ false → pixel_at (shows_of Etc2Rgb) 8 pic d k ≡ pixel_at (shows_of Etc2Rgba1) 8 pic d k
+pub rgb_differs_only_where_clear : (d : List ℕ) (pic : Picture) (k : ℕ) → not_opaque (bytes_of 8 d (block_at pic k)) ≡ false
+    → pixel_at (shows_of Etc2Rgb) 8 pic d k ≡ pixel_at (shows_of Etc2Rgba1) 8 pic d k
 unfolding size_of
 rgb_differs_only_where_clear d pic k e = guarded-claims.differs_only_there opaque_only opaque_sound d pic k e
 
@@ -105,17 +117,21 @@ module _ (d : List ℕ) (pic : Picture) (image : List ℕ) where
   module _ (new : List ℕ) (p : ReadsOpaque d pic image Done new) where
     -- a picture that it has done shows at (x, y) what RGBA1 says of block number (y / 4) * ceil(width / 4) + x / 4, in its column
     -- x % 4 and row y % 4
-    pub every_pixel_of_an_opaque_picture : (x y : ℕ) → x < pic.width → y < pic.height → get_or new (element pic x y) 0 ≡ shows_of Etc2Rgba1 (bytes_of 8 d (block_of pic x y)) (x % 4) (y % 4)
+    pub every_pixel_of_an_opaque_picture : (x y : ℕ) → x < pic.width → y < pic.height
+        → get_or new (element pic x y) 0 ≡ shows_of Etc2Rgba1 (bytes_of 8 d (block_of pic x y)) (x % 4) (y % 4)
     unfolding size_of
     every_pixel_of_an_opaque_picture =
         let k = passed_by_lem 8 pic (length d) (length image) (guarded 11 (clear d) (blocks pic)) Done p.says refl in
-        each_accepted_pixel (shows_of Etc2Rgba1) 8 pic image (opaque_verdict pic d image) d Done new p refl (roomy pic (length image) k.fits k.roomy)
+        each_accepted_pixel (shows_of Etc2Rgba1) 8 pic image (opaque_verdict pic d image) d Done new p refl
+        (roomy pic (length image) k.fits k.roomy)
 
     -- and one that differs from it in block n alone differs at most in that block's clipped tile
-    pub one_block_changes_its_own_tile_in_opaque : (e new' : List ℕ) (n : ℕ) → Beside 8 pic n d e → ReadsOpaque e pic image Done new' → OnlyInTile pic n new new'
+    pub one_block_changes_its_own_tile_in_opaque : (e new' : List ℕ) (n : ℕ) → Beside 8 pic n d e → ReadsOpaque e pic image Done new'
+        → OnlyInTile pic n new new'
     unfolding size_of
     one_block_changes_its_own_tile_in_opaque e new' n z q =
-        own_tile (shows_of Etc2Rgba1) 8 pic image (opaque_verdict pic d image) (opaque_verdict pic e image) d e Done Done new new' p q n z refl refl
+        own_tile (shows_of Etc2Rgba1) 8 pic image (opaque_verdict pic d image)
+        (opaque_verdict pic e image) d e Done Done new new' p q n z refl refl
 
   module _ (a : Answer) (new : List ℕ) (p : ReadsOpaque d pic image a new) where
     -- no element behind it, nor any element of a refused one, has changed
@@ -125,7 +141,8 @@ module _ (d : List ℕ) (pic : Picture) (image : List ℕ) where
         only_its_own_pixels (shows_of Etc2Rgba1) 8 pic image (opaque_verdict pic d image) d a new p k h (beyond pic k o)
 
     -- and none in a gap
-    pub opaque_keeps_the_gaps : (x y : ℕ) → pic.width ≤ x → x < pic.pitch → element pic x y < length image → get_or new (element pic x y) 0 ≡ get_or image (element pic x y) 0
+    pub opaque_keeps_the_gaps : (x y : ℕ) → pic.width ≤ x → x < pic.pitch → element pic x y < length image
+        → get_or new (element pic x y) 0 ≡ get_or image (element pic x y) 0
     unfolding size_of
     opaque_keeps_the_gaps x y i j h =
         only_its_own_pixels (shows_of Etc2Rgba1) 8 pic image (opaque_verdict pic d image) d a new p (element pic x y) h (in_gap pic x y i j)
@@ -139,13 +156,17 @@ module _ (d : List ℕ) (pic : Picture) (image : List ℕ) where
         (empty_passes 8 pic d image then e t i ∙ finds_none 11 (clear d) (blocks pic) (omega (arith, no_blocks pic e)))
 
     -- inputs that agree on the blocks of the picture have one outcome
-    pub opaque_reads_no_data_beyond_the_last_block : (e : List ℕ) (b : Answer) (new' : List ℕ) → Alike 8 pic d e → ReadsOpaque e pic image b new' → Same a b new new'
+    pub opaque_reads_no_data_beyond_the_last_block : (e : List ℕ) (b : Answer) (new' : List ℕ) → Alike 8 pic d e
+        → ReadsOpaque e pic image b new' → Same a b new new'
     unfolding size_of
     opaque_reads_no_data_beyond_the_last_block e b new' same q =
-        only_blocks_are_read (shows_of Etc2Rgba1) 8 pic image (opaque_verdict pic d image) (opaque_verdict pic e image) d e a b new new' p q same
-        (verdict_alike 8 pic d e same (lit< tt) (length image) (guarded 11 (clear d) (blocks pic)) (guarded 11 (clear e) (blocks pic)) (guarded-claims.guard_alike opaque_only d e pic same))
+        only_blocks_are_read (shows_of Etc2Rgba1) 8 pic image (opaque_verdict pic d image)
+        (opaque_verdict pic e image) d e a b new new' p q same
+        (verdict_alike 8 pic d e same (lit< tt) (length image) (guarded 11 (clear d) (blocks pic)) (guarded 11 (clear e) (blocks pic))
+        (guarded-claims.guard_alike opaque_only d e pic same))
 
     -- so what follows the blocks is ignored
-    pub opaque_ignores_what_follows : (more : List ℕ) (b : Answer) (new' : List ℕ) → blocks pic * 8 ≤ length d → ReadsOpaque (d ++ more) pic image b new' → Same a b new new'
+    pub opaque_ignores_what_follows : (more : List ℕ) (b : Answer) (new' : List ℕ) → blocks pic * 8 ≤ length d
+        → ReadsOpaque (d ++ more) pic image b new' → Same a b new new'
     opaque_ignores_what_follows more b new' h =
         opaque_reads_no_data_beyond_the_last_block (d ++ more) b new' (behind 8 pic d more h)

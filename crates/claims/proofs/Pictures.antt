@@ -47,7 +47,8 @@ pub no_pixels : (pic : Picture) → Empty pic → needed pic ≡ 0
 no_pixels pic = none_needed pic
 
 -- an empty picture that is not too large, and whose pitch is no less than its width, passes every check
-pub empty_passes : (s : ℕ) (pic : Picture) (d image then : List ℕ) → Empty pic → over_limit_lem pic ≡ false → pic.width ≤ pic.pitch → judged (picture_checks s pic (length d) (length image)) then ≡ then
+pub empty_passes : (s : ℕ) (pic : Picture) (d image then : List ℕ) → Empty pic → over_limit_lem pic ≡ false → pic.width ≤ pic.pitch
+    → judged (picture_checks s pic (length d) (length image)) then ≡ then
 empty_passes s pic d image then e t f =
     let few : blocks pic * s ≡ 0 = rw (no_blocks pic e) (zero-mul s) in
     let none = no_pixels pic e in
@@ -110,13 +111,15 @@ module _ (shows : Shows) (s : ℕ) (pic : Picture) (image : List ℕ) where
           ext_get_or 0 new image long (λ k h. only_its_own_pixels k (omega (arith, long)) (beyond pic k (omega arith))),
         )
 
-  module _ (verdict verdict' d e : List ℕ) (a b : Answer) (new new' : List ℕ) (p : Reads verdict d a new) (q : Reads verdict' e b new') where
+  module _ (verdict verdict' d e : List ℕ) (a b : Answer) (new new' : List ℕ) (p : Reads verdict d a new)
+      (q : Reads verdict' e b new') where
     -- "Two pictures of one size, accepted by one reader over equal images, that differ in one block differ at most in that
     -- block's clipped tile." (demand 2)
     pub own_tile : (n : ℕ) → Beside s pic n d e → accepts (said a) ≡ true → accepts (said b) ≡ true → OnlyInTile pic n new new'
     own_tile n z r t =
         subst (λ (l : List ℕ). OnlyInTile pic n l new') (sym (an_acceptance_paints _ _ image new a p r))
-        (subst (λ (l : List ℕ). OnlyInTile pic n (over shows s pic image d) l) (sym (an_acceptance_paints _ _ image new' b q t)) (beside_in_tile s pic d e shows n z image))
+        (subst (λ (l : List ℕ). OnlyInTile pic n (over shows s pic image d) l) (sym (an_acceptance_paints _ _ image new' b q t))
+        (beside_in_tile s pic d e shows n z image))
 
     -- "Data beyond the last block is not read": the blocks alone decide
     pub only_blocks_are_read : Alike s pic d e → verdict ≡ verdict' → Same a b new new'
@@ -128,13 +131,15 @@ module _ (f : Format) (d : List ℕ) (pic : Picture) (image : List ℕ) where
   module _ (new : List ℕ) (p : ReadsPicture f d pic image Done new) where
     -- a picture that a reader of format f has done shows at (x, y) what the rule of f says of block number
     -- (y / 4) * ceil(width / 4) + x / 4, in its column x % 4 and row y % 4
-    pub every_pixel_of_a_picture : (x y : ℕ) → x < pic.width → y < pic.height → get_or new (element pic x y) 0 ≡ shows_of f (bytes_of (size_of f) d (block_of pic x y)) (x % 4) (y % 4)
+    pub every_pixel_of_a_picture : (x y : ℕ) → x < pic.width → y < pic.height
+        → get_or new (element pic x y) 0 ≡ shows_of f (bytes_of (size_of f) d (block_of pic x y)) (x % 4) (y % 4)
     every_pixel_of_a_picture =
         let k = passed_by_lem (size_of f) pic (length d) (length image) (0 ∷ []) Done p.says refl in
         each_accepted_pixel (shows_of f) (size_of f) pic image _ d Done new p refl (roomy pic (length image) k.fits k.roomy)
 
     -- and one that differs from it in block n alone differs at most in that block's clipped tile
-    pub one_block_changes_its_own_tile : (e new' : List ℕ) (n : ℕ) → Beside (size_of f) pic n d e → ReadsPicture f e pic image Done new' → OnlyInTile pic n new new'
+    pub one_block_changes_its_own_tile : (e new' : List ℕ) (n : ℕ) → Beside (size_of f) pic n d e → ReadsPicture f e pic image Done new'
+        → OnlyInTile pic n new new'
     one_block_changes_its_own_tile e new' n z q =
         own_tile (shows_of f) (size_of f) pic image _ _ d e Done Done new new' p q n z refl refl
 
@@ -145,7 +150,8 @@ module _ (f : Format) (d : List ℕ) (pic : Picture) (image : List ℕ) where
         only_its_own_pixels (shows_of f) (size_of f) pic image _ d a new p k h (beyond pic k o)
 
     -- "Elements in the gaps keep their value." (M-104), accepted or refused
-    pub the_gaps_keep_their_value : (x y : ℕ) → pic.width ≤ x → x < pic.pitch → element pic x y < length image → get_or new (element pic x y) 0 ≡ get_or image (element pic x y) 0
+    pub the_gaps_keep_their_value : (x y : ℕ) → pic.width ≤ x → x < pic.pitch → element pic x y < length image
+        → get_or new (element pic x y) 0 ≡ get_or image (element pic x y) 0
     the_gaps_keep_their_value x y i j h =
         only_its_own_pixels (shows_of f) (size_of f) pic image _ d a new p (element pic x y) h (in_gap pic x y i j)
 
@@ -155,12 +161,14 @@ module _ (f : Format) (d : List ℕ) (pic : Picture) (image : List ℕ) where
         an_empty_picture (shows_of f) (size_of f) pic image _ d a new p e (empty_passes (size_of f) pic d image (0 ∷ []) e t i)
 
     -- inputs that agree on the blocks of the picture have one outcome
-    pub data_beyond_the_last_block_is_not_read : (e : List ℕ) (b : Answer) (new' : List ℕ) → Alike (size_of f) pic d e → ReadsPicture f e pic image b new' → Same a b new new'
+    pub data_beyond_the_last_block_is_not_read : (e : List ℕ) (b : Answer) (new' : List ℕ) → Alike (size_of f) pic d e
+        → ReadsPicture f e pic image b new' → Same a b new new'
     data_beyond_the_last_block_is_not_read e b new' same q =
         only_blocks_are_read (shows_of f) (size_of f) pic image _ _ d e a b new new' p q same
         (verdict_alike (size_of f) pic d e same (some_bytes f) (length image) (0 ∷ []) (0 ∷ []) refl)
 
     -- and so has an input with anything put behind its blocks
-    pub more_data_changes_nothing : (more : List ℕ) (b : Answer) (new' : List ℕ) → blocks pic * size_of f ≤ length d → ReadsPicture f (d ++ more) pic image b new' → Same a b new new'
+    pub more_data_changes_nothing : (more : List ℕ) (b : Answer) (new' : List ℕ) → blocks pic * size_of f ≤ length d
+        → ReadsPicture f (d ++ more) pic image b new' → Same a b new new'
     more_data_changes_nothing more b new' enough =
         data_beyond_the_last_block_is_not_read (d ++ more) b new' (behind (size_of f) pic d more enough)

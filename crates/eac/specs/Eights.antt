@@ -11,7 +11,8 @@ steps_in_lem d = slice_index_or alpha_steps_lem (bits 3 0 (byte d 1)) []
 
 abbrev pub whole_of : Bool → List ℕ → ℕ → ℤ
 whole_of signed d j =
-    between (least signed) (most signed) (middle signed (byte d 0) +ℤ pos (multiplier (bits 7 4 (byte d 1))) *ℤ slice_index_or (steps_in_lem d) j (pos 0))
+    between (least signed) (most signed) (middle signed (byte d 0) +ℤ pos (multiplier (bits 7 4 (byte d 1))) *ℤ slice_index_or
+    (steps_in_lem d) j (pos 0))
 
 -- and its eighth, counted from the least
 abbrev pub eighth_of : Bool → List ℕ → ℕ → ℕ

@@ -5,7 +5,8 @@
 
 pub mod values;
 
-ghost use Rattle.std.specs.Prelude.{◌≡◌, ℕ, ◌+◌, ◌*◌, ◌/◌, ◌%◌, ◌^◌, ◌<◌, ◌≤◌, T, length, pos, ◌+ℤ◌, slice_index, slice_index_or, unsigned_abs};
+ghost use Rattle.std.specs.Prelude.{◌≡◌, ℕ, ◌+◌, ◌*◌, ◌/◌, ◌%◌, ◌^◌, ◌<◌, ◌≤◌, T, length, pos, ◌+ℤ◌, slice_index, slice_index_or};
+ghost use Rattle.std.specs.Prelude.{unsigned_abs};
 ghost use Rattle.std.specs.Int.Signed.{mag, non_neg};
 ghost use Rattle.rules.specs.Notation.{build, byte};
 ghost use Rattle.rules.specs.Pixel.{word};
@@ -54,7 +55,8 @@ pub fn eight_wholes(d: &[u8], base: i16, span: Span, table: &[[i8; 8]; 16]) -> [
 
 // The byte of each of eight values.
 fn eighths(wholes: [i16; 8], up: u16) -> [i16; 8]
-    requires { (up < 2048) × ((j : ℕ) → j < 8 → T (non_neg (pos up +ℤ slice_index_or wholes j (pos 0))) × (mag (slice_index_or wholes j (pos 0)) < 2048)) }
+    requires { (up < 2048) × ((j : ℕ) → j < 8 → T (non_neg (pos up +ℤ slice_index_or wholes j (pos 0)))
+        × (mag (slice_index_or wholes j (pos 0)) < 2048)) }
     ensures { result ≡ build 8 (λ j. pos (unsigned_abs (pos up +ℤ slice_index_or wholes j (pos 0)) / 8)) }
 {
     let mut eight = [0i16; 8];
@@ -77,7 +79,8 @@ fn eight_bytes(d: &[u8], base: i16, span: Span, table: &[[i8; 8]; 16]) -> [i16; 
 
 // The byte of each pixel, row by row, of eight.
 fn eac_bytes(d: &[u8], eight: [i16; 8]) -> [u32; 16]
-    requires { (8 ≤ length d.now) × ((j : ℕ) → j < 8 → T (non_neg (slice_index_or eight j (pos 0))) × (mag (slice_index_or eight j (pos 0)) < 256)) }
+    requires { (8 ≤ length d.now) × ((j : ℕ) → j < 8 → T (non_neg (slice_index_or eight j (pos 0)))
+        × (mag (slice_index_or eight j (pos 0)) < 256)) }
     ensures { result ≡ build 16 (λ k. unsigned_abs (slice_index_or eight (number_at d.now k) (pos 0))) }
 {
     widened(picks::picked(d, eight))
@@ -85,7 +88,8 @@ fn eac_bytes(d: &[u8], eight: [i16; 8]) -> [u32; 16]
 
 // Sixteen values, each as sixteen bits.
 fn narrowed(whole: [i16; 16], up: u16) -> [u16; 16]
-    requires { (up < 2048) × ((k : ℕ) → k < 16 → T (non_neg (pos up +ℤ slice_index_or whole k (pos 0))) × (mag (slice_index_or whole k (pos 0)) < 2048)) }
+    requires { (up < 2048) × ((k : ℕ) → k < 16 → T (non_neg (pos up +ℤ slice_index_or whole k (pos 0)))
+        × (mag (slice_index_or whole k (pos 0)) < 2048)) }
     ensures { result ≡ build 16 (λ k. sixteen (slice_index_or whole k (pos 0))) }
 {
     let mut out = [0u16; 16];

@@ -64,7 +64,8 @@ fn not_less(a: [u8; 3], b: [u8; 3]) -> bool
 
 // H's distance number, from its base colours and byte 3.
 pub fn h_number(c: [[u8; 3]; 3], b: u8) -> u8
-    ensures { (result ≡ 4 * bit 2 b + 2 * bit 0 b + (if not_less_lem (slice_index_or c 0 []) (slice_index_or c 1 []) then 1 else 0)) × (result < 8) }
+    ensures { (result ≡ 4 * bit 2 b + 2 * bit 0 b + (if not_less_lem (slice_index_or c 0 []) (slice_index_or c 1 []) then 1 else 0))
+        × (result < 8) }
 {
     let number = 4 * (b / 4 % 2) + 2 * (b % 2);
     if not_less(c[0], c[1]) {

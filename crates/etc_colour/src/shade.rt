@@ -59,7 +59,8 @@ pub fn four_colours(bases: [[u8; 3]; 4], steps: &[i16; 4], opaque: bool) -> [u32
 
 // The colours of the first half, and then those of the second.
 pub fn joined(a: [u32; 4], b: [u32; 4]) -> [u32; 8]
-    ensures { result ≡ slice_index a 0 ∷ slice_index a 1 ∷ slice_index a 2 ∷ slice_index a 3 ∷ slice_index b 0 ∷ slice_index b 1 ∷ slice_index b 2 ∷ slice_index b 3 ∷ [] }
+    ensures { result ≡ slice_index a 0 ∷ slice_index a 1 ∷ slice_index a 2 ∷ slice_index a 3 ∷ slice_index b 0 ∷ slice_index b 1
+        ∷ slice_index b 2 ∷ slice_index b 3 ∷ [] }
 {
     [a[0], a[1], a[2], a[3], b[0], b[1], b[2], b[3]]
 }

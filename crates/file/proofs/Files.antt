@@ -11,12 +11,54 @@ use lib.Dec.{eqb, ltb}
 use lib.ListN.{length, get_or}
 use Rattle.rules.specs.Places.{sized}
 use Rattle.rules.specs.Answers.{said, limit, too_large_lem}
-use Rattle.rules.specs.FileLevels.{bytes_for_lem, fit_of_lem, level_at_lem, next_spot_lem, lesser, chosen, fits_then, levels_from, first_spot, no_level, levels_of, too_many_lem, larger, held_of, opened_by, found_by}
+use Rattle.rules.specs.FileLevels.{
+  bytes_for_lem,
+  fit_of_lem,
+  level_at_lem,
+  next_spot_lem,
+  lesser,
+  chosen,
+  fits_then,
+  levels_from,
+  first_spot,
+  no_level,
+  levels_of,
+  too_many_lem,
+  larger,
+  held_of,
+  opened_by,
+  found_by,
+}
 use Rattle.rules.specs.Files.{header_of, opened_as, found_as, opened_said, found_said, opened_verdict, OpensFile, found_verdict, FindsLevel}
 use Rattle.laws.proofs.Unique.{answer}
 use Rattle.rules.specs.declared.Answer.{Answer}
-use Rattle.rules.specs.declared.Answer.TheVariants.{Done, TooLarge, ShortData, ShortImage, OutOfRange, NoChannel, LongData, CutShort, NoHead, OtherKind, WrongBlocks, NotOpaque, ShortPitch}
-use Rattle.rules.specs.declared.Answer.TheVariants.{HeaderCut, UnknownContainer, UnknownVersion, UnknownFormat, SizesDisagree, NotFlat, NoPixel, LevelsMissing, NoLevel, Supercompressed}
+use Rattle.rules.specs.declared.Answer.TheVariants.{
+  Done,
+  TooLarge,
+  ShortData,
+  ShortImage,
+  OutOfRange,
+  NoChannel,
+  LongData,
+  CutShort,
+  NoHead,
+  OtherKind,
+  WrongBlocks,
+  NotOpaque,
+  ShortPitch,
+}
+use Rattle.rules.specs.declared.Answer.TheVariants.{
+  HeaderCut,
+  UnknownContainer,
+  UnknownVersion,
+  UnknownFormat,
+  SizesDisagree,
+  NotFlat,
+  NoPixel,
+  LevelsMissing,
+  NoLevel,
+  Supercompressed,
+}
 use Rattle.rules.specs.declared.Layout.{Layout}
 use Rattle.rules.specs.declared.Spot.{Spot}
 use Rattle.rules.specs.declared.Fit.{Fit}
@@ -40,7 +82,8 @@ pub record Exact (f : ℕ) (d : List ℕ) (level : FileLevel) : Type 0 where
   pub within : level.start + level.length ≤ length d
   pub blocks : level.length ≡ bytes_for_lem f level.width level.height
 
-one_exact : (l : Layout) (d : List ℕ) (k : ℕ) (s : Spot) (start : ℕ) → fit.Fits start ≡ fit_of_lem l d k s → Exact l.format d (level_at_lem l s start)
+one_exact : (l : Layout) (d : List ℕ) (k : ℕ) (s : Spot) (start : ℕ) → fit.Fits start ≡ fit_of_lem l d k s
+    → Exact l.format d (level_at_lem l s start)
 unfolding level_at_lem
 one_exact l d k s start e = record { within = fits l d k s start e; blocks = refl }
 
@@ -105,11 +148,13 @@ walked l d n left level k (suc more) s p left' level' r h =
     h
 
 -- a test that refuses was not met
-not_refused : (b : Bool) (a : Answer) (x : HeldLevels) (left : ℕ) (level : FileLevel) → cond b (held.Refused a) x ≡ held.Levels left level → x ≡ held.Levels left level
+not_refused : (b : Bool) (a : Answer) (x : HeldLevels) (left : ℕ) (level : FileLevel) → cond b (held.Refused a) x ≡ held.Levels left level
+    → x ≡ held.Levels left level
 not_refused true a x left level e = absurd (let z : ◌≡◌ {A = ℕ} 0 1 = cc in omega arith)
 not_refused false a x left level e = e
 
-all_held : (l : Layout) (d : List ℕ) (n left : ℕ) (level : FileLevel) → held_of l d n ≡ held.Levels left level → levels_of l d n ≡ held.Levels left level
+all_held : (l : Layout) (d : List ℕ) (n left : ℕ) (level : FileLevel) → held_of l d n ≡ held.Levels left level
+    → levels_of l d n ≡ held.Levels left level
 unfolding held_of
 all_held l d n left level e =
     not_refused (too_many_lem (larger l.width l.height) (l.levels - 1)) _ _ left level
@@ -117,16 +162,19 @@ all_held l d n left level e =
     (not_refused (too_large_lem limit (sized l.width l.height)) _ _ left level
     (not_refused (eqb l.width 0 || eqb l.height 0) _ _ left level e)))
 
-pub exact : (l : Layout) (d : List ℕ) (n left : ℕ) (level : FileLevel) → held_of l d n ≡ held.Levels left level → n < l.levels → Exact l.format d level
+pub exact : (l : Layout) (d : List ℕ) (n left : ℕ) (level : FileLevel) → held_of l d n ≡ held.Levels left level → n < l.levels
+    → Exact l.format d level
 unfolding levels_of Results
 exact l d n left level e h =
-    walked l d n (length d) no_level 0 l.levels (first_spot l) (λ g. absurd (omega (arith, g))) left level (all_held l d n left level e) (omega arith)
+    walked l d n (length d) no_level 0 l.levels (first_spot l) (λ g. absurd (omega (arith, g))) left level (all_held l d n left level e)
+    (omega arith)
 
 -- ---- levels are found for exactly the numbers below those that are told
 
 -- whether all levels fit does not depend on which is asked for
 by_fit_alike :
-    (l : Layout) (f : Fit) (x y : ℕ → HeldLevels) → ((start : ℕ) → opened_by l (x start) ≡ opened_by l (y start)) → opened_by l (fits_then f x) ≡ opened_by l (fits_then f y)
+    (l : Layout) (f : Fit) (x y : ℕ → HeldLevels) → ((start : ℕ) → opened_by l (x start) ≡ opened_by l (y start))
+    → opened_by l (fits_then f x) ≡ opened_by l (fits_then f y)
 by_fit_alike l (fit.Fits start) x y g = g start
 by_fit_alike l (fit.Refused a) x y g = refl
 
@@ -197,7 +245,8 @@ unfolding opened_by found_by
 refused_held l n a (held.Levels left level) e = absurd (let z : ◌≡◌ {A = ℕ} 0 1 = cc in omega arith)
 refused_held l n a (held.Refused b) e = (let q : b ≡ a = cc in ap found.Refused q)
 
-pub refused_levels : (d : List ℕ) (n : ℕ) (h : FileHeader) (a : Answer) → opened_as d h ≡ opened.Refused a → found_as d n h ≡ found.Refused a
+pub refused_levels : (d : List ℕ) (n : ℕ) (h : FileHeader) (a : Answer) → opened_as d h ≡ opened.Refused a
+    → found_as d n h ≡ found.Refused a
 unfolding opened_as found_as
 refused_levels d n (header.Holds l) a e = refused_held l n a (held_of l d n) (alike l d n 0 ∙ e)
 refused_levels d n (header.Refused b) a e = (let q : b ≡ a = cc in ap found.Refused q)
@@ -280,7 +329,8 @@ opened_file d n f r a b =
     let g : r ≡ found_as d n (header_of d) = found_once r (found_as d n (header_of d)) b in
     rw g (opened_levels d n (header_of d) f e)
 
-pub refused_file : (d : List ℕ) (n : ℕ) (a : Answer) (r : FoundLevel) → OpensFile d (opened.Refused a) → FindsLevel d n r → r ≡ found.Refused a
+pub refused_file : (d : List ℕ) (n : ℕ) (a : Answer) (r : FoundLevel) → OpensFile d (opened.Refused a) → FindsLevel d n r
+    → r ≡ found.Refused a
 unfolding opened_verdict found_verdict
 refused_file d n a r p b =
     let e : opened_as d (header_of d) ≡ opened.Refused a = said_once (opened_as d (header_of d)) (opened.Refused a) (sym p) in

@@ -1,7 +1,8 @@
 // The header of a DDS file. Its numbers and their places are in crates/rules/specs/Dds.antt.
 ghost use Rattle.std.specs.Prelude.{◌≡◌, ◌≤◌, length};
 ghost use Rattle.rules.specs.FileFormats.{known as known_in};
-ghost use Rattle.rules.specs.Dds.{four_cc_rows, dxgi_rows, has_four_cc, is_dx10_lem, dds_flat_lem, dx10_flat_lem, dds_as, four_cc_format, dx10_of, dds_of};
+ghost use Rattle.rules.specs.Dds.{four_cc_rows, dxgi_rows, has_four_cc, is_dx10_lem, dds_flat_lem, dx10_flat_lem, dds_as};
+ghost use Rattle.rules.specs.Dds.{four_cc_format, dx10_of, dds_of};
 
 use super::formats;
 use rules::{Answer, FileHeader, KnownFormat, Layout};

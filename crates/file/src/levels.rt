@@ -1,7 +1,8 @@
 // The levels of a file: whether they all lie in it as it tells, and where one of them does.
 ghost use Rattle.std.specs.Prelude.{◌||◌, ◌≡◌, ◌+◌, ◌-◌, ◌/◌, ◌<◌, ◌≤◌, eqb, length};
 ghost use Rattle.rules.specs.Answers.{limit};
-ghost use Rattle.rules.specs.FileLevels.{bytes_for_lem, halved as half_of, inside_of, after_size_lem, in_index_lem, fit_of_lem, level_at_lem, next_spot_lem};
+ghost use Rattle.rules.specs.FileLevels.{bytes_for_lem, halved as half_of, inside_of, after_size_lem, in_index_lem, fit_of_lem};
+ghost use Rattle.rules.specs.FileLevels.{level_at_lem, next_spot_lem};
 ghost use Rattle.rules.specs.FileLevels.{lesser as lesser_of, chosen as chosen_of, levels_of, too_many_lem, larger as larger_of};
 ghost use Rattle.rules.specs.FileLevels.{held_of, opened_by, found_by};
 

@@ -38,10 +38,12 @@ first test zero = record { within = le_refl 0; found = λ q. absurd (omega arith
 first test (suc n) =
     let p = first test n in
     elim (dec_lt (first_of test n) n) [
-      | yes h ↦ subst (λ (b : Bool). First test (suc n) (cond b (first_of test n) (cond (test n) n (suc n)))) (sym (lt-ltb (first_of test n) n h)) (kept test n (first_of test n) p h)
+      | yes h ↦ subst (λ (b : Bool). First test (suc n) (cond b (first_of test n) (cond (test n) n (suc n))))
+          (sym (lt-ltb (first_of test n) n h)) (kept test n (first_of test n) p h)
       | no h ↦
           let e : first_of test n ≡ n = omega (arith, p.within, h) in
-          subst (λ (b : Bool). First test (suc n) (cond b (first_of test n) (cond (test n) n (suc n)))) (sym (le-ltb (first_of test n) n (omega arith))) (last test n (first_of test n) (test n) p e refl)
+          subst (λ (b : Bool). First test (suc n) (cond b (first_of test n) (cond (test n) n (suc n))))
+          (sym (le-ltb (first_of test n) n (omega arith))) (last test n (first_of test n) (test n) p e refl)
     ]
 
 -- and nothing else is first
@@ -63,5 +65,10 @@ pub first_alike : (t u : ℕ → Bool) (n : ℕ) → ((m : ℕ) → m < n → t 
 first_alike t u n h =
     let f = first t n in
     only u n (first_of t n) (first_of u n)
-    (record { within = f.within; found = λ l. sym (h (first_of t n) l) ∙ f.found l; none = λ k l. sym (h k (omega (arith, f.within))) ∙ f.none k l })
+    (record {
+      within = f.within;
+      found = λ l. sym (h (first_of t n) l) ∙ f.found l;
+      none = λ k l. sym (h k (omega (arith, f.within)))
+          ∙ f.none k l;
+    })
     (first u n)

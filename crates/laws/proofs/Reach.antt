@@ -11,18 +11,65 @@ use lib.Seq.{get_or-take, get_or-drop}
 use Rattle.rules.specs.Notation.{byte, build}
 use Rattle.rules.specs.Pixel.{Shows, word}
 use Rattle.rules.specs.Colour.{index, half, code, differs, individual, differential, kind_by_sums_lem, kind_of, steps_of, half_colours}
-use Rattle.rules.specs.Modes.{t_bases, t_distance, t_colours_lem, h_bases, h_distance, h_colours_lem, planar_bases_lem, planar_pixel_lem, colours_of_lem, is_planar, indexed, clear_steps, etc1_bases, etc1_pixel, rgb_pixel, rgba1_pixel}
+use Rattle.rules.specs.Modes.{
+  t_bases,
+  t_distance,
+  t_colours_lem,
+  h_bases,
+  h_distance,
+  h_colours_lem,
+  planar_bases_lem,
+  planar_pixel_lem,
+  colours_of_lem,
+  is_planar,
+  indexed,
+  clear_steps,
+  etc1_bases,
+  etc1_pixel,
+  rgb_pixel,
+  rgba1_pixel,
+}
 use Rattle.rules.specs.Channels.{with_alpha, alpha_step, alpha_byte, rgba8_pixel, eac_value, eac_byte, red_pixel, red_green_pixel}
 use Rattle.numbers.specs.Numbers.{little}
 use Rattle.numbers.proofs.Little.{inside}
-use Rattle.rules.specs.Desktop.{half_word_lem, palette_in_lem, colour_index, alphas_in_lem, alpha_index_in, bc1_pixel, bc3_alpha, bc3_pixel, bc2_alpha, bc2_pixel, replaced}
+use Rattle.rules.specs.Desktop.{
+  half_word_lem,
+  palette_in_lem,
+  colour_index,
+  alphas_in_lem,
+  alpha_index_in,
+  bc1_pixel,
+  bc3_alpha,
+  bc3_pixel,
+  bc2_alpha,
+  bc2_pixel,
+  replaced,
+}
 use Rattle.rules.specs.Rgtc.{values_in_lem, half_byte, bc4_pixel, bc5_pixel}
 use Rattle.rules.specs.Bc7.{pixel_of, bc7_pixel}
 use Rattle.rules.specs.Formats.{size_of, shows_of}
 use Rattle.rules.specs.declared.Kind.{Kind}
 use Rattle.rules.specs.declared.Kind.TheVariants.{Individual, Differential, T, H, Planar}
 use Rattle.rules.specs.declared.Format.{Format}
-use Rattle.rules.specs.declared.Format.TheVariants.{Etc1, Etc2Rgb, Etc2Rgba1, Etc2Rgba8, EacR, EacRSigned, EacRg, EacRgSigned, Bc1, Bc1Alpha, Bc3, Bc7, Bc2, Bc4, Bc4Signed, Bc5, Bc5Signed}
+use Rattle.rules.specs.declared.Format.TheVariants.{
+  Etc1,
+  Etc2Rgb,
+  Etc2Rgba1,
+  Etc2Rgba8,
+  EacR,
+  EacRSigned,
+  EacRg,
+  EacRgSigned,
+  Bc1,
+  Bc1Alpha,
+  Bc3,
+  Bc7,
+  Bc2,
+  Bc4,
+  Bc4Signed,
+  Bc5,
+  Bc5Signed,
+}
 use Rattle.laws.proofs.Filled.{build_same}
 
 -- the first eight bytes of a list
@@ -103,7 +150,8 @@ etc1 d x y =
     ap (λ (c : ℕ). get_or (half_colours (get_or (etc1_bases d) (half d x y) []) (steps_of c)) (index d x y) 0) (codes d (half d x y))
 
 -- planar, or by index
-either : (k m : Kind) (b c : List (List ℕ)) (v w x y : ℕ) → k ≡ m → b ≡ c → v ≡ w → cond (is_planar k) (planar_pixel_lem b x y) v ≡ cond (is_planar m) (planar_pixel_lem c x y) w
+either : (k m : Kind) (b c : List (List ℕ)) (v w x y : ℕ) → k ≡ m → b ≡ c → v ≡ w
+    → cond (is_planar k) (planar_pixel_lem b x y) v ≡ cond (is_planar m) (planar_pixel_lem c x y) w
 either k m b c v w x y p q r =
     ap (λ (k : Kind). cond (is_planar k) (planar_pixel_lem b x y) v) p
     ∙ ap (λ (b : List (List ℕ)). cond (is_planar m) (planar_pixel_lem b x y) v) q

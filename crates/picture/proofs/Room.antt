@@ -24,14 +24,26 @@ one_limit false false = refl
 
 module _ (w h elements : ℕ) (room : too_large_lem limit (sized w h) ≡ false → needed (sized w h) ≤ elements) where
   -- no check is left out that could fail
-  pub without_image : (viewer : Viewer) (bytes : ℕ) (then : List ℕ) → judged (checks_for viewer (sized w h) bytes elements) then ≡ judged (data_checks_for viewer (sized w h) bytes) then
+  pub without_image : (viewer : Viewer) (bytes : ℕ) (then : List ℕ)
+      → judged (checks_for viewer (sized w h) bytes elements) then ≡ judged (data_checks_for viewer (sized w h) bytes) then
   without_image viewer bytes then = decide viewer (too_large_lem limit (sized w h)) refl
     where
-      decide : (viewer : Viewer) (large : Bool) → too_large_lem limit (sized w h) ≡ large → judged (checks_for viewer (sized w h) bytes elements) then ≡ judged (data_checks_for viewer (sized w h) bytes) then
+      decide : (viewer : Viewer) (large : Bool) → too_large_lem limit (sized w h) ≡ large
+          → judged (checks_for viewer (sized w h) bytes elements) then ≡ judged (data_checks_for viewer (sized w h) bytes) then
       decide Etc1 true e = rw (one_limit (ltb limit w) (ltb limit h), e)
-      decide Etc1 false e = rw (one_limit (ltb limit w) (ltb limit h), e, le-ltb w w (omega arith), le-ltb elements (needed (sized w h)) (room e))
+      decide Etc1 false e = rw (
+        one_limit (ltb limit w) (ltb limit h),
+        e,
+        le-ltb w w (omega arith),
+        le-ltb elements (needed (sized w h)) (room e),
+      )
       decide Opaque true e = rw (one_limit (ltb limit w) (ltb limit h), e)
-      decide Opaque false e = rw (one_limit (ltb limit w) (ltb limit h), e, le-ltb w w (omega arith), le-ltb elements (needed (sized w h)) (room e))
+      decide Opaque false e = rw (
+        one_limit (ltb limit w) (ltb limit h),
+        e,
+        le-ltb w w (omega arith),
+        le-ltb elements (needed (sized w h)) (room e),
+      )
 
 -- and where the image is too short, that is said, or what would be said without it
 three : (large short : Bool) (then : List ℕ) (e : Bool)
@@ -44,7 +56,8 @@ three false false then false = inr refl
 
 three_exactly : (large short long : Bool) (then : List ℕ) (e : Bool)
     → (cond large (1 ∷ []) (cond short (2 ∷ []) (cond long (6 ∷ []) (cond e (3 ∷ []) then))) ≡ 3 ∷ [])
-    ⊎ (cond large (1 ∷ []) (cond short (2 ∷ []) (cond long (6 ∷ []) (cond e (3 ∷ []) then))) ≡ cond large (1 ∷ []) (cond short (2 ∷ []) (cond long (6 ∷ []) then)))
+    ⊎ (cond large (1 ∷ []) (cond short (2 ∷ []) (cond long (6 ∷ []) (cond e (3 ∷ []) then)))
+    ≡ cond large (1 ∷ []) (cond short (2 ∷ []) (cond long (6 ∷ []) then)))
 three_exactly true short long then e = inr refl
 three_exactly false true long then e = inr refl
 three_exactly false false true then e = inr refl
@@ -57,7 +70,8 @@ module _ (w h elements : ℕ) where
       ⊎ (judged (checks_for viewer (sized w h) bytes elements) then ≡ judged (data_checks_for viewer (sized w h) bytes) then)
   or_short Etc1 bytes then =
       rw (one_limit (ltb limit w) (ltb limit h), le-ltb w w (omega arith))
-      (three_exactly (too_large_lem limit (sized w h)) (ltb bytes (blocks (sized w h) * 8)) (ltb (blocks (sized w h) * 8) bytes) then (ltb elements (needed (sized w h))))
+      (three_exactly (too_large_lem limit (sized w h)) (ltb bytes (blocks (sized w h) * 8)) (ltb (blocks (sized w h) * 8) bytes) then
+      (ltb elements (needed (sized w h))))
   or_short Opaque bytes then =
       rw (one_limit (ltb limit w) (ltb limit h), le-ltb w w (omega arith))
       (three (too_large_lem limit (sized w h)) (ltb bytes (blocks (sized w h) * 8)) then (ltb elements (needed (sized w h))))

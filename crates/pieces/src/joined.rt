@@ -22,7 +22,8 @@ pub fn paint_joined(
     last: usize,
     image: &mut [u32],
 )
-    requires width_le_limit { (pic.width ≤ limit) × (pic.height ≤ limit) × (first ≤ last) × (last ≤ blocks pic) × Room pic (length image.old) }
+    requires width_le_limit { (pic.width ≤ limit) × (pic.height ≤ limit) × (first ≤ last) × (last ≤ blocks pic)
+        × Room pic (length image.old) }
     requires held_bound { (held < size_of f) × ((last - first) * size_of f ≤ held + length bytes.now) }
     ensures { PaintsRun f (take held kept ++ bytes.now) pic first last image.old image.new }
 {

@@ -14,7 +14,19 @@ use Rattle.rules.specs.Colour.{code, differential, wrapped, out_of_range_lem}
 use Rattle.rules.specs.Modes.{etc1_pixel}
 use Rattle.rules.specs.Counting.{least_of_lem, sum_of, most_of, each, from_bits_lem}
 use Rattle.rules.specs.Checking.{near, differ, farthest, cost, largest, accepted, check_verdict, baking_said, Checks}
-use Rattle.rules.specs.Baking.{bases_of_lem, own, shown, index_for, cost_for, code_for, block_with, baked_block, bake_verdict, eight_over, Bakes}
+use Rattle.rules.specs.Baking.{
+  bases_of_lem,
+  own,
+  shown,
+  index_for,
+  cost_for,
+  code_for,
+  block_with,
+  baked_block,
+  bake_verdict,
+  eight_over,
+  Bakes,
+}
 use Rattle.rules.specs.declared.Baking.{Baking}
 use Rattle.rules.specs.declared.Baking.TheVariants.{Done, ShortBlock, ShortTile, NoBase, NotAccepted}
 use Rattle.rules.proofs.Rows.{digits, same}
@@ -79,11 +91,21 @@ every (r ∷ rs) =
 
 unfoldable pub specimens : List Row
 specimens =
-    bakes 0xFB9 0x4AB 1 0xABD5CB7222FFD2831ECAA3D053FFFF4A3EFFBB9ACBF6B9716FFFBB9713FFBA9D5C449CA49D35AADBD43DB7B37B9851689C4AC3C987AEA6AC0E38A2C6F746A9B9 0xF4BA9B01CFA54D2D 980 108
-    ∷ bakes 0xFFF 0x0F0 0 0x6AEDB1DB4ED3F9B2F229A8BB20DC8EFE3276268F02846CBBE91E6C33AFE381311F83260654BE93F3D1D31C3D75A0DA1A0D5AA4F0489106DBEA3BB230A1F045BE 0xF0FFF0DC06FFB6AE 2873 211
-    ∷ bakes 0xFF0 0x0FF 0 0xFDFEFB0382FEFE00C800F7FF670BFFF933F1DF0F64FFE500EE00FDFDB900C1FFA989FF00AFFFFF04AE00FFFF3F01FFFF58FFBB68CEFBFC00541AD5FFC800F2F9 0xF0FF0F20A3A6980A 499 113
-    ∷ bakes 0xF0F 0xF0F 0 0x96FF00FF7BFF00FFFBFF00FF4CFF00FFE2FF00FFD2FF00FF22FF00FFC2FF00FFCBFF00FFAEFF00FF96FF00FF89FF00FF29FF00FFB8FF00FFECFF00FF90FF00FF 0xFF00FF0000000000 32 2
-    ∷ bakes 0x724 0x3C9 1 0x14EF413514EF413514EF413514EF413514EF413514EF413514EF413514EF413514EF413514EF413514EF413514EF413514EF413514EF413514EF413514EF4135 0x732C4959CCCCFFFF 3320 239
+    bakes 0xFB9 0x4AB 1
+    0xABD5CB7222FFD2831ECAA3D053FFFF4A3EFFBB9ACBF6B9716FFFBB9713FFBA9D5C449CA49D35AADBD43DB7B37B9851689C4AC3C987AEA6AC0E38A2C6F746A9B9
+    0xF4BA9B01CFA54D2D 980 108
+    ∷ bakes 0xFFF 0x0F0 0
+    0x6AEDB1DB4ED3F9B2F229A8BB20DC8EFE3276268F02846CBBE91E6C33AFE381311F83260654BE93F3D1D31C3D75A0DA1A0D5AA4F0489106DBEA3BB230A1F045BE
+    0xF0FFF0DC06FFB6AE 2873 211
+    ∷ bakes 0xFF0 0x0FF 0
+    0xFDFEFB0382FEFE00C800F7FF670BFFF933F1DF0F64FFE500EE00FDFDB900C1FFA989FF00AFFFFF04AE00FFFF3F01FFFF58FFBB68CEFBFC00541AD5FFC800F2F9
+    0xF0FF0F20A3A6980A 499 113
+    ∷ bakes 0xF0F 0xF0F 0
+    0x96FF00FF7BFF00FFFBFF00FF4CFF00FFE2FF00FFD2FF00FF22FF00FFC2FF00FFCBFF00FFAEFF00FF96FF00FF89FF00FF29FF00FFB8FF00FFECFF00FF90FF00FF
+    0xFF00FF0000000000 32 2
+    ∷ bakes 0x724 0x3C9 1
+    0x14EF413514EF413514EF413514EF413514EF413514EF413514EF413514EF413514EF413514EF413514EF413514EF413514EF413514EF413514EF413514EF4135
+    0x732C4959CCCCFFFF 3320 239
     ∷ []
 
 -- "A block under 8 bytes is refused with 2, a tile under 16 elements with 3, in that order." The block of zeros shows FF020202; the
@@ -148,6 +170,7 @@ written = same (eight_over (eight 0x0102030405060708) (replicate 8 9 ++ (10 ∷ 
 
 -- the first tile here, with every edit of a definition, and all of them once, in crate recorded
 hold : T (answers && checked && measured && halves && spelt && refused && written && every (take 1 specimens))
-unfolding answers checked measured halves spelt refused written base eight sixteen bakes least_sum every specimens differential wrapped out_of_range_lem etc1_pixel least_of_lem sum_of most_of each from_bits_lem
+unfolding answers checked measured halves spelt refused written base eight sixteen bakes least_sum every specimens differential wrapped
+    out_of_range_lem etc1_pixel least_of_lem sum_of most_of each from_bits_lem
     near differ farthest check_verdict shown index_for cost_for code_for block_with
 hold = tt

@@ -185,4 +185,5 @@ subset n p i = get_or (get_or (get_or ([] ∷ two ∷ three ∷ []) (n - 1) []) 
 
 -- the anchor of subset s in partition p of n subsets: of subset 0 it is pixel 0
 unfoldable pub anchor : ℕ → ℕ → ℕ → ℕ
-anchor n p s = get_or (get_or (get_or ([] ∷ ([] ∷ anchor_of_two ∷ []) ∷ ([] ∷ anchor_of_three1 ∷ anchor_of_three2 ∷ []) ∷ []) (n - 1) []) s []) p 0
+anchor n p s =
+    get_or (get_or (get_or ([] ∷ ([] ∷ anchor_of_two ∷ []) ∷ ([] ∷ anchor_of_three1 ∷ anchor_of_three2 ∷ []) ∷ []) (n - 1) []) s []) p 0

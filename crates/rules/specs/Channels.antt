@@ -1,6 +1,28 @@
 -- Alpha and single channels: one byte, or eleven bits, from eight bytes of their own.
 -- Assumes nothing.
-use Rattle.std.specs.Prelude.{Bool, true, false, cond, List, [], ◌∷◌, ℕ, ◌+◌, ◌-◌, ◌*◌, ◌/◌, ◌%◌, ◌^◌, eqb, ℤ, pos, ◌+ℤ◌, ◌*ℤ◌, get_or, drop}
+use Rattle.std.specs.Prelude.{
+  Bool,
+  true,
+  false,
+  cond,
+  List,
+  [],
+  ◌∷◌,
+  ℕ,
+  ◌+◌,
+  ◌-◌,
+  ◌*◌,
+  ◌/◌,
+  ◌%◌,
+  ◌^◌,
+  eqb,
+  ℤ,
+  pos,
+  ◌+ℤ◌,
+  ◌*ℤ◌,
+  get_or,
+  drop,
+}
 use Rattle.std.specs.Int.Bits.{bit_or}
 use Rattle.rules.specs.Notation.{byte, bits, twos, minus, clamp}
 use Rattle.rules.specs.Pixel.{word}

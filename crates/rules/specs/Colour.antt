@@ -1,6 +1,30 @@
 -- The colour block: its bits, its halves, and the five-bit sums that tell its kind.
 -- Assumes nothing.
-use Rattle.std.specs.Prelude.{Bool, true, cond, ◌&&◌, ◌||◌, List, [], ◌∷◌, ℕ, zero, suc, ◌+◌, ◌*◌, ◌/◌, eqb, ltb, ℤ, pos, negsuc, nat_abs, ◌+ℤ◌, ◌*ℤ◌, get_or}
+use Rattle.std.specs.Prelude.{
+  Bool,
+  true,
+  cond,
+  ◌&&◌,
+  ◌||◌,
+  List,
+  [],
+  ◌∷◌,
+  ℕ,
+  zero,
+  suc,
+  ◌+◌,
+  ◌*◌,
+  ◌/◌,
+  eqb,
+  ltb,
+  ℤ,
+  pos,
+  negsuc,
+  nat_abs,
+  ◌+ℤ◌,
+  ◌*ℤ◌,
+  get_or,
+}
 use Rattle.rules.specs.Notation.{byte, bit, bits, twos, minus, clamp, modulo}
 use Rattle.rules.specs.Pixel.{word}
 use Rattle.rules.specs.declared.Kind.{Kind}

@@ -58,7 +58,8 @@ not_less_lem a b =
 -- its distance number is bit 34 with 32, which "gains 1 when c0 >= c1"
 unfoldable pub h_distance : List ℕ → ℕ
 h_distance d =
-    get_or distances (4 * bit 2 (byte d 3) + 2 * bit 0 (byte d 3) + cond (not_less_lem (get_or (h_bases d) 0 []) (get_or (h_bases d) 1 [])) 1 0) 0
+    get_or distances (4 * bit 2 (byte d 3) + 2 * bit 0 (byte d 3) + cond
+    (not_less_lem (get_or (h_bases d) 0 []) (get_or (h_bases d) 1 [])) 1 0) 0
 
 -- "H paints c0 + d, c0 - d, c1 + d, c1 - d"
 abbrev pub h_colours_lem : List (List ℕ) → ℕ → List ℕ

@@ -108,7 +108,8 @@ fn whole_block(
     pic: Picture,
     image: &mut [u16],
 )
-    requires green_in_bounds { (lanes green * 8 ≤ length d.now) × (table.now ≡ alpha_steps_lem) × Ready (lanes green) pic (length image.old) }
+    requires green_in_bounds { (lanes green * 8 ≤ length d.now) × (table.now ≡ alpha_steps_lem)
+        × Ready (lanes green) pic (length image.old) }
     requires bx_bound { (bx * 4 + 4 ≤ pic.width) × (by * 4 + 4 ≤ pic.height) × Spans span }
     ensures { PaintsBlock (lanes green) span.signed d.now pic bx by image.old image.new }
 {
@@ -175,7 +176,8 @@ fn paint_block(
     pic: Picture,
     image: &mut [u16],
 )
-    requires green_in_bounds { (lanes green * 8 ≤ length d.now) × (table.now ≡ alpha_steps_lem) × Ready (lanes green) pic (length image.old) }
+    requires green_in_bounds { (lanes green * 8 ≤ length d.now) × (table.now ≡ alpha_steps_lem)
+        × Ready (lanes green) pic (length image.old) }
     requires bx_bound { (bx < 0x10000) × (by < 0x10000) × Spans span }
     ensures { PaintsBlock (lanes green) span.signed d.now pic bx by image.old image.new }
 {

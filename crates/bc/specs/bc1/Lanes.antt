@@ -38,7 +38,8 @@ alpha_lane_lem t i = (cond (eqb (i % 4) 3) 255 0 + t * cond (eqb i 15) 1 0 % 655
 
 unfoldable pub lane : ℕ → ℕ → ℕ → ℕ → ℕ → ℕ
 lane f t p q i =
-    (sixths (channel p (i % 4)) (channel q (i % 4)) (first_parts_lem f (i / 4)) (second_parts_lem f (i / 4)) + alpha_lane_lem t i) % 65536 % 256
+    (sixths (channel p (i % 4)) (channel q (i % 4)) (first_parts_lem f (i / 4)) (second_parts_lem f (i / 4))
+    + alpha_lane_lem t i) % 65536 % 256
 
 -- four bytes of a list, the first lowest
 abbrev pub word_at : List ℕ → ℕ → ℕ

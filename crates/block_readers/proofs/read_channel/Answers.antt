@@ -26,8 +26,10 @@ returns-then-channel-gt3 c =
 
 pub returns-in_default : goal.returns-in_default
 returns-in_default c =
-    let four : block_verdict 8 c.args.«data».now c.args.image.now ≡ channel_verdict c.args.channel c.args.«data».now c.args.image.now = channel_checked c.args.channel (length c.args.«data».now) (length c.args.image.now) c.if-channel-gt3.false in
-    unchanged _ _ c.args.image.now c.verify-answer.result (c.verify-answer.ensures ∙ four) (refusal c.verify-answer.result (opened c.in_default.in_default-own.keys2))
+    let four : block_verdict 8 c.args.«data».now c.args.image.now ≡ channel_verdict c.args.channel c.args.«data».now c.args.image.now =
+    channel_checked c.args.channel (length c.args.«data».now) (length c.args.image.now) c.if-channel-gt3.false in
+    unchanged _ _ c.args.image.now c.verify-answer.result (c.verify-answer.ensures ∙ four)
+    (refusal c.verify-answer.result (opened c.in_default.in_default-own.keys2))
 
 pub first_sixteen-stood-requires : goal.first_sixteen-stood-requires
 first_sixteen-stood-requires c =
@@ -47,12 +49,14 @@ place_block-requires c =
 pub returns : goal.returns
 returns c =
     let clear : Passed 8 (length c.args.«data».now) (length c.args.image.now) = passed _ _ _ _ c.verify-answer.ensures c.in-Done.is in
-    let four : block_verdict 8 c.args.«data».now c.args.image.now ≡ channel_verdict c.args.channel c.args.«data».now c.args.image.now = channel_checked c.args.channel (length c.args.«data».now) (length c.args.image.now) c.if-channel-gt3.false in
+    let four : block_verdict 8 c.args.«data».now c.args.image.now ≡ channel_verdict c.args.channel c.args.«data».now c.args.image.now =
+    channel_checked c.args.channel (length c.args.«data».now) (length c.args.image.now) c.if-channel-gt3.false in
     let a = c.args in
     let d = a.«data».now in
     let l = a.image.now in
     let e =
     c.onto.ensures
-    ∙ ap (λ (s : List ℕ). build 16 (λ k. join_of a.j a.channel (get_or s k 0) (byte_of a.j d (k % 4) (k / 4)))) c.first_sixteen-stood.ensures in
+    ∙ ap (λ (s : List ℕ). build 16 (λ k. join_of a.j a.channel (get_or s k 0)
+    (byte_of a.j d (k % 4) (k / 4)))) c.first_sixteen-stood.ensures in
     done _ _ l _ (clear.zero ∙ four)
     (c.place_block.ensures ∙ sixteen (λ k. join_of a.j a.channel (get_or l k 0) (byte_of a.j d (k % 4) (k / 4))) _ l e)

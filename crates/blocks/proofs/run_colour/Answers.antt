@@ -18,39 +18,54 @@ loop-i-init c =
 
 pub overflow_mul-from : goal.overflow_mul-from
 overflow_mul-from c =
-    let enough : c.loop-i.i * c.colour_size-size.result + c.colour_size-size.result ≤ length c.args.«data».now = room c.colour_size-size.result c.args.n c.loop-i.i (length c.args.«data».now) c.loop-i-test.true
+    let enough : c.loop-i.i * c.colour_size-size.result + c.colour_size-size.result ≤ length c.args.«data».now =
+    room c.colour_size-size.result c.args.n c.loop-i.i (length c.args.«data».now) c.loop-i-test.true
     (subst (λ (m : ℕ). c.args.n * m ≤ length c.args.«data».now) (sym c.colour_size-size.ensures.0) c.requires.0) in
     omega (arith, enough)
 
 pub overflow_add-end : goal.overflow_add-end
 overflow_add-end c =
-    let enough : c.loop-i.i * c.colour_size-size.result + c.colour_size-size.result ≤ length c.args.«data».now = room c.colour_size-size.result c.args.n c.loop-i.i (length c.args.«data».now) c.loop-i-test.true
+    let enough : c.loop-i.i * c.colour_size-size.result + c.colour_size-size.result ≤ length c.args.«data».now =
+    room c.colour_size-size.result c.args.n c.loop-i.i (length c.args.«data».now) c.loop-i-test.true
     (subst (λ (m : ℕ). c.args.n * m ≤ length c.args.«data».now) (sym c.colour_size-size.ensures.0) c.requires.0) in
     omega (arith, enough)
 
 pub slice_bounds-paint_colour-count : goal.slice_bounds-paint_colour-count
 slice_bounds-paint_colour-count c =
-    let enough : c.loop-i.i * c.colour_size-size.result + c.colour_size-size.result ≤ length c.args.«data».now = room c.colour_size-size.result c.args.n c.loop-i.i (length c.args.«data».now) c.loop-i-test.true
+    let enough : c.loop-i.i * c.colour_size-size.result + c.colour_size-size.result ≤ length c.args.«data».now =
+    room c.colour_size-size.result c.args.n c.loop-i.i (length c.args.«data».now) c.loop-i-test.true
     (subst (λ (m : ℕ). c.args.n * m ≤ length c.args.«data».now) (sym c.colour_size-size.ensures.0) c.requires.0) in
     omega (arith, enough)
 
 pub slice_bounds-paint_colour-start : goal.slice_bounds-paint_colour-start
 slice_bounds-paint_colour-start c =
-    let enough : c.loop-i.i * c.colour_size-size.result + c.colour_size-size.result ≤ length c.args.«data».now = room c.colour_size-size.result c.args.n c.loop-i.i (length c.args.«data».now) c.loop-i-test.true
+    let enough : c.loop-i.i * c.colour_size-size.result + c.colour_size-size.result ≤ length c.args.«data».now =
+    room c.colour_size-size.result c.args.n c.loop-i.i (length c.args.«data».now) c.loop-i-test.true
     (subst (λ (m : ℕ). c.args.n * m ≤ length c.args.«data».now) (sym c.colour_size-size.ensures.0) c.requires.0) in
     omega (arith, enough)
 
 pub slice_bounds-paint_colour-end : goal.slice_bounds-paint_colour-end
 slice_bounds-paint_colour-end c =
-    let enough : c.loop-i.i * c.colour_size-size.result + c.colour_size-size.result ≤ length c.args.«data».now = room c.colour_size-size.result c.args.n c.loop-i.i (length c.args.«data».now) c.loop-i-test.true
+    let enough : c.loop-i.i * c.colour_size-size.result + c.colour_size-size.result ≤ length c.args.«data».now =
+    room c.colour_size-size.result c.args.n c.loop-i.i (length c.args.«data».now) c.loop-i-test.true
     (subst (λ (m : ℕ). c.args.n * m ≤ length c.args.«data».now) (sym c.colour_size-size.ensures.0) c.requires.0) in
     omega (arith, enough)
 
 pub paint_colour-requires : goal.paint_colour-requires
 paint_colour-requires c =
-    let enough : c.loop-i.i * c.colour_size-size.result + c.colour_size-size.result ≤ length c.args.«data».now = room c.colour_size-size.result c.args.n c.loop-i.i (length c.args.«data».now) c.loop-i-test.true
+    let enough : c.loop-i.i * c.colour_size-size.result + c.colour_size-size.result ≤ length c.args.«data».now =
+    room c.colour_size-size.result c.args.n c.loop-i.i (length c.args.«data».now) c.loop-i-test.true
     (subst (λ (m : ℕ). c.args.n * m ≤ length c.args.«data».now) (sym c.colour_size-size.ensures.0) c.requires.0) in
-    let e = c.colour_size-size.ensures.0 in record { alpha_in_bounds = (simp (length-take, length-drop) (omega (arith, e, enough)), c.modifiers-table.ensures); bx_bound = (omega (arith, c.requires.1.narrow), c.requires.1.low, kept c.args.pic _ _ c.requires.1.room c.loop-i.invariant.1.same) }
+    let e =
+    c.colour_size-size.ensures.0 in record {
+      alpha_in_bounds =
+          (simp (length-take, length-drop) (omega (arith, e, enough)), c.modifiers-table.ensures);
+      bx_bound = (
+        omega (arith, c.requires.1.narrow),
+        c.requires.1.low,
+        kept c.args.pic _ _ c.requires.1.room c.loop-i.invariant.1.same,
+      );
+    }
 
 pub loop-i-preserved : goal.loop-i-preserved
 loop-i-preserved c =
@@ -67,4 +82,5 @@ returns c =
     let a = c.args in
     let shows = colour_shows a.plain a.punch a.alpha in
     subst (λ (m : ℕ). PaintsRow shows m a.«data».now a.pic a.bx a.by a.n a.image.now c.loop-i.image) c.colour_size-size.ensures.0
-    (ended shows c.colour_size-size.result a.«data».now a.pic a.bx a.by a.n c.loop-i.i a.image.now c.loop-i.image c.loop-i-test.false c.loop-i.invariant)
+    (ended shows c.colour_size-size.result a.«data».now a.pic a.bx a.by a.n c.loop-i.i a.image.now c.loop-i.image c.loop-i-test.false
+    c.loop-i.invariant)

@@ -3,7 +3,6 @@
 use mathlib.Core.Path.{◌∙◌, refl, sym, ap}
 use Prim.Native.Nat.{◌<◌}
 use lib.Dec.{lit<}
-use borrow.Author.Rules.{rules}
 use Rattle.rules.specs.Places.{sized, blocks}
 use Rattle.rules.specs.declared.Answer.TheVariants.{TooLarge, ShortData}
 use Rattle.guard.specs.Viewers.{guard_of}

@@ -3,7 +3,6 @@
 use mathlib.Core.Path.{◌∙◌, refl, sym, ap}
 use Prim.Native.Nat.{◌<◌}
 use lib.Dec.{lit<}
-use borrow.Author.Rules.{rules}
 use Rattle.rules.specs.Places.{sized}
 use Rattle.rules.specs.Census.{rgba1_tests, rgba1_said}
 use Rattle.rules.specs.declared.Answer.TheVariants.{TooLarge, ShortData}

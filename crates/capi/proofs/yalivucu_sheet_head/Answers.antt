@@ -5,7 +5,6 @@ use lib.ListN.{get_or}
 use Rattle.rules.specs.Sheets.{told}
 use Rattle.rules.specs.declared.Sheet.{Sheet}
 use Rattle.capi.specs.Told.{head_or}
-use borrow.Author.Rules.{rules}
 use Rattle.capi.proofs.yalivucu_sheet_head.Goals as goal
 
 pub returns-in-Holds : goal.returns-in-Holds

@@ -7,7 +7,6 @@ use Rattle.rules.specs.Answers.{said, accepts}
 use Rattle.rules.specs.declared.Answer.{Answer}
 use Rattle.laws.proofs.Unique.{refusal}
 use Rattle.capi.specs.pictures.Told.{answer_number}
-use borrow.Author.Rules.{rules}
 use Rattle.capi.proofs.yalivucu_write_sheet.Goals as goal
 
 pub returns-in_default : goal.returns-in_default

@@ -66,7 +66,8 @@ returns-then-lacks_data c =
     let four : List Check = pitch ∷ three in
     let clear : sides.fails ≡ false = sym c.over_limit-large.ensures ∙ c.if-large.false in
     let after : (v : List ℕ) → v ≡ verdict four → v ≡ verdict (sides ∷ four) = λ v e. passes sides four (0 ∷ []) v clear e in
-    let fitting : (v : List ℕ) → v ≡ verdict three → v ≡ verdict (sides ∷ four) = λ v e. after v (passes pitch three (0 ∷ []) v (sym c.short_pitch-narrow.ensures ∙ c.if-narrow.false) e) in
+    let fitting : (v : List ℕ) → v ≡ verdict three → v ≡ verdict (sides ∷ four) =
+    λ v e. after v (passes pitch three (0 ∷ []) v (sym c.short_pitch-narrow.ensures ∙ c.if-narrow.false) e) in
     fitting (2 ∷ []) (fails bytes (more ∷ elements ∷ []) (0 ∷ []) (sym c.short_data-lacks_data.ensures ∙ c.if-lacks_data.true))
 
 pub returns-then-has_more : goal.returns-then-has_more
@@ -80,8 +81,10 @@ returns-then-has_more c =
     let four : List Check = pitch ∷ three in
     let clear : sides.fails ≡ false = sym c.over_limit-large.ensures ∙ c.if-large.false in
     let after : (v : List ℕ) → v ≡ verdict four → v ≡ verdict (sides ∷ four) = λ v e. passes sides four (0 ∷ []) v clear e in
-    let fitting : (v : List ℕ) → v ≡ verdict three → v ≡ verdict (sides ∷ four) = λ v e. after v (passes pitch three (0 ∷ []) v (sym c.short_pitch-narrow.ensures ∙ c.if-narrow.false) e) in
-    let enough : (v : List ℕ) → v ≡ verdict (more ∷ elements ∷ []) → v ≡ verdict (sides ∷ four) = λ v e. fitting v (passes bytes (more ∷ elements ∷ []) (0 ∷ []) v (sym c.short_data-lacks_data.ensures ∙ c.if-lacks_data.false) e) in
+    let fitting : (v : List ℕ) → v ≡ verdict three → v ≡ verdict (sides ∷ four) =
+    λ v e. after v (passes pitch three (0 ∷ []) v (sym c.short_pitch-narrow.ensures ∙ c.if-narrow.false) e) in
+    let enough : (v : List ℕ) → v ≡ verdict (more ∷ elements ∷ []) → v ≡ verdict (sides ∷ four) =
+    λ v e. fitting v (passes bytes (more ∷ elements ∷ []) (0 ∷ []) v (sym c.short_data-lacks_data.ensures ∙ c.if-lacks_data.false) e) in
     let asked : more.fails ≡ (c.args.exact && c.long_data.result) = ap (λ (t : Bool). c.args.exact && t) (sym c.long_data.ensures) in
     enough (6 ∷ []) (fails more (elements ∷ []) (0 ∷ []) (asked ∙ c.if-has_more.true))
 
@@ -96,8 +99,10 @@ returns-then-lacks_room c =
     let four : List Check = pitch ∷ three in
     let clear : sides.fails ≡ false = sym c.over_limit-large.ensures ∙ c.if-large.false in
     let after : (v : List ℕ) → v ≡ verdict four → v ≡ verdict (sides ∷ four) = λ v e. passes sides four (0 ∷ []) v clear e in
-    let fitting : (v : List ℕ) → v ≡ verdict three → v ≡ verdict (sides ∷ four) = λ v e. after v (passes pitch three (0 ∷ []) v (sym c.short_pitch-narrow.ensures ∙ c.if-narrow.false) e) in
-    let enough : (v : List ℕ) → v ≡ verdict (more ∷ elements ∷ []) → v ≡ verdict (sides ∷ four) = λ v e. fitting v (passes bytes (more ∷ elements ∷ []) (0 ∷ []) v (sym c.short_data-lacks_data.ensures ∙ c.if-lacks_data.false) e) in
+    let fitting : (v : List ℕ) → v ≡ verdict three → v ≡ verdict (sides ∷ four) =
+    λ v e. after v (passes pitch three (0 ∷ []) v (sym c.short_pitch-narrow.ensures ∙ c.if-narrow.false) e) in
+    let enough : (v : List ℕ) → v ≡ verdict (more ∷ elements ∷ []) → v ≡ verdict (sides ∷ four) =
+    λ v e. fitting v (passes bytes (more ∷ elements ∷ []) (0 ∷ []) v (sym c.short_data-lacks_data.ensures ∙ c.if-lacks_data.false) e) in
     let asked : more.fails ≡ (c.args.exact && c.long_data.result) = ap (λ (t : Bool). c.args.exact && t) (sym c.long_data.ensures) in
     let exact : more.fails ≡ false = asked ∙ c.if-has_more.false in
     enough (3 ∷ [])
@@ -115,8 +120,10 @@ returns c =
     let four : List Check = pitch ∷ three in
     let clear : sides.fails ≡ false = sym c.over_limit-large.ensures ∙ c.if-large.false in
     let after : (v : List ℕ) → v ≡ verdict four → v ≡ verdict (sides ∷ four) = λ v e. passes sides four (0 ∷ []) v clear e in
-    let fitting : (v : List ℕ) → v ≡ verdict three → v ≡ verdict (sides ∷ four) = λ v e. after v (passes pitch three (0 ∷ []) v (sym c.short_pitch-narrow.ensures ∙ c.if-narrow.false) e) in
-    let enough : (v : List ℕ) → v ≡ verdict (more ∷ elements ∷ []) → v ≡ verdict (sides ∷ four) = λ v e. fitting v (passes bytes (more ∷ elements ∷ []) (0 ∷ []) v (sym c.short_data-lacks_data.ensures ∙ c.if-lacks_data.false) e) in
+    let fitting : (v : List ℕ) → v ≡ verdict three → v ≡ verdict (sides ∷ four) =
+    λ v e. after v (passes pitch three (0 ∷ []) v (sym c.short_pitch-narrow.ensures ∙ c.if-narrow.false) e) in
+    let enough : (v : List ℕ) → v ≡ verdict (more ∷ elements ∷ []) → v ≡ verdict (sides ∷ four) =
+    λ v e. fitting v (passes bytes (more ∷ elements ∷ []) (0 ∷ []) v (sym c.short_data-lacks_data.ensures ∙ c.if-lacks_data.false) e) in
     let asked : more.fails ≡ (c.args.exact && c.long_data.result) = ap (λ (t : Bool). c.args.exact && t) (sym c.long_data.ensures) in
     let exact : more.fails ≡ false = asked ∙ c.if-has_more.false in
     enough (0 ∷ [])

@@ -25,7 +25,8 @@ eight_bytes-eight-requires c = record {
 
 pub eac_bytes-bytes-requires : goal.eac_bytes-bytes-requires
 eac_bytes-bytes-requires c =
-    let eight : c.eight_bytes-eight.result ≡ build 8 (λ j. pos (eighth_of c.args.signed c.args.d.now j)) = c.eight_bytes-eight.ensures ∙ ap (λ (t : Bool). build 8 (λ j. pos (eighth_of t c.args.d.now j))) c.span_of.ensures.0 in
+    let eight : c.eight_bytes-eight.result ≡ build 8 (λ j. pos (eighth_of c.args.signed c.args.d.now j)) =
+    c.eight_bytes-eight.ensures ∙ ap (λ (t : Bool). build 8 (λ j. pos (eighth_of t c.args.d.now j))) c.span_of.ensures.0 in
     (c.requires.0, eights_are_bytes c.args.signed c.args.d.now c.eight_bytes-eight.result eight)
 
 pub loop-i-init : goal.loop-i-init
@@ -45,7 +46,8 @@ bounds-bytes-i c = omega arith
 
 pub overflow_mul-out : goal.overflow_mul-out
 overflow_mul-out c =
-    let eight : c.eight_bytes-eight.result ≡ build 8 (λ j. pos (eighth_of c.args.signed c.args.d.now j)) = c.eight_bytes-eight.ensures ∙ ap (λ (t : Bool). build 8 (λ j. pos (eighth_of t c.args.d.now j))) c.span_of.ensures.0 in
+    let eight : c.eight_bytes-eight.result ≡ build 8 (λ j. pos (eighth_of c.args.signed c.args.d.now j)) =
+    c.eight_bytes-eight.ensures ∙ ap (λ (t : Bool). build 8 (λ j. pos (eighth_of t c.args.d.now j))) c.span_of.ensures.0 in
     let bytes : c.eac_bytes-bytes.result ≡ build 16 (byte_at c.args.signed c.args.d.now) = let a = c.args in
     bytes_of a.signed a.d.now c.eight_bytes-eight.result eight c.eac_bytes-bytes.result c.eac_bytes-bytes.ensures in
     let u = c.unit_of-unit in
@@ -66,7 +68,8 @@ loop-i-smaller c = omega arith
 
 pub loop-i-preserved : goal.loop-i-preserved
 loop-i-preserved c =
-    let eight : c.eight_bytes-eight.result ≡ build 8 (λ j. pos (eighth_of c.args.signed c.args.d.now j)) = c.eight_bytes-eight.ensures ∙ ap (λ (t : Bool). build 8 (λ j. pos (eighth_of t c.args.d.now j))) c.span_of.ensures.0 in
+    let eight : c.eight_bytes-eight.result ≡ build 8 (λ j. pos (eighth_of c.args.signed c.args.d.now j)) =
+    c.eight_bytes-eight.ensures ∙ ap (λ (t : Bool). build 8 (λ j. pos (eighth_of t c.args.d.now j))) c.span_of.ensures.0 in
     let bytes : c.eac_bytes-bytes.result ≡ build 16 (byte_at c.args.signed c.args.d.now) = let a = c.args in
     bytes_of a.signed a.d.now c.eight_bytes-eight.result eight c.eac_bytes-bytes.result c.eac_bytes-bytes.ensures in
     let l = c.loop-i in

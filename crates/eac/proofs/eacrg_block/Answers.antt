@@ -9,7 +9,11 @@ use Rattle.eac.proofs.Bytes.{middle_held, eights_are_bytes, bytes_of, byte_at, b
 use Rattle.eac.proofs.eacrg_block.Goals as goal
 
 pub eight_bytes-green-requires : goal.eight_bytes-green-requires
-eight_bytes-green-requires c = record { in_bounds = (search rules, c.requires.1, c.requires.2); base_value = middle_held c.middle_of-green_base.result c.middle_of-green_base.ensures.0 c.middle_of-green_base.ensures.1 }
+eight_bytes-green-requires c =
+    record {
+      in_bounds = (search rules, c.requires.1, c.requires.2);
+      base_value = middle_held c.middle_of-green_base.result c.middle_of-green_base.ensures.0 c.middle_of-green_base.ensures.1;
+    }
 
 pub eac_bytes-requires : goal.eac_bytes-requires
 eac_bytes-requires c =
@@ -25,7 +29,9 @@ red_green-requires c =
     let red : c.eac_bytes.result ≡ build 16 (byte_at c.args.span.signed c.args.d.now) = let a = c.args in
     bytes_of a.span.signed a.d.now c.eight_bytes-red.result c.eight_bytes-red.ensures c.eac_bytes.result c.eac_bytes.ensures in
     let half : List ℕ = take (length c.args.d.now - 8) (drop 8 c.args.d.now) in
-    let green : c.eac_bytes-2.result ≡ build 16 (byte_at c.args.span.signed half) = bytes_of c.args.span.signed half c.eight_bytes-green.result c.eight_bytes-green.ensures c.eac_bytes-2.result c.eac_bytes-2.ensures in
+    let green : c.eac_bytes-2.result ≡ build 16 (byte_at c.args.span.signed half) =
+    bytes_of c.args.span.signed half c.eight_bytes-green.result c.eight_bytes-green.ensures c.eac_bytes-2.result c.eac_bytes-2.ensures
+    in
     λ k h. (byte_small _ _ c.eac_bytes.result k red h, byte_small _ _ c.eac_bytes-2.result k green h)
 
 pub returns : goal.returns
@@ -34,7 +40,9 @@ returns c =
     let red : c.eac_bytes.result ≡ build 16 (byte_at c.args.span.signed c.args.d.now) = let a = c.args in
     bytes_of a.span.signed a.d.now c.eight_bytes-red.result c.eight_bytes-red.ensures c.eac_bytes.result c.eac_bytes.ensures in
     let half : List ℕ = take (length c.args.d.now - 8) (drop 8 c.args.d.now) in
-    let green : c.eac_bytes-2.result ≡ build 16 (byte_at c.args.span.signed half) = bytes_of c.args.span.signed half c.eight_bytes-green.result c.eight_bytes-green.ensures c.eac_bytes-2.result c.eac_bytes-2.ensures in
+    let green : c.eac_bytes-2.result ≡ build 16 (byte_at c.args.span.signed half) =
+    bytes_of c.args.span.signed half c.eight_bytes-green.result c.eight_bytes-green.ensures c.eac_bytes-2.result c.eac_bytes-2.ensures
+    in
     let a = c.args in
     let t = a.span.signed in
     c.red_green.ensures

@@ -9,7 +9,11 @@ use Rattle.picture.proofs.paint_all.Goals as goal
 
 pub paint-requires : goal.paint-requires
 paint-requires c =
-    let n = c.blocks_of in record { width_le_limit = (c.requires.narrow, c.requires.low, omega arith, omega (arith, n.ensures.0)); room = (roomy c.args.pic _ c.requires.fits c.requires.roomy, rw (n.ensures.0, sub-zero) c.requires.enough) }
+    let n =
+    c.blocks_of in record {
+      width_le_limit = (c.requires.narrow, c.requires.low, omega arith, omega (arith, n.ensures.0));
+      room = (roomy c.args.pic _ c.requires.fits c.requires.roomy, rw (n.ensures.0, sub-zero) c.requires.enough);
+    }
 
 pub returns : goal.returns
 returns c =

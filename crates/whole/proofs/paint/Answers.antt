@@ -15,7 +15,17 @@ loop-by-init c =
     top (lanes a.green) c.span_of-span.result.signed a.«data».now a.pic a.image.now
 
 pub paint_row-requires : goal.paint_row-requires
-paint_row-requires c = record { green_in_bounds = (c.requires.enough, omega (arith, c.loop-by-test.true, c.across-rows.ensures), c.requires.low, c.span_of-span.ensures.1); ready = subst (Ready (lanes c.args.green) c.args.pic) (sym c.loop-by.invariant.1.same) (ready c.args.green c.args.pic _ _ _ c.requires) }
+paint_row-requires c =
+    record {
+      green_in_bounds = (
+        c.requires.enough,
+        omega (arith, c.loop-by-test.true, c.across-rows.ensures),
+        c.requires.low,
+        c.span_of-span.ensures.1,
+      );
+      ready = subst (Ready (lanes c.args.green) c.args.pic) (sym c.loop-by.invariant.1.same)
+          (ready c.args.green c.args.pic _ _ _ c.requires);
+    }
 
 pub loop-by-preserved : goal.loop-by-preserved
 loop-by-preserved c =

@@ -16,10 +16,18 @@ use borrow.Author.Rules.{rules}
 use Rattle.whole.proofs.paint_red_green.Goals as goal
 
 pub eight_wholes-red_eight-requires : goal.eight_wholes-red_eight-requires
-eight_wholes-red_eight-requires c = record { in_bounds = (omega (arith, c.requires.in_bounds.0), c.requires.in_bounds.1, c.requires.bx_bound.2); base_value = middle_held c.middle_of-red_base.result c.middle_of-red_base.ensures.0 c.middle_of-red_base.ensures.1 }
+eight_wholes-red_eight-requires c =
+    record {
+      in_bounds = (omega (arith, c.requires.in_bounds.0), c.requires.in_bounds.1, c.requires.bx_bound.2);
+      base_value = middle_held c.middle_of-red_base.result c.middle_of-red_base.ensures.0 c.middle_of-red_base.ensures.1;
+    }
 
 pub eight_wholes-green_eight-requires : goal.eight_wholes-green_eight-requires
-eight_wholes-green_eight-requires c = record { in_bounds = (search rules, c.requires.in_bounds.1, c.requires.bx_bound.2); base_value = middle_held c.middle_of-green_base.result c.middle_of-green_base.ensures.0 c.middle_of-green_base.ensures.1 }
+eight_wholes-green_eight-requires c =
+    record {
+      in_bounds = (search rules, c.requires.in_bounds.1, c.requires.bx_bound.2);
+      base_value = middle_held c.middle_of-green_base.result c.middle_of-green_base.ensures.0 c.middle_of-green_base.ensures.1;
+    }
 
 -- the column of a tile is small
 pub overflow_mul-bx : goal.overflow_mul-bx
@@ -27,7 +35,8 @@ overflow_mul-bx c = omega (arith, c.requires.bx_bound.0, c.requires.in_bounds.2.
 
 pub place-requires : goal.place-requires
 place-requires c =
-    let wide : Room (twice c.args.pic) (length c.args.image.now) = room_twice c.args.pic c.requires.in_bounds.2.fits _ c.requires.in_bounds.2.roomy in
+    let wide : Room (twice c.args.pic) (length c.args.image.now) =
+    room_twice c.args.pic c.requires.in_bounds.2.fits _ c.requires.in_bounds.2.roomy in
     rw c.doubled-wide.ensures (omega (arith, c.requires.bx_bound.0), omega (arith, c.requires.bx_bound.1), wide)
 
 pub overflow_mul-bx-2 : goal.overflow_mul-bx-2
@@ -38,8 +47,13 @@ overflow_add-bx c = omega (arith, c.requires.bx_bound.0, c.requires.in_bounds.2.
 
 pub place-requires-2 : goal.place-requires-2
 place-requires-2 c =
-    let wide : Room (twice c.args.pic) (length c.args.image.now) = room_twice c.args.pic c.requires.in_bounds.2.fits _ c.requires.in_bounds.2.roomy in
-    rw c.doubled-wide.ensures (omega (arith, c.requires.bx_bound.0), omega (arith, c.requires.bx_bound.1), kept (twice c.args.pic) _ _ wide c.place.ensures.same)
+    let wide : Room (twice c.args.pic) (length c.args.image.now) =
+    room_twice c.args.pic c.requires.in_bounds.2.fits _ c.requires.in_bounds.2.roomy in
+    rw c.doubled-wide.ensures (
+      omega (arith, c.requires.bx_bound.0),
+      omega (arith, c.requires.bx_bound.1),
+      kept (twice c.args.pic) _ _ wide c.place.ensures.same,
+    )
 
 pub returns : goal.returns
 returns c =

@@ -13,7 +13,11 @@ overflow_mul-s c = omega (arith, c.lanes_of-s.ensures.2)
 
 pub overflow_mul-first : goal.overflow_mul-first
 overflow_mul-first c =
-    omega (arith, small c.args.pic c.args.by c.across-row.result c.across-row.ensures c.requires.ready.narrow c.requires.green_in_bounds.2 c.requires.green_in_bounds.1)
+    omega (
+      arith,
+      small c.args.pic c.args.by c.across-row.result c.across-row.ensures c.requires.ready.narrow c.requires.green_in_bounds.2
+          c.requires.green_in_bounds.1,
+    )
 
 pub loop-bx-init : goal.loop-bx-init
 loop-bx-init c =
@@ -23,47 +27,66 @@ loop-bx-init c =
 pub overflow_add-at : goal.overflow_add-at
 overflow_add-at c =
     let w = c.across-row in
-    omega (arith, small c.args.pic c.args.by w.result w.ensures c.requires.ready.narrow c.requires.green_in_bounds.2 c.requires.green_in_bounds.1, c.loop-bx-test.true, w.ensures, c.requires.ready.narrow)
+    omega (
+      arith,
+      small c.args.pic c.args.by w.result w.ensures c.requires.ready.narrow c.requires.green_in_bounds.2
+          c.requires.green_in_bounds.1,
+      c.loop-bx-test.true,
+      w.ensures,
+      c.requires.ready.narrow,
+    )
 
 pub overflow_mul-at : goal.overflow_mul-at
 overflow_mul-at c =
     let size : c.lanes_of-s.result * 8 ≡ lanes c.args.green * 8 = ap (λ (z : ℕ). z * 8) c.lanes_of-s.ensures.0 in
-    let there : (c.args.by * c.across-row.result + c.loop-bx.bx) * (c.lanes_of-s.result * 8) + c.lanes_of-s.result * 8 ≤ length c.args.«data».now = fits c.args.pic c.args.by c.loop-bx.bx c.across-row.result (c.lanes_of-s.result * 8) (lanes c.args.green) _
+    let there : (c.args.by * c.across-row.result + c.loop-bx.bx) * (c.lanes_of-s.result * 8)
+    + c.lanes_of-s.result * 8 ≤ length c.args.«data».now =
+    fits c.args.pic c.args.by c.loop-bx.bx c.across-row.result (c.lanes_of-s.result * 8) (lanes c.args.green) _
     c.across-row.ensures size c.loop-bx-test.true c.requires.green_in_bounds.1 c.requires.green_in_bounds.0 in
     omega (arith, there)
 
 pub overflow_add-end : goal.overflow_add-end
 overflow_add-end c =
     let size : c.lanes_of-s.result * 8 ≡ lanes c.args.green * 8 = ap (λ (z : ℕ). z * 8) c.lanes_of-s.ensures.0 in
-    let there : (c.args.by * c.across-row.result + c.loop-bx.bx) * (c.lanes_of-s.result * 8) + c.lanes_of-s.result * 8 ≤ length c.args.«data».now = fits c.args.pic c.args.by c.loop-bx.bx c.across-row.result (c.lanes_of-s.result * 8) (lanes c.args.green) _
+    let there : (c.args.by * c.across-row.result + c.loop-bx.bx) * (c.lanes_of-s.result * 8)
+    + c.lanes_of-s.result * 8 ≤ length c.args.«data».now =
+    fits c.args.pic c.args.by c.loop-bx.bx c.across-row.result (c.lanes_of-s.result * 8) (lanes c.args.green) _
     c.across-row.ensures size c.loop-bx-test.true c.requires.green_in_bounds.1 c.requires.green_in_bounds.0 in
     omega (arith, there)
 
 pub slice_bounds-paint_block-count : goal.slice_bounds-paint_block-count
 slice_bounds-paint_block-count c =
     let size : c.lanes_of-s.result * 8 ≡ lanes c.args.green * 8 = ap (λ (z : ℕ). z * 8) c.lanes_of-s.ensures.0 in
-    let there : (c.args.by * c.across-row.result + c.loop-bx.bx) * (c.lanes_of-s.result * 8) + c.lanes_of-s.result * 8 ≤ length c.args.«data».now = fits c.args.pic c.args.by c.loop-bx.bx c.across-row.result (c.lanes_of-s.result * 8) (lanes c.args.green) _
+    let there : (c.args.by * c.across-row.result + c.loop-bx.bx) * (c.lanes_of-s.result * 8)
+    + c.lanes_of-s.result * 8 ≤ length c.args.«data».now =
+    fits c.args.pic c.args.by c.loop-bx.bx c.across-row.result (c.lanes_of-s.result * 8) (lanes c.args.green) _
     c.across-row.ensures size c.loop-bx-test.true c.requires.green_in_bounds.1 c.requires.green_in_bounds.0 in
     omega (arith, there)
 
 pub slice_bounds-paint_block-start : goal.slice_bounds-paint_block-start
 slice_bounds-paint_block-start c =
     let size : c.lanes_of-s.result * 8 ≡ lanes c.args.green * 8 = ap (λ (z : ℕ). z * 8) c.lanes_of-s.ensures.0 in
-    let there : (c.args.by * c.across-row.result + c.loop-bx.bx) * (c.lanes_of-s.result * 8) + c.lanes_of-s.result * 8 ≤ length c.args.«data».now = fits c.args.pic c.args.by c.loop-bx.bx c.across-row.result (c.lanes_of-s.result * 8) (lanes c.args.green) _
+    let there : (c.args.by * c.across-row.result + c.loop-bx.bx) * (c.lanes_of-s.result * 8)
+    + c.lanes_of-s.result * 8 ≤ length c.args.«data».now =
+    fits c.args.pic c.args.by c.loop-bx.bx c.across-row.result (c.lanes_of-s.result * 8) (lanes c.args.green) _
     c.across-row.ensures size c.loop-bx-test.true c.requires.green_in_bounds.1 c.requires.green_in_bounds.0 in
     omega (arith, there)
 
 pub slice_bounds-paint_block-end : goal.slice_bounds-paint_block-end
 slice_bounds-paint_block-end c =
     let size : c.lanes_of-s.result * 8 ≡ lanes c.args.green * 8 = ap (λ (z : ℕ). z * 8) c.lanes_of-s.ensures.0 in
-    let there : (c.args.by * c.across-row.result + c.loop-bx.bx) * (c.lanes_of-s.result * 8) + c.lanes_of-s.result * 8 ≤ length c.args.«data».now = fits c.args.pic c.args.by c.loop-bx.bx c.across-row.result (c.lanes_of-s.result * 8) (lanes c.args.green) _
+    let there : (c.args.by * c.across-row.result + c.loop-bx.bx) * (c.lanes_of-s.result * 8)
+    + c.lanes_of-s.result * 8 ≤ length c.args.«data».now =
+    fits c.args.pic c.args.by c.loop-bx.bx c.across-row.result (c.lanes_of-s.result * 8) (lanes c.args.green) _
     c.across-row.ensures size c.loop-bx-test.true c.requires.green_in_bounds.1 c.requires.green_in_bounds.0 in
     omega (arith, there)
 
 pub paint_block-requires : goal.paint_block-requires
 paint_block-requires c =
     let size : c.lanes_of-s.result * 8 ≡ lanes c.args.green * 8 = ap (λ (z : ℕ). z * 8) c.lanes_of-s.ensures.0 in
-    let there : (c.args.by * c.across-row.result + c.loop-bx.bx) * (c.lanes_of-s.result * 8) + c.lanes_of-s.result * 8 ≤ length c.args.«data».now = fits c.args.pic c.args.by c.loop-bx.bx c.across-row.result (c.lanes_of-s.result * 8) (lanes c.args.green) _
+    let there : (c.args.by * c.across-row.result + c.loop-bx.bx) * (c.lanes_of-s.result * 8)
+    + c.lanes_of-s.result * 8 ≤ length c.args.«data».now =
+    fits c.args.pic c.args.by c.loop-bx.bx c.across-row.result (c.lanes_of-s.result * 8) (lanes c.args.green) _
     c.across-row.ensures size c.loop-bx-test.true c.requires.green_in_bounds.1 c.requires.green_in_bounds.0 in
     let e = c.across-row.ensures in record {
       green_in_bounds = (
@@ -71,7 +94,11 @@ paint_block-requires c =
         c.before.alpha_steps-table.ensures,
         subst (Ready (lanes c.args.green) c.args.pic) (sym (c.loop-bx.invariant.2.same ∙ c.paint_whole-bx.ensures.1.same)) c.requires.ready,
       );
-      bx_bound = (omega (arith, c.loop-bx-test.true, e, c.requires.ready.narrow), omega (arith, c.requires.green_in_bounds.1, c.requires.green_in_bounds.2), c.requires.green_in_bounds.3);
+      bx_bound = (
+        omega (arith, c.loop-bx-test.true, e, c.requires.ready.narrow),
+        omega (arith, c.requires.green_in_bounds.1, c.requires.green_in_bounds.2),
+        c.requires.green_in_bounds.3,
+      );
     }
 
 pub loop-bx-preserved : goal.loop-bx-preserved

@@ -17,8 +17,12 @@ use Rattle.whole.proofs.read_whole.Goals as goal
 
 pub returns-in_default : goal.returns-in_default
 returns-in_default c =
-    let checked : said c.verify-answer.result ≡ verdict (picture_checks (lanes c.args.green * 8) c.args.pic (length c.args.«data».now) (length c.args.image.now / lanes c.args.green)) = rw (c.lanes_of.ensures.0, c.lanes_of-2.ensures.0) at c.verify-answer.ensures in
-    let told : said c.verify-answer.result ≡ whole_verdict (lanes c.args.green) c.args.pic c.args.«data».now c.args.image.now = let a = c.args in
+    let checked : said c.verify-answer.result
+    ≡ verdict (picture_checks (lanes c.args.green * 8) c.args.pic (length c.args.«data».now)
+    (length c.args.image.now / lanes c.args.green)) =
+    rw (c.lanes_of.ensures.0, c.lanes_of-2.ensures.0) at c.verify-answer.ensures in
+    let told : said c.verify-answer.result ≡ whole_verdict (lanes c.args.green) c.args.pic c.args.«data».now c.args.image.now =
+    let a = c.args in
     checked ∙ same_verdict a.green a.pic (length a.«data».now) (length a.image.now) in
     let a = c.args in
     let l = a.image.now in
@@ -27,15 +31,23 @@ returns-in_default c =
 
 pub paint-requires : goal.paint-requires
 paint-requires c =
-    let checked : said c.verify-answer.result ≡ verdict (picture_checks (lanes c.args.green * 8) c.args.pic (length c.args.«data».now) (length c.args.image.now / lanes c.args.green)) = rw (c.lanes_of.ensures.0, c.lanes_of-2.ensures.0) at c.verify-answer.ensures in
+    let checked : said c.verify-answer.result
+    ≡ verdict (picture_checks (lanes c.args.green * 8) c.args.pic (length c.args.«data».now)
+    (length c.args.image.now / lanes c.args.green)) =
+    rw (c.lanes_of.ensures.0, c.lanes_of-2.ensures.0) at c.verify-answer.ensures in
     let a = c.args in
-    passed_by_lem (lanes a.green * 8) a.pic (length a.«data».now) (length a.image.now / lanes a.green) (0 ∷ []) c.verify-answer.result checked
+    passed_by_lem (lanes a.green * 8) a.pic (length a.«data».now) (length a.image.now / lanes a.green)
+    (0 ∷ []) c.verify-answer.result checked
     (ap (λ (x : Answer). accepts (said x)) c.in-Done.is)
 
 pub returns : goal.returns
 returns c =
-    let checked : said c.verify-answer.result ≡ verdict (picture_checks (lanes c.args.green * 8) c.args.pic (length c.args.«data».now) (length c.args.image.now / lanes c.args.green)) = rw (c.lanes_of.ensures.0, c.lanes_of-2.ensures.0) at c.verify-answer.ensures in
-    let told : said c.verify-answer.result ≡ whole_verdict (lanes c.args.green) c.args.pic c.args.«data».now c.args.image.now = let a = c.args in
+    let checked : said c.verify-answer.result
+    ≡ verdict (picture_checks (lanes c.args.green * 8) c.args.pic (length c.args.«data».now)
+    (length c.args.image.now / lanes c.args.green)) =
+    rw (c.lanes_of.ensures.0, c.lanes_of-2.ensures.0) at c.verify-answer.ensures in
+    let told : said c.verify-answer.result ≡ whole_verdict (lanes c.args.green) c.args.pic c.args.«data».now c.args.image.now =
+    let a = c.args in
     checked ∙ same_verdict a.green a.pic (length a.«data».now) (length a.image.now) in
     let a = c.args in
     let l = a.image.now in

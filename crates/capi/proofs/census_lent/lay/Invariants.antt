@@ -1,13 +1,8 @@
 -- The invariant and the measure of the loop of `capi::census_lent::lay`.
-use mathlib.Core.Path.{◌≡◌, ◌∙◌, refl, ap}
+use mathlib.Core.Path.{◌≡◌}
 use mathlib.Core.List.{◌++◌}
 use Prim.Native.Nat.{◌+◌, ◌-◌, ◌≤◌}
-use native.Mathlib.Omega.{arith}
-use borrow.Author.Rules.{rules}
-use borrow.Author.Tests.{lt-ltb, le-ltb}
 use lib.ListN.{length, take, drop}
-use lib.Seq.{take-length}
-use Rattle.capi.proofs.census_lent.Laid.{next, long}
 use Rattle.capi.proofs.census_lent.lay.Given as goal
 
 abbrev pub invariant-loop-i : goal.invariant-loop-i

@@ -3,7 +3,6 @@
 use mathlib.Core.Path.{subst}
 use Rattle.rules.specs.Degrees.{ReadsDegrees}
 use Rattle.rules.specs.declared.Legend.{Legend}
-use borrow.Author.Rules.{rules}
 use Rattle.capi.proofs.degrees_lent.read.Goals as goal
 
 pub returns : goal.returns

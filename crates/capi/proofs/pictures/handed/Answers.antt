@@ -7,7 +7,6 @@ use Prim.Native.Nat.{ℕ}
 use lib.ListN.{get_or}
 use Rattle.rules.specs.Answers.{said}
 use Rattle.answer_numbers.specs.Value.{has_value}
-use borrow.Author.Rules.{rules}
 use Rattle.capi.proofs.pictures.handed.Goals as goal
 
 -- the value behind a number, whatever stood there; and where there is none, what stood there

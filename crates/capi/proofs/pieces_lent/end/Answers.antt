@@ -3,7 +3,6 @@
 use mathlib.Core.Path.{subst}
 use Rattle.rules.specs.Pieces.{Ends}
 use Rattle.rules.specs.declared.Progress.{Progress}
-use borrow.Author.Rules.{rules}
 use Rattle.capi.proofs.pieces_lent.end.Goals as goal
 
 pub returns : goal.returns

@@ -2,7 +2,6 @@
 -- Assumes nothing.
 use mathlib.Core.Path.{sym, ap}
 use Rattle.rules.specs.FileFormats.{format_number}
-use borrow.Author.Rules.{rules}
 use Rattle.capi.proofs.pieces_lent.number_of.Goals as goal
 
 pub returns-in-Etc1 : goal.returns-in-Etc1

@@ -2,7 +2,6 @@
 -- Assumes nothing.
 use lib.ListN.{length}
 use Rattle.capi.proofs.pieces_lent.Carried.{begun}
-use borrow.Author.Rules.{rules}
 use Rattle.capi.proofs.pieces_lent.start.Goals as goal
 
 pub returns : goal.returns

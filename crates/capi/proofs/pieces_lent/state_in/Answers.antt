@@ -5,7 +5,6 @@ use lib.ListN.{get_or}
 use Rattle.rules.specs.Places.{pitched}
 use Rattle.rules.specs.declared.Format.{Format}
 use Rattle.rules.specs.declared.Progress.{Progress}
-use borrow.Author.Rules.{rules}
 use Rattle.capi.proofs.pieces_lent.state_in.Goals as goal
 
 pub returns : goal.returns

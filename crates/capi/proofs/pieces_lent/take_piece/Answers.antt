@@ -1,7 +1,6 @@
 -- `capi::pieces_lent::take_piece` meets its contract: the arrays hold the state after the piece.
 -- Assumes nothing.
 use Rattle.capi.proofs.pieces_lent.Carried.{carried}
-use borrow.Author.Rules.{rules}
 use Rattle.capi.proofs.pieces_lent.take_piece.Goals as goal
 
 pub returns : goal.returns

@@ -17,12 +17,14 @@ held-cond false y z e f = f
 
 pub overflow_mul-m : goal.overflow_mul-m
 overflow_mul-m c =
-    let fit : mag c.args.base + c.args.m * suc (mag c.args.s) + 1 < 2 ^ 15 = omega (arith, times_le c.args.m 120 (suc (mag c.args.s)) 16 (omega arith) (omega arith)) in
+    let fit : mag c.args.base + c.args.m * suc (mag c.args.s) + 1 < 2 ^ 15 =
+    omega (arith, times_le c.args.m 120 (suc (mag c.args.s)) 16 (omega arith) (omega arith)) in
     by_fits w16 c.args.base (pos c.args.m) c.args.s c.args.m refl c.ranges.base (record { sfits = omega arith }) c.ranges.s fit
 
 pub overflow_add-base : goal.overflow_add-base
 overflow_add-base c =
-    let fit : mag c.args.base + c.args.m * suc (mag c.args.s) + 1 < 2 ^ 15 = omega (arith, times_le c.args.m 120 (suc (mag c.args.s)) 16 (omega arith) (omega arith)) in
+    let fit : mag c.args.base + c.args.m * suc (mag c.args.s) + 1 < 2 ^ 15 =
+    omega (arith, times_le c.args.m 120 (suc (mag c.args.s)) 16 (omega arith) (omega arith)) in
     on_fits w16 c.args.base (pos c.args.m) c.args.s c.args.m refl c.ranges.base (record { sfits = omega arith }) c.ranges.s fit
 
 pub returns : goal.returns
@@ -30,10 +32,14 @@ returns c =
     let sum : ℤ = c.args.base +ℤ pos c.args.m *ℤ c.args.s in
     let low : held w16 c.args.low ≡ c.args.low = to_z-of_z w16 c.args.low c.ranges.low in
     let high : held w16 c.args.high ≡ c.args.high = to_z-of_z w16 c.args.high c.ranges.high in
-    let fit : mag c.args.base + c.args.m * suc (mag c.args.s) + 1 < 2 ^ 15 = omega (arith, times_le c.args.m 120 (suc (mag c.args.s)) 16 (omega arith) (omega arith)) in
-    let sum_held : held w16 sum ≡ sum = held_small w16 sum (omega (arith, fit, mag_sum c.args.base (pos c.args.m *ℤ c.args.s), mag_mul c.args.m c.args.s)) in
-    let told : held w16 (held w16 c.args.base +ℤ held w16 (held w16 (pos c.args.m) *ℤ held w16 c.args.s)) ≡ sum = on_held w16 c.args.base (pos c.args.m) c.args.s c.args.m refl c.ranges.base (record { sfits = omega arith }) c.ranges.s fit in
-    let first : held w16 c.at_least.result ≡ cond (lt_z sum c.args.low) c.args.low sum = ap (held w16) (rw (low, told) at c.at_least.ensures)
+    let fit : mag c.args.base + c.args.m * suc (mag c.args.s) + 1 < 2 ^ 15 =
+    omega (arith, times_le c.args.m 120 (suc (mag c.args.s)) 16 (omega arith) (omega arith)) in
+    let sum_held : held w16 sum ≡ sum =
+    held_small w16 sum (omega (arith, fit, mag_sum c.args.base (pos c.args.m *ℤ c.args.s), mag_mul c.args.m c.args.s)) in
+    let told : held w16 (held w16 c.args.base +ℤ held w16 (held w16 (pos c.args.m) *ℤ held w16 c.args.s)) ≡ sum =
+    on_held w16 c.args.base (pos c.args.m) c.args.s c.args.m refl c.ranges.base (record { sfits = omega arith }) c.ranges.s fit in
+    let first : held w16 c.at_least.result ≡ cond (lt_z sum c.args.low) c.args.low sum =
+    ap (held w16) (rw (low, told) at c.at_least.ensures)
     ∙ held-cond (lt_z sum c.args.low) c.args.low sum low sum_held in
     let l = c.args.low in
     let h = c.args.high in

@@ -67,9 +67,13 @@ returns-then-n-lt0 c =
       small_more c.args.o c.args.h c.args.v c.args.x c.args.y (omega arith) (omega arith) (omega arith) (omega arith) (omega arith),
       small_fewer c.args.o c.args.h c.args.v c.args.x c.args.y (omega arith) (omega arith) (omega arith) (omega arith) (omega arith),
     ) in
-    let number : Is (held w16 (all_m c.args.o c.args.h c.args.v c.args.x c.args.y)) (more c.args.o c.args.h c.args.v c.args.x c.args.y) (fewer c.args.o c.args.x c.args.y) = is_held w16 (all c.args.o c.args.h c.args.v c.args.x c.args.y (omega arith) (omega arith) (omega arith) (omega arith) (omega arith))
+    let number : Is (held w16 (all_m c.args.o c.args.h c.args.v c.args.x c.args.y)) (more c.args.o c.args.h c.args.v c.args.x c.args.y)
+    (fewer c.args.o c.args.x c.args.y) =
+    is_held w16 (all c.args.o c.args.h c.args.v c.args.x c.args.y (omega arith) (omega arith) (omega arith) (omega arith) (omega arith))
     (omega (arith, small)) (omega (arith, small)) in
-    let value : planar_channel c.args.o c.args.h c.args.v c.args.x c.args.y ≡ min ((more c.args.o c.args.h c.args.v c.args.x c.args.y - fewer c.args.o c.args.x c.args.y) / 4) 255 = planar_is c.args.o c.args.h c.args.v c.args.x c.args.y in
+    let value : planar_channel c.args.o c.args.h c.args.v c.args.x c.args.y
+    ≡ min ((more c.args.o c.args.h c.args.v c.args.x c.args.y - fewer c.args.o c.args.x c.args.y) / 4) 255 =
+    planar_is c.args.o c.args.h c.args.v c.args.x c.args.y in
     let n = number in
     (omega (arith, value, is_negative n c.if-n-lt0.true), omega arith)
 
@@ -79,9 +83,13 @@ returns-else-n-lt0 c =
       small_more c.args.o c.args.h c.args.v c.args.x c.args.y (omega arith) (omega arith) (omega arith) (omega arith) (omega arith),
       small_fewer c.args.o c.args.h c.args.v c.args.x c.args.y (omega arith) (omega arith) (omega arith) (omega arith) (omega arith),
     ) in
-    let number : Is (held w16 (all_m c.args.o c.args.h c.args.v c.args.x c.args.y)) (more c.args.o c.args.h c.args.v c.args.x c.args.y) (fewer c.args.o c.args.x c.args.y) = is_held w16 (all c.args.o c.args.h c.args.v c.args.x c.args.y (omega arith) (omega arith) (omega arith) (omega arith) (omega arith))
+    let number : Is (held w16 (all_m c.args.o c.args.h c.args.v c.args.x c.args.y)) (more c.args.o c.args.h c.args.v c.args.x c.args.y)
+    (fewer c.args.o c.args.x c.args.y) =
+    is_held w16 (all c.args.o c.args.h c.args.v c.args.x c.args.y (omega arith) (omega arith) (omega arith) (omega arith) (omega arith))
     (omega (arith, small)) (omega (arith, small)) in
-    let value : planar_channel c.args.o c.args.h c.args.v c.args.x c.args.y ≡ min ((more c.args.o c.args.h c.args.v c.args.x c.args.y - fewer c.args.o c.args.x c.args.y) / 4) 255 = planar_is c.args.o c.args.h c.args.v c.args.x c.args.y in
+    let value : planar_channel c.args.o c.args.h c.args.v c.args.x c.args.y
+    ≡ min ((more c.args.o c.args.h c.args.v c.args.x c.args.y - fewer c.args.o c.args.x c.args.y) / 4) 255 =
+    planar_is c.args.o c.args.h c.args.v c.args.x c.args.y in
     let n = number in
     let q = is_quotient n 4 (is_natural n c.if-n-lt0.false) in
     (c.clamp.ensures.0 ∙ ap (clamp 255) (held_is w16 _ _ q (omega (arith, small))) ∙ sym value, c.clamp.ensures.1)

@@ -32,48 +32,77 @@ loop-b-init c =
 
 pub overflow_mul-from : goal.overflow_mul-from
 overflow_mul-from c =
-    let before : (c.loop-b.b - c.args.first) * c.size-s.result ≡ (c.loop-b.b - c.args.first) * size_of c.args.f = ap (λ (z : ℕ). (c.loop-b.b - c.args.first) * z) c.size-s.ensures.0 in
-    let at : Stands (across c.args.pic.width) c.loop-b.b c.loop-b.spot.bx c.loop-b.spot.by = rw c.across-row.ensures at c.loop-b.invariant.2 in
-    let left : ((c.loop-b.b - c.args.first) * size_of c.args.f ≤ length c.args.«data».now) × ((c.args.last - c.loop-b.b) * size_of c.args.f ≤ length c.args.«data».now - (c.loop-b.b - c.args.first) * size_of c.args.f) = let a = c.args in
+    let before : (c.loop-b.b - c.args.first) * c.size-s.result ≡ (c.loop-b.b - c.args.first) * size_of c.args.f =
+    ap (λ (z : ℕ). (c.loop-b.b - c.args.first) * z) c.size-s.ensures.0 in
+    let at : Stands (across c.args.pic.width) c.loop-b.b c.loop-b.spot.bx c.loop-b.spot.by =
+    rw c.across-row.ensures at c.loop-b.invariant.2 in
+    let left : ((c.loop-b.b - c.args.first) * size_of c.args.f ≤ length c.args.«data».now)
+    × ((c.args.last - c.loop-b.b) * size_of c.args.f ≤ length c.args.«data».now - (c.loop-b.b - c.args.first) * size_of c.args.f) =
+    let a = c.args in
     let b = c.loop-b.b in
     let both : b - a.first + (a.last - b) ≡ a.last - a.first = omega (arith, c.loop-b.invariant.0, c.loop-b-test.true) in
-    let all = rw (sym both) at c.requires.room.1 in
-    (omega (arith, add-mul (b - a.first) (a.last - b) (size_of a.f), all), left_over (size_of a.f) (b - a.first) (a.last - b) (length a.«data».now) all) in
+    let all = rw (sym both) at c.requires.room.1 in (
+      omega (arith, add-mul (b - a.first) (a.last - b) (size_of a.f), all),
+      left_over (size_of a.f) (b - a.first) (a.last - b) (length a.«data».now) all,
+    ) in
     omega (arith, before, left.0)
 
 pub slice_bounds-paint_some-count : goal.slice_bounds-paint_some-count
 slice_bounds-paint_some-count c =
-    let before : (c.loop-b.b - c.args.first) * c.size-s.result ≡ (c.loop-b.b - c.args.first) * size_of c.args.f = ap (λ (z : ℕ). (c.loop-b.b - c.args.first) * z) c.size-s.ensures.0 in
-    let at : Stands (across c.args.pic.width) c.loop-b.b c.loop-b.spot.bx c.loop-b.spot.by = rw c.across-row.ensures at c.loop-b.invariant.2 in
-    let left : ((c.loop-b.b - c.args.first) * size_of c.args.f ≤ length c.args.«data».now) × ((c.args.last - c.loop-b.b) * size_of c.args.f ≤ length c.args.«data».now - (c.loop-b.b - c.args.first) * size_of c.args.f) = let a = c.args in
+    let before : (c.loop-b.b - c.args.first) * c.size-s.result ≡ (c.loop-b.b - c.args.first) * size_of c.args.f =
+    ap (λ (z : ℕ). (c.loop-b.b - c.args.first) * z) c.size-s.ensures.0 in
+    let at : Stands (across c.args.pic.width) c.loop-b.b c.loop-b.spot.bx c.loop-b.spot.by =
+    rw c.across-row.ensures at c.loop-b.invariant.2 in
+    let left : ((c.loop-b.b - c.args.first) * size_of c.args.f ≤ length c.args.«data».now)
+    × ((c.args.last - c.loop-b.b) * size_of c.args.f ≤ length c.args.«data».now - (c.loop-b.b - c.args.first) * size_of c.args.f) =
+    let a = c.args in
     let b = c.loop-b.b in
     let both : b - a.first + (a.last - b) ≡ a.last - a.first = omega (arith, c.loop-b.invariant.0, c.loop-b-test.true) in
-    let all = rw (sym both) at c.requires.room.1 in
-    (omega (arith, add-mul (b - a.first) (a.last - b) (size_of a.f), all), left_over (size_of a.f) (b - a.first) (a.last - b) (length a.«data».now) all) in
+    let all = rw (sym both) at c.requires.room.1 in (
+      omega (arith, add-mul (b - a.first) (a.last - b) (size_of a.f), all),
+      left_over (size_of a.f) (b - a.first) (a.last - b) (length a.«data».now) all,
+    ) in
     omega (arith, before, left.0)
 
 pub slice_bounds-paint_some-start : goal.slice_bounds-paint_some-start
 slice_bounds-paint_some-start c =
-    let before : (c.loop-b.b - c.args.first) * c.size-s.result ≡ (c.loop-b.b - c.args.first) * size_of c.args.f = ap (λ (z : ℕ). (c.loop-b.b - c.args.first) * z) c.size-s.ensures.0 in
-    let at : Stands (across c.args.pic.width) c.loop-b.b c.loop-b.spot.bx c.loop-b.spot.by = rw c.across-row.ensures at c.loop-b.invariant.2 in
-    let left : ((c.loop-b.b - c.args.first) * size_of c.args.f ≤ length c.args.«data».now) × ((c.args.last - c.loop-b.b) * size_of c.args.f ≤ length c.args.«data».now - (c.loop-b.b - c.args.first) * size_of c.args.f) = let a = c.args in
+    let before : (c.loop-b.b - c.args.first) * c.size-s.result ≡ (c.loop-b.b - c.args.first) * size_of c.args.f =
+    ap (λ (z : ℕ). (c.loop-b.b - c.args.first) * z) c.size-s.ensures.0 in
+    let at : Stands (across c.args.pic.width) c.loop-b.b c.loop-b.spot.bx c.loop-b.spot.by =
+    rw c.across-row.ensures at c.loop-b.invariant.2 in
+    let left : ((c.loop-b.b - c.args.first) * size_of c.args.f ≤ length c.args.«data».now)
+    × ((c.args.last - c.loop-b.b) * size_of c.args.f ≤ length c.args.«data».now - (c.loop-b.b - c.args.first) * size_of c.args.f) =
+    let a = c.args in
     let b = c.loop-b.b in
     let both : b - a.first + (a.last - b) ≡ a.last - a.first = omega (arith, c.loop-b.invariant.0, c.loop-b-test.true) in
-    let all = rw (sym both) at c.requires.room.1 in
-    (omega (arith, add-mul (b - a.first) (a.last - b) (size_of a.f), all), left_over (size_of a.f) (b - a.first) (a.last - b) (length a.«data».now) all) in
+    let all = rw (sym both) at c.requires.room.1 in (
+      omega (arith, add-mul (b - a.first) (a.last - b) (size_of a.f), all),
+      left_over (size_of a.f) (b - a.first) (a.last - b) (length a.«data».now) all,
+    ) in
     omega (arith, before, left.0)
 
 pub paint_some-n-requires : goal.paint_some-n-requires
 paint_some-n-requires c =
-    let at : Stands (across c.args.pic.width) c.loop-b.b c.loop-b.spot.bx c.loop-b.spot.by = rw c.across-row.ensures at c.loop-b.invariant.2 in
+    let at : Stands (across c.args.pic.width) c.loop-b.b c.loop-b.spot.bx c.loop-b.spot.by =
+    rw c.across-row.ensures at c.loop-b.invariant.2 in
     let low : c.loop-b.spot.by < 0x10000 = let l = c.loop-b in
-    omega (arith, high (across c.args.pic.width) (across c.args.pic.height) l.b l.spot.bx l.spot.by at (omega (arith, c.loop-b-test.true, c.requires.width_le_limit.3)), c.requires.width_le_limit.1) in
-    let before : (c.loop-b.b - c.args.first) * c.size-s.result ≡ (c.loop-b.b - c.args.first) * size_of c.args.f = ap (λ (z : ℕ). (c.loop-b.b - c.args.first) * z) c.size-s.ensures.0 in
-    let left : ((c.loop-b.b - c.args.first) * size_of c.args.f ≤ length c.args.«data».now) × ((c.args.last - c.loop-b.b) * size_of c.args.f ≤ length c.args.«data».now - (c.loop-b.b - c.args.first) * size_of c.args.f) = let a = c.args in
+    omega (
+      arith,
+      high (across c.args.pic.width) (across c.args.pic.height) l.b l.spot.bx l.spot.by at
+          (omega (arith, c.loop-b-test.true, c.requires.width_le_limit.3)),
+      c.requires.width_le_limit.1,
+    ) in
+    let before : (c.loop-b.b - c.args.first) * c.size-s.result ≡ (c.loop-b.b - c.args.first) * size_of c.args.f =
+    ap (λ (z : ℕ). (c.loop-b.b - c.args.first) * z) c.size-s.ensures.0 in
+    let left : ((c.loop-b.b - c.args.first) * size_of c.args.f ≤ length c.args.«data».now)
+    × ((c.args.last - c.loop-b.b) * size_of c.args.f ≤ length c.args.«data».now - (c.loop-b.b - c.args.first) * size_of c.args.f) =
+    let a = c.args in
     let b = c.loop-b.b in
     let both : b - a.first + (a.last - b) ≡ a.last - a.first = omega (arith, c.loop-b.invariant.0, c.loop-b-test.true) in
-    let all = rw (sym both) at c.requires.room.1 in
-    (omega (arith, add-mul (b - a.first) (a.last - b) (size_of a.f), all), left_over (size_of a.f) (b - a.first) (a.last - b) (length a.«data».now) all) in
+    let all = rw (sym both) at c.requires.room.1 in (
+      omega (arith, add-mul (b - a.first) (a.last - b) (size_of a.f), all),
+      left_over (size_of a.f) (b - a.first) (a.last - b) (length a.«data».now) all,
+    ) in
     let l = c.loop-b in record {
       left_nonzero = (
         omega (arith, c.loop-b-test.true),
@@ -86,16 +115,24 @@ paint_some-n-requires c =
 
 pub after-spot-requires : goal.after-spot-requires
 after-spot-requires c =
-    let at : Stands (across c.args.pic.width) c.loop-b.b c.loop-b.spot.bx c.loop-b.spot.by = rw c.across-row.ensures at c.loop-b.invariant.2 in
+    let at : Stands (across c.args.pic.width) c.loop-b.b c.loop-b.spot.bx c.loop-b.spot.by =
+    rw c.across-row.ensures at c.loop-b.invariant.2 in
     let low : c.loop-b.spot.by < 0x10000 = let l = c.loop-b in
-    omega (arith, high (across c.args.pic.width) (across c.args.pic.height) l.b l.spot.bx l.spot.by at (omega (arith, c.loop-b-test.true, c.requires.width_le_limit.3)), c.requires.width_le_limit.1) in
+    omega (
+      arith,
+      high (across c.args.pic.width) (across c.args.pic.height) l.b l.spot.bx l.spot.by at
+          (omega (arith, c.loop-b-test.true, c.requires.width_le_limit.3)),
+      c.requires.width_le_limit.1,
+    ) in
     let e = c.across-row.ensures in
     (omega (arith, e, c.paint_some-n.ensures.2), omega (arith, e, c.requires.width_le_limit.0), low)
 
 pub loop-b-preserved : goal.loop-b-preserved
 loop-b-preserved c =
-    let at : Stands (across c.args.pic.width) c.loop-b.b c.loop-b.spot.bx c.loop-b.spot.by = rw c.across-row.ensures at c.loop-b.invariant.2 in
-    let before : (c.loop-b.b - c.args.first) * c.size-s.result ≡ (c.loop-b.b - c.args.first) * size_of c.args.f = ap (λ (z : ℕ). (c.loop-b.b - c.args.first) * z) c.size-s.ensures.0 in
+    let at : Stands (across c.args.pic.width) c.loop-b.b c.loop-b.spot.bx c.loop-b.spot.by =
+    rw c.across-row.ensures at c.loop-b.invariant.2 in
+    let before : (c.loop-b.b - c.args.first) * c.size-s.result ≡ (c.loop-b.b - c.args.first) * size_of c.args.f =
+    ap (λ (z : ℕ). (c.loop-b.b - c.args.first) * z) c.size-s.ensures.0 in
     let a = c.args in
     let l = c.loop-b in
     let d = a.«data».now in (
@@ -114,6 +151,7 @@ shape_of-image c = c.loop-b.invariant.3.same
 
 pub returns : goal.returns
 returns c =
-    let at : Stands (across c.args.pic.width) c.loop-b.b c.loop-b.spot.bx c.loop-b.spot.by = rw c.across-row.ensures at c.loop-b.invariant.2 in
+    let at : Stands (across c.args.pic.width) c.loop-b.b c.loop-b.spot.bx c.loop-b.spot.by =
+    rw c.across-row.ensures at c.loop-b.invariant.2 in
     let e : c.loop-b.b ≡ c.args.last = omega arith in
     rw e at c.loop-b.invariant.3
