@@ -36,6 +36,7 @@ claimed() { # FOLDER
 # A copy, in such a folder, of the crates that the library is made of. What `rt` kept in out/ of an earlier copy stays.
 copied() {
     cp "$top/crates.txt" "$folder/crates.new"
+    chmod u+w "$folder/crates.new"
     mv -f "$folder/crates.new" "$folder/crates.txt"
     list=$(parts capi)
     for crate in "$folder"/crates/*; do
@@ -90,7 +91,9 @@ native_object() { # TOOLS OBJECT TARGET FLAG..
     target=$3
     shift 3
     case $target in *-windows-*) ;; *) set -- -fPIC "$@" ;; esac
-    passes=$(awk '/^-mllvm$/ { getline; if ($0 !~ /x86/) print "-mllvm " $0 }' "$work/words")
+    own=
+    case $target in x86_64-*) own=1 ;; esac
+    passes=$(awk -v own="$own" '/^-mllvm$/ { getline; if (own || $0 !~ /x86/) print "-mllvm " $0 }' "$work/words")
     $clang --target=x86_64-unknown-linux-gnu -S -emit-llvm -Xclang -disable-llvm-passes "$work/module.bc" -o "$work/proved.ll" &&
         sed -e '/^target datalayout/d' -e '/^target triple/d' \
             -e 's/ "target-cpu"="[^"]*"//' -e 's/ "target-features"="[^"]*"//' \

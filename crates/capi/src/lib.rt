@@ -1,4 +1,4 @@
-// The public readers of crates/readers under C names, for `rt staticlib`: a slice is a pointer and a length, and the answer is
+// The public readers of crates/readers under C names, for `rt lib`: a slice is a pointer and a length, and the answer is
 // document 01's number of it. Each owes what the reader that it calls owes, and has no requires; that a C caller's pointers are what
 // the types say, nothing can check. include/yalivucu.h tells a C programmer the same in words.
 #![tactic(auto)]
