@@ -1,6 +1,6 @@
 # shellcheck shell=sh disable=SC2034,SC2154
-# Shared by oracle/compare, oracle/second and oracle/record: what they install and build,
-# and how a proved program is run. Sourced with $top set to the repository's top.
+# Shared by oracle/compare, oracle/second and oracle/record: what they install and build.
+# Sourced with $top set to the repository's top.
 
 room=$top/target/oracle
 mkdir -p "$room"
@@ -51,12 +51,11 @@ install_rust() {
     rust_is_new || die "no Rust of 1.74 or newer"
 }
 
-# Builds the harness with the crate's files as they are: links, so nothing is copied.
+# Builds the harness with the crate's files as they are. They are copies: `rt` refuses links in a repository.
 build_harness() { # FOLDER OF THE CRATE
-    [ -f "$1/src/etc.rs" ] || die "no crate in $1: name its folder with --source"
     install_packages librust-paste-dev
     install_rust
-    files=$(cd "$1/src" && pwd)
+    files=$1/src
     build=$room/build
     rm -rf "$build/src" "$build/given"
     mkdir -p "$build/given"
@@ -64,7 +63,7 @@ build_harness() { # FOLDER OF THE CRATE
     cp -R "$top/oracle/harness/src" "$build/src"
     cp "$top/oracle/harness/given/lib.rs" "$build/given/"
     for part in bitreader.rs color.rs macros.rs etc.rs etc bcn; do
-        ln -s "$files/$part" "$build/given/$part"
+        cp -R "$files/$part" "$build/given/"
     done
     registry=$(dpkg -L librust-paste-dev | grep '/registry$')
     (cd "$build" && cargo build --release --offline --quiet \
@@ -119,23 +118,15 @@ fetch_pictures() {
     mv "$room/piglit/files" "$pictures"
 }
 
-# Proves and builds the Rattle program, and writes a script that runs it as the kit
-# does: under its loader and C library, and on another processor than x86-64 under the
-# emulator that stands beside its compiler. A proved program whose stored list differs is
-# compared all the same: then above all one wants to know where.
+# Proves and builds the Rattle program, which `rt run` also runs, here on an empty input. Its stored list is the
+# gate's: a program that differs from it is compared all the same, since then above all one wants to know where.
 build_program() { # NAME OF THE PROGRAM'S CRATE
     echo "proving $1 and what it is made of: some minutes from nothing" >&2
-    (cd "$top" && rt check "$1") >"$room/rt.log" 2>&1 || grep -q "^rt: $1 proved" "$room/rt.log" ||
-        die "rt check $1 failed (target/oracle/rt.log says why)"
-    kit=$(dirname "$(dirname "$(rt doc)")")
-    tools=$kit/on/$(uname -m)/toolchain
-    emulator=$tools/bin/qemu-x86_64
-    under=
-    [ ! -x "$emulator" ] || under="'$emulator'"
+    [ -d "$top/crates/$1" ] || die "there is no crate $1"
+    (cd "$top/crates/$1" && rt run) </dev/null >"$room/rt.log" 2>&1 || :
+    grep -q "^rt: running out/$1" "$room/rt.log" || die "$1 is not proved (target/oracle/rt.log says why)"
     program=$room/program
-    printf "#!/bin/sh\nexec %s '%s' --library-path '%s' '%s'\n" "$under" \
-        "$tools/lib/ld-linux-x86-64.so.2" "$tools/lib" "$top/target/bin/$1" >"$program"
-    chmod +x "$program"
+    cp "$top/crates/$1/out/$1" "$program"
 }
 
 # The names of the differences that are listed, with commas between them.
@@ -148,7 +139,7 @@ listed() {
 # Options of all three commands. ORACLE_CRATE and ORACLE_PROGRAM say the same as
 # --crate and --program.
 take_options() {
-    seed=1 blocks=300000 source=$top/../shared/docs/src only='' day=$(date -u +%F)
+    seed=1 blocks=300000 source='' only='' day=$(date -u +%F)
     crate=${ORACLE_CRATE:-replay} program=${ORACLE_PROGRAM:-}
     while [ $# -gt 0 ]; do
         case $1 in
@@ -166,6 +157,7 @@ take_options() {
         esac
         shift 2
     done
+    source=$(sh "$top/oracle/crate" ${source:+"$source"}) || exit 2
 }
 
 prepare() {

@@ -85,13 +85,13 @@ def repeated(count, value):
 
 # How the kit's functions are said in Python: their parameters in order, and what they give.
 LIBRARY = {
-    "cond": (3, "({1} if {0} else {2})"), "not": (1, "(not {0})"), "getD": (3, "item({0}, {1}, {2})"), "length": (1, "len({0})"),
+    "cond": (3, "({1} if {0} else {2})"), "not": (1, "(not {0})"), "get_or": (3, "item({0}, {1}, {2})"), "length": (1, "len({0})"),
     "take": (2, "{1}[:{0}]"), "drop": (2, "{1}[{0}:]"), "replicate": (2, "repeated({0}, {1})"), "ltb": (2, "({0} < {1})"),
     "leb": (2, "({0} <= {1})"), "eqb": (2, "({0} == {1})"), "min": (2, "min({0}, {1})"), "max": (2, "max({0}, {1})"),
     "suc": (1, "({0} + 1)"), "pos": (1, "{0}"),
-    "negsuc": (1, "(-1 - {0})"), "natAbs": (1, "abs({0})"), "negℤ": (1, "(-{0})"), "ltZ": (2, "({0} < {1})"),
-    "shrZ": (2, "shifted({0}, {1})"),
-    "bitOr": (2, "({0} | {1})"), "true": (0, "True"), "false": (0, "False"), "zero": (0, "0"), "[]": (0, "()"),
+    "negsuc": (1, "(-1 - {0})"), "nat_abs": (1, "abs({0})"), "neg_ℤ": (1, "(-{0})"), "lt_z": (2, "({0} < {1})"),
+    "shr_z": (2, "shifted({0}, {1})"),
+    "bit_or": (2, "({0} | {1})"), "true": (0, "True"), "false": (0, "False"), "zero": (0, "0"), "[]": (0, "()"),
 }
 INFIX = {
     "+": "({} + {})", "-": "minus({}, {})", "*": "({} * {})", "/": "quotient({}, {})", "%": "remainder({}, {})", "^": "power({}, {})",
@@ -147,9 +147,9 @@ class Writer:
         if name in self.file.made:
             return "made", name
         path, own = self.file.module.brought.get(name, ("", name))
-        if "the-variants" in path:
+        if "TheVariants" in path:
             return "made", own
-        home = self.files.get(tuple(path.split(".")[1:3]))
+        home = self.files.get(tuple(path.split(".")[2:4]))
         if home and own in home.made:
             return "made", own
         if home and own in home.counts:

@@ -3,15 +3,16 @@
 import collections
 import re
 
-ROOT = "Rattle·rules·specs.specs."
+ROOT = "Rattle.rules.specs."
 
 # An operator's strength and the side to which it groups, as the kit's libraries declare them.
 FIXITY = {
     "^": (75, "right"), "*": (70, "left"), "/": (70, "left"), "%": (70, "left"), "∷": (67, "right"),
-    "+": (65, "left"), "-": (65, "left"), "++": (65, "left"), "&&": (35, "left"), "||": (30, "left"),
+    "+": (65, "left"), "-": (65, "left"), "++": (65, "left"), "<": (50, "none"), "&&": (35, "left"), "||": (30, "left"),
     "*ℤ": (7, "left"), "+ℤ": (6, "left"), "-ℤ": (6, "left"), "≡": (4, "none"), "×": (2, "right"), "→": (1, "right"),
 }
-TOKEN = re.compile(r"(?P<space>\s+|--[^\n]*)|(?P<mark>[(){};,@.])|(?P<word>WORD(?:\.WORD)*)".replace("WORD", r"(?:«[^»]*»|[^\s(){}.;,@\"«»]+)"))
+# A dot before a capital is part of a name, as in rgb.Counted; before any other it leads to a field.
+TOKEN = re.compile(r"(?P<space>\s+|--[^\n]*)|(?P<mark>[(){};,@.])|(?P<word>WORD(?:\.(?=[A-Z])WORD)*)".replace("WORD", r"(?:«[^»]*»|[^\s(){}.;,@\"«»]+)"))
 NUMERAL = re.compile(r"0x[0-9A-Fa-f_]+|[0-9][0-9_]*")
 HEAD = re.compile(r"(?:(?:unfoldable|abbrev|pub) )*(?P<name>[^\s:]+)(?: \{[^}]*\})? : (?P<type>.*)")
 DATA = re.compile(r"(?:pub )?data ")  # it has constructors, and no body to change
@@ -81,20 +82,20 @@ class Reader:
             left = Node("infix", left.start, right.end, [left, right], operator)
         return left
 
-    # A field is one of all that stands before it: f x .width is (f x) .width.
     def application(self):
-        parts = [self.atom()]
+        parts = [self.projection()]
         while self.peek() not in (None, ")", "}", ";", ",", "=", "in") and self.peek() not in FIXITY:
-            if self.peek() == ".":
-                self.take()
-                field = self.take()
-                parts = [Node("field", parts[0].start, field.end, [self.applied(parts)], field.text)]
-            else:
-                parts.append(self.atom())
-        return self.applied(parts)
-
-    def applied(self, parts):
+            parts.append(self.projection())
         return parts[0] if len(parts) == 1 else Node("apply", parts[0].start, parts[-1].end, parts, "")
+
+    # A field is one of what stands right before it: f x.width is f (x.width).
+    def projection(self):
+        node = self.atom()
+        while self.peek() == "." and self.found[self.at].start == node.end:
+            self.take()
+            field = self.take()
+            node = Node("field", node.start, field.end, [node], field.text)
+        return node
 
     def atom(self):
         token = self.take()
@@ -148,8 +149,8 @@ class Module:
         self.path, self.name, self.text = path, path.stem, text or path.read_text()
         self.used = set(re.findall(re.escape(ROOT) + r"(\w+)\.\{", self.text))
         self.brought = {}
-        for module, names in re.findall(r"^use (\S+)\.\{(.*)\}$", self.text, re.M):
-            self.brought.update({name.split()[-1]: (module, name.split()[0]) for name in names.split(",")})
+        for module, names in re.findall(r"^use (\S+)\.\{([^}]*)\}$", self.text, re.M):
+            self.brought.update({name.split()[-1]: (module, name.split()[0]) for name in names.split(",") if name.strip()})
         self.types, self.clauses, self.unread, self.groups = {}, [], [], {}
         self.read()
 
@@ -158,7 +159,7 @@ class Module:
 
     # A declaration starts at the margin, and what is indented below belongs to it; in a group the margin is two spaces.
     def read(self, start=0, end=None, margin="", given=()):
-        one = rf"^{margin}(?![ \n])(?!--)(?!use )(?!pub mod).*\n(?:{margin}[ ]+.*\n|\n(?={margin}[ ]))*"
+        one = rf"^{margin}(?![ \n}}])(?!--)(?!use )(?!pub mod).*\n(?:{margin}[ ]+.*\n|\n(?={margin}[ ]))*"
         for match in re.compile(one, re.M).finditer(self.text, start, len(self.text) if end is None else end):
             text = match.group()[len(margin):]
             try:

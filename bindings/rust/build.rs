@@ -36,11 +36,21 @@ fn make(folder: &Path, archive: &Path, target: &str) {
         script.exists(),
         "this package carries no archive for {target}: name one in YALIVUCU_ARCHIVE"
     );
-    for part in ["crates", "crates.txt", "bindings/archive", "bindings/native.sh"] {
+    for part in ["crates.txt", "bindings/archive", "bindings/native.sh"] {
         println!("cargo:rerun-if-changed={}", top.join(part).display());
     }
+    // of each crate what a check reads, and not what checks keep beside it
+    for entry in std::fs::read_dir(top.join("crates")).unwrap() {
+        for part in ["src", "specs", "proofs"] {
+            let path = entry.as_ref().unwrap().path().join(part);
+            if path.exists() {
+                println!("cargo:rerun-if-changed={}", path.display());
+            }
+        }
+    }
+    let copy = folder.join("copy");
     let mut command = Command::new("sh");
-    command.arg(script).arg("--in").arg(folder.join("copy"));
+    command.arg(script).arg("--in").arg(&copy);
     if env::var("HOST").as_deref() != Ok(target) {
         command.args(["--target", target]);
     }
@@ -48,4 +58,6 @@ fn make(folder: &Path, archive: &Path, target: &str) {
         command.arg(archive).status().is_ok_and(|status| status.success()),
         "bindings/archive made nothing: install the Rattle kit so that `rt` runs, or name a ready archive in YALIVUCU_ARCHIVE"
     );
+    // Cargo's folder may lie in a repository of Rattle crates, where `rt` refuses files of Rattle that are none of its crates.
+    std::fs::remove_dir_all(copy).unwrap();
 }

@@ -334,8 +334,10 @@ fn a_closed_or_full_standard_output_leaves_everything_as_it_was() {
 fn nobody_reads_the_refusal() {
     let (room, _) = room();
     room.write("bad.ktx", &room.read("in.ktx")[..63]);
-    let ran = room
-        .shell("{ $Y unpack --into . bad.ktx in.ktx; echo $? >status; } 2>&1 >/dev/null | true; sleep 0.3; cat status");
+    let ran = room.shell(
+        "{ $Y unpack --into . bad.ktx in.ktx; echo $? >new; mv new status; } 2>&1 >/dev/null | true; \
+         for k in $(seq 600); do [ -e status ] || sleep 0.1; done; cat status",
+    );
     assert_eq!(ran.out.trim(), "1", "{ran:?}");
     assert_eq!(room.list(), ["bad.ktx", "in.ktx", "in.ktx.png", "status"]);
 }

@@ -23,7 +23,7 @@
 //! several processors.
 //!
 //! What is proved is the code in the archive, up to its functions of C names. The few lines
-//! here that call them are not proved. On x86-64 the archive is what `rt staticlib` made; on
+//! here that call them are not proved. On x86-64 the archive is what `rt lib` made; on
 //! any other machine the proved module was compiled natively by the kit's own clang, a step
 //! that `rt` does not do itself (`bindings/archive`).
 #![no_std]

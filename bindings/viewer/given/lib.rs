@@ -1,5 +1,5 @@
 //! The roots of the crate's ETC part and of BC1, BC2, BC3 and BC7, in place of its own lib.rs and bcn.rs: those
-//! name files of families that are no concern here. The modules are links to the unchanged files.
+//! name files of families that are no concern here. The modules are the unchanged files.
 #![allow(dead_code, unused_imports, unused_macros, clippy::all)]
 
 mod bitreader;

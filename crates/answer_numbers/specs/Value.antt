@@ -1,11 +1,9 @@
 -- Whether an answer has a value.
 -- Assumes nothing.
-use mathlib.Core.Bool.{Bool, true, false}
-use mathlib.Core.List.{List, [], _∷_}
-use Prim.Native.Nat.{ℕ}
+use Rattle.std.specs.Prelude.{Bool, true, false, List, [], ◌∷◌, ℕ}
 
 -- whether what an answer says has a value behind its number: the block that it names
-abbrev pub hasValue : List ℕ → Bool
-hasValue [] = false
-hasValue (number ∷ []) = false
-hasValue (number ∷ value ∷ rest) = true
+abbrev pub has_value : List ℕ → Bool
+has_value [] = false
+has_value (number ∷ []) = false
+has_value (number ∷ value ∷ rest) = true

@@ -1,15 +1,16 @@
 // What an answer says: its number in document 01, and the block that it names.
-use rules::Answer;
-use rules::Baking;
-ghost use mathlib.Core.Path.{_≡_};
-ghost use lib.ListN.{getD};
-ghost use Rattle·rules.specs.Answers.{said};
-ghost use Rattle·rules.specs.Checking.{bakingSaid};
-ghost use Rattle·answer_numbers·specs.specs.Value.{hasValue};
+#![tactic(auto)]
+
+ghost use Rattle.std.specs.Prelude.{◌≡◌, get_or};
+ghost use Rattle.rules.specs.Answers.{said};
+ghost use Rattle.rules.specs.Checking.{baking_said};
+ghost use Rattle.answer_numbers.specs.Value.{has_value};
+
+use rules::{Answer, Baking};
 
 // Document 01's number of an answer.
 pub fn number(answer: Answer) -> u32
-    ensures { λ r. ⌜ r ≡ getD (said answer) 0 0 ⌝ }
+    ensures { result ≡ get_or (said answer) 0 0 }
 {
     match answer {
         Answer::Done => 0,
@@ -40,7 +41,7 @@ pub fn number(answer: Answer) -> u32
 
 // Whether an answer names a block.
 pub fn names(answer: Answer) -> bool
-    ensures { λ r. ⌜ r ≡ hasValue (said answer) ⌝ }
+    ensures { result ≡ has_value (said answer) }
 {
     match answer {
         Answer::Done => false,
@@ -71,7 +72,7 @@ pub fn names(answer: Answer) -> bool
 
 // The block that an answer names, or what stood there where it names none.
 pub fn block_or(answer: Answer, stood: usize) -> usize
-    ensures { λ r. ⌜ r ≡ getD (said answer) 1 stood ⌝ }
+    ensures { result ≡ get_or (said answer) 1 stood }
 {
     match answer {
         Answer::Done => stood,
@@ -102,7 +103,7 @@ pub fn block_or(answer: Answer, stood: usize) -> usize
 
 // The number of an answer of the checker or the baker of blocks.
 pub fn baking_number(answer: Baking) -> u32
-    ensures { λ r. ⌜ r ≡ getD (bakingSaid answer) 0 0 ⌝ }
+    ensures { result ≡ get_or (baking_said answer) 0 0 }
 {
     match answer {
         Baking::Done => 0,

@@ -1,43 +1,41 @@
 // The baker of individual ETC1 blocks: for each half the code with the least sum, for each pixel the index with the least difference.
-use super::codes;
-use super::indices;
+ghost use Rattle.std.specs.Prelude.{◌≡◌, ◌+◌, ◌*◌, ◌≤◌, ◌<◌, length};
+ghost use Rattle.rules.specs.Baking.{seventeen, baked_block, above as above_of, eight_over, Bakes};
+ghost use Rattle.bake.specs.baking.Four.{Four};
+
+use super::{codes, indices};
 use rules::Baking;
-ghost use mathlib.Core.Path.{_≡_};
-ghost use Prim.Native.Nat.{_+_, _*_, _≤_, _<_};
-ghost use lib.ListN.{length};
-ghost use Rattle·rules.specs.Baking.{seventeen, bakedBlock, above as aboveOf, eightOver, Bakes};
-ghost use Rattle·bake·specs.specs.baking.Four.{Four};
 
 // A base colour of four bits a channel, as eight.
 fn widened(c: [u8; 3]) -> [u8; 3]
-    requires { ⌜ Four c ⌝ }
-    ensures { λ r. ⌜ r ≡ seventeen c ⌝ }
+    requires { Four c }
+    ensures { result ≡ seventeen c }
 {
     [c[0] * 17, c[1] * 17, c[2] * 17]
 }
 
 // Two nibbles as a byte.
 fn nibbles(a: u8, b: u8) -> u8
-    requires { ⌜ (a < 16) × (b < 16) ⌝ }
-    ensures { λ r. ⌜ r ≡ 16 * a + b ⌝ }
+    requires { (a < 16) × (b < 16) }
+    ensures { result ≡ 16 * a + b }
 {
     16 * a + b
 }
 
 // Two codes and a flip as a byte.
 fn code_byte(a: usize, b: usize, flip: usize) -> u8
-    requires { ⌜ (a < 8) × (b < 8) × (flip < 2) ⌝ }
-    ensures { λ r. ⌜ r ≡ 32 * a + 4 * b + flip ⌝ }
+    requires { (a < 8) × (b < 8) × (flip < 2) }
+    ensures { result ≡ 32 * a + 4 * b + flip }
 {
     (32 * a + 4 * b + flip) as u8
 }
 
 // The eight bytes.
 fn baked(first: [u8; 3], second: [u8; 3], flip: usize, tile: &[u32]) -> [u8; 8]
-    requires { ⌜ Four first ⌝ }
-    requires { ⌜ Four second ⌝ }
-    requires { ⌜ (flip < 2) × (16 ≤ length (now tile)) ⌝ }
-    ensures { λ r. ⌜ r ≡ bakedBlock first second flip (now (tile .entry)) ⌝ }
+    requires four { Four first }
+    requires four_2 { Four second }
+    requires flip_bound { (flip < 2) × (16 ≤ length tile.now) }
+    ensures { result ≡ baked_block first second flip tile.now }
 {
     let a = widened(first);
     let b = widened(second);
@@ -63,7 +61,7 @@ fn baked(first: [u8; 3], second: [u8; 3], flip: usize, tile: &[u32]) -> [u8; 8]
 
 // Whether a channel is above 15.
 fn above(c: [u8; 3]) -> bool
-    ensures { λ r. ⌜ r ≡ aboveOf c ⌝ }
+    ensures { result ≡ above_of c }
 {
     if 15 < c[0] {
         return true;
@@ -76,15 +74,15 @@ fn above(c: [u8; 3]) -> bool
 
 // Writes eight bytes, and no other.
 fn write(eight: [u8; 8], block: &mut [u8])
-    requires { ⌜ 8 ≤ length (now block) ⌝ }
-    ensures { λ _. ⌜ now (block .exit) ≡ eightOver eight (now (block .entry)) ⌝ }
+    requires { 8 ≤ length block.old }
+    ensures { block.new ≡ eight_over eight block.old }
 {
-    bytes::copy(&eight, block);
+    block[..8].copy_from_slice(&eight);
 }
 
 // Bakes the individual block with these bases and this flip that has the least sum of differences from the tile.
 pub fn bake(first: [u8; 3], second: [u8; 3], flip: usize, tile: &[u32], block: &mut [u8]) -> Baking
-    ensures { λ r. ⌜ Bakes first second flip (now (tile .entry)) r (now (block .entry)) (now (block .exit)) ⌝ }
+    ensures { Bakes first second flip tile.now result block.old block.new }
 {
     if above(first) {
         return Baking::NoBase;

@@ -1,18 +1,17 @@
 // The checker of ETC1 blocks that an outside baker sends.
+#![tactic(auto)]
+
+ghost use Rattle.std.specs.Prelude.{◌≡◌, ℕ, ◌≤◌, length, get_or};
+ghost use Rattle.rules.specs.Counting.{each};
+ghost use Rattle.rules.specs.Checking.{near as near_to, Checks};
+ghost use Rattle.laws.specs.Kinds.{strange};
+
 use bake::distance;
-use rules::Baking;
-use rules::Format;
-use rules::Kind;
-ghost use mathlib.Core.Path.{_≡_};
-ghost use Prim.Native.Nat.{ℕ, _≤_};
-ghost use lib.ListN.{length, getD};
-ghost use Rattle·rules.specs.Counting.{each};
-ghost use Rattle·rules.specs.Checking.{near as nearTo, Checks};
-ghost use Rattle·laws.specs.Kinds.{strange};
+use rules::{Baking, Format, Kind};
 
 // Whether a kind is one that ETC1 does not have: then a sum is out of range.
 fn is_strange(kind: Kind) -> bool
-    ensures { λ r. ⌜ r ≡ strange kind ⌝ }
+    ensures { result ≡ strange kind }
 {
     match kind {
         Kind::Individual => false,
@@ -25,8 +24,8 @@ fn is_strange(kind: Kind) -> bool
 
 // Whether sixteen pixels are near those of a tile, each of them.
 fn all_near(tolerance: u32, pixels: [u32; 16], tile: &[u32]) -> bool
-    requires { ⌜ 16 ≤ length (now tile) ⌝ }
-    ensures { λ r. ⌜ r ≡ each (λ (k : ℕ). nearTo tolerance (getD pixels k 0) (getD (now (tile .entry)) k 0)) 16 ⌝ }
+    requires { 16 ≤ length tile.now }
+    ensures { result ≡ each (λ (k : ℕ). near_to tolerance (get_or pixels k 0) (get_or tile.now k 0)) 16 }
 {
     let mut k: usize = 0;
     while k < 16 {
@@ -40,7 +39,7 @@ fn all_near(tolerance: u32, pixels: [u32; 16], tile: &[u32]) -> bool
 
 // Checks a block against a tile, within a tolerance.
 pub fn check(block: &[u8], tile: &[u32], tolerance: u32) -> Baking
-    ensures { λ r. ⌜ Checks tolerance (now (block .entry)) (now (tile .entry)) r ⌝ }
+    ensures { Checks tolerance block.now tile.now result }
 {
     if block.len() < 8 {
         return Baking::ShortBlock;

@@ -1,18 +1,14 @@
 // The alphas of a BC3 block as lanes of vector code: all eight by one formula, in either order of the two.
-use super::alphas;
-use super::bc1;
-ghost use mathlib.Core.Path.{_≡_};
-ghost use mathlib.Core.Bool.{cond};
-ghost use Prim.Native.Nat.{ℕ, _%_, _<_};
-ghost use lib.Dec.{ltb};
-ghost use lib.ListN.{getD};
-ghost use Rattle·rules.specs.Notation.{build};
-ghost use Rattle·rules.specs.Desktop.{alphas as alphasOf};
-ghost use Rattle·bc·specs.specs.alpha_lanes.Lanes.{fifths as fifthsOf, more as moreOf, alphaLane};
+ghost use Rattle.std.specs.Prelude.{◌≡◌, cond, ℕ, ◌%◌, ◌<◌, ltb, get_or};
+ghost use Rattle.rules.specs.Notation.{build};
+ghost use Rattle.rules.specs.Desktop.{alphas as alphas_of};
+ghost use Rattle.bc.specs.alpha_lanes.Lanes.{fifths as fifths_of, more as more_of, alpha_lane_lem};
+
+use super::{alphas, bc1};
 
 // Five times alpha k, where it is one of the fifths.
 fn fifths(a: u16, b: u16, k: u16) -> u16
-    ensures { λ r. ⌜ r ≡ fifthsOf a b k ⌝ }
+    ensures { result ≡ fifths_of a b k }
 {
     let x = bc1::pick(k, 3, 3, bc1::pick(k, 4, 2, bc1::pick(k, 5, 1, 0)));
     let y = bc1::pick(k, 3, 2, bc1::pick(k, 4, 3, bc1::pick(k, 5, 4, 0)));
@@ -26,7 +22,7 @@ fn fifths(a: u16, b: u16, k: u16) -> u16
 
 // What seven times alpha k has more than that, where it is one of the sevenths.
 fn more(a: u16, b: u16, k: u16) -> u16
-    ensures { λ r. ⌜ r ≡ moreOf a b k ⌝ }
+    ensures { result ≡ more_of a b k }
 {
     let x = bc1::pick(k, 1, 0, bc1::pick(k, 7, 1, 2));
     let y = bc1::pick(k, 1, 2, bc1::pick(k, 6, 5, bc1::pick(k, 7, 6, 0)));
@@ -35,7 +31,7 @@ fn more(a: u16, b: u16, k: u16) -> u16
 
 // Alpha k: c and d are a and b where sevenths are asked for, and else 0, m divides by seven or five, and g goes to the last.
 fn alpha_lane(a: u16, b: u16, c: u16, d: u16, m: u16, g: u16, k: u16) -> u16
-    ensures { λ r. ⌜ r ≡ alphaLane a b c d m g k ⌝ }
+    ensures { result ≡ alpha_lane_lem a b c d m g k }
 {
     let sum = bc1::plus(fifths(a, b, k), more(c, d, k));
     bc1::plus(bc1::high(sum, m), bc1::times(g, bc1::pick(k, 7, 1, 0)))
@@ -43,7 +39,7 @@ fn alpha_lane(a: u16, b: u16, c: u16, d: u16, m: u16, g: u16, k: u16) -> u16
 
 // The eight alphas twice: a loop of eight turns would be unrolled before it becomes vector code, and the second eight are not used.
 fn alpha_lanes(a: u16, b: u16, c: u16, d: u16, m: u16, g: u16) -> [u16; 16]
-    ensures { λ r. ⌜ r ≡ build 16 (λ i. alphaLane a b c d m g (i % 8)) ⌝ }
+    ensures { result ≡ build 16 (λ i. alpha_lane_lem a b c d m g (i % 8)) }
 {
     let mut out = [0u16; 16];
     let mut i: usize = 0;
@@ -55,20 +51,20 @@ fn alpha_lanes(a: u16, b: u16, c: u16, d: u16, m: u16, g: u16) -> [u16; 16]
 }
 
 fn either_lane(t: bool, x: u16, y: u16) -> u16
-    ensures { λ r. ⌜ r ≡ cond t x y ⌝ }
+    ensures { result ≡ cond t x y }
 {
     if t { x } else { y }
 }
 
 fn wide(b: u8) -> u16
-    ensures { λ r. ⌜ (r ≡ b) × (r < 256) ⌝ }
+    ensures { (result ≡ b) × (result < 256) }
 {
     b as u16
 }
 
 // The alphas of both orders, by one formula.
 pub fn all_alphas(a: u8, b: u8) -> [u16; 16]
-    ensures { λ r. ⌜ ((k : ℕ) → k < 8 → getD r k 0 ≡ getD (alphasOf (ltb b a) a b) k 0) ⌝ }
+    ensures { (k : ℕ) → k < 8 → get_or result k 0 ≡ get_or (alphas_of (ltb b a) a b) k 0 }
 {
     let p = wide(a);
     let q = wide(b);

@@ -1,43 +1,39 @@
 // The alphas of a BC3 half (src/bcn/bc3.rs): the eight that its first two bytes make, and a byte put in place of a channel.
-ghost use mathlib.Core.Path.{_≡_};
-ghost use mathlib.Core.Bool.{cond};
-ghost use Prim.Native.Nat.{ℕ, _/_, _≤_, _<_};
-ghost use lib.Dec.{ltb};
-ghost use lib.ListN.{getD};
-ghost use Rattle·rules.specs.Notation.{bits};
-ghost use Rattle·rules.specs.Desktop.{alphas as alphasOf, alphasIn, replaced};
+ghost use Rattle.std.specs.Prelude.{◌≡◌, cond, ℕ, ◌/◌, ◌≤◌, ◌<◌, ltb, get_or};
+ghost use Rattle.rules.specs.Notation.{bits};
+ghost use Rattle.rules.specs.Desktop.{alphas as alphas_of, alphas_in_lem, replaced};
 
 fn byte(b: u8) -> u32
-    ensures { λ r. ⌜ (r ≡ b) × (r < 256) ⌝ }
+    ensures { (result ≡ b) × (result < 256) }
 {
     b as u32
 }
 
 // One of two numbers, both of which are at hand: no branch, which in pictures would often be foretold wrongly.
 fn either(t: bool, x: u32, y: u32) -> u32
-    ensures { λ r. ⌜ r ≡ cond t x y ⌝ }
+    ensures { result ≡ cond t x y }
 {
     if t { x } else { y }
 }
 
 // A seventh or a fifth of a sum, by a product and a shift.
 fn share(sevenths: bool, sum: u32) -> u32
-    requires { ⌜ sum ≤ 1785 ⌝ }
-    ensures { λ r. ⌜ r ≡ cond sevenths (sum / 7) (sum / 5) ⌝ }
+    requires { sum ≤ 1785 }
+    ensures { result ≡ cond sevenths (sum / 7) (sum / 5) }
 {
     sum * either(sevenths, 9363, 13108) / 0x10000
 }
 
 // A seventh of a sum, or what stands there beside fifths.
 fn share_or(sevenths: bool, sum: u32, fixed: u32) -> u32
-    requires { ⌜ (sum ≤ 1785) × (fixed < 256) ⌝ }
-    ensures { λ r. ⌜ r ≡ cond sevenths (sum / 7) fixed ⌝ }
+    requires { (sum ≤ 1785) × (fixed < 256) }
+    ensures { result ≡ cond sevenths (sum / 7) fixed }
 {
     sum * either(sevenths, 9363, 0) / 0x10000 + either(sevenths, 0, fixed)
 }
 
 pub fn is_above(a: u8, b: u8) -> bool
-    ensures { λ r. ⌜ r ≡ ltb b a ⌝ }
+    ensures { result ≡ ltb b a }
 {
     b < a
 }
@@ -45,7 +41,7 @@ pub fn is_above(a: u8, b: u8) -> bool
 // The eight alphas, by index: the two, and the sevenths between them; or the fifths, none and all. Two parts more of the first make
 // sevenths of what were fifths.
 pub fn alphas(a: u8, b: u8) -> [u32; 8]
-    ensures { λ r. ⌜ r ≡ alphasOf (ltb b a) a b ⌝ }
+    ensures { result ≡ alphas_of (ltb b a) a b }
 {
     let p = byte(a);
     let q = byte(b);
@@ -64,28 +60,28 @@ pub fn alphas(a: u8, b: u8) -> [u32; 8]
 }
 
 pub fn first(w: u64) -> u8
-    ensures { λ r. ⌜ r ≡ bits 7 0 w ⌝ }
+    ensures { result ≡ bits 7 0 w }
 {
     (w % 256) as u8
 }
 
 pub fn second(w: u64) -> u8
-    ensures { λ r. ⌜ r ≡ bits 15 8 w ⌝ }
+    ensures { result ≡ bits 15 8 w }
 {
     (w / 256 % 256) as u8
 }
 
 // The eight alphas of a half, each a byte.
 pub fn alphas_in(w: u64) -> [u32; 8]
-    ensures { λ r. ⌜ (r ≡ alphasIn w) × ((k : ℕ) → getD r k 0 < 256) ⌝ }
+    ensures { (result ≡ alphas_in_lem w) × ((k : ℕ) → get_or result k 0 < 256) }
 {
     alphas(first(w), second(w))
 }
 
 // A word with the byte of a channel replaced.
 pub fn replace(channel: usize, p: u32, b: u32) -> u32
-    requires { ⌜ (b < 256) × (channel < 4) ⌝ }
-    ensures { λ r. ⌜ r ≡ replaced channel p b ⌝ }
+    requires { (b < 256) × (channel < 4) }
+    ensures { result ≡ replaced channel p b }
 {
     match channel {
         0 => p / 0x100 * 0x100 + b,

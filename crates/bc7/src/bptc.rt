@@ -1,13 +1,11 @@
 // The tables and the arithmetic of a BC7 block.
+ghost use Rattle.std.specs.Prelude.{◌≡◌, ℕ, ◌+◌, ◌-◌, ◌*◌, ◌/◌, ◌^◌, ◌<◌, ◌≤◌, get_or, [], ◌∷◌};
+ghost use Rattle.rules.specs.Bptc.{weights_of};
+ghost use Rattle.rules.specs.Notation.{build};
+ghost use Rattle.rules.specs.Bc7.{lowest, mode_at, expand as expand_to, blend as blend_of, row_of};
+ghost use Rattle.bc7.specs.bptc.Layout.{layout_of};
+
 use rules::Mode;
-ghost use mathlib.Core.Path.{_≡_};
-ghost use Prim.Native.Nat.{ℕ, _+_, _-_, _*_, _/_, _^_, _<_, _≤_};
-ghost use lib.ListN.{getD};
-ghost use Rattle·rules.specs.Bptc.{weightsOf};
-ghost use Rattle·rules.specs.Notation.{build};
-ghost use Rattle·rules.specs.Bc7.{lowest, modeAt, expand as expandTo, blend as blendOf, rowOf};
-ghost use mathlib.Core.List.{[], _∷_};
-ghost use Rattle·bc7·specs.specs.bptc.Layout.{layoutOf};
 
 // Two subsets, and three: the subset of pixel i in bits 2i and 2i + 1, and a bit for each anchor from bit 32 on.
 const TWO: [u64; 64] = [
@@ -146,21 +144,21 @@ const THREE: [u64; 64] = [
 
 // The two tables, whole.
 fn of_two() -> [u64; 64]
-    ensures { λ r. ⌜ r ≡ build 64 (layoutOf 2) ⌝ }
+    ensures { result ≡ build 64 (layout_of 2) }
 {
     TWO
 }
 
 fn of_three() -> [u64; 64]
-    ensures { λ r. ⌜ r ≡ build 64 (layoutOf 3) ⌝ }
+    ensures { result ≡ build 64 (layout_of 3) }
 {
     THREE
 }
 
 // The layout of partition p of n subsets.
 pub fn layout(n: usize, p: usize) -> u64
-    requires { ⌜ (1 ≤ n) × (n ≤ 3) × (p < 64) ⌝ }
-    ensures { λ r. ⌜ r ≡ layoutOf n p ⌝ }
+    requires { (1 ≤ n) × (n ≤ 3) × (p < 64) }
+    ensures { result ≡ layout_of n p }
 {
     if n == 1 {
         return 0x1_0000_0000;
@@ -175,15 +173,15 @@ pub fn layout(n: usize, p: usize) -> u64
 
 // How many bits 0 stand below the lowest 1.
 pub fn zeros_below(b: u8) -> usize
-    ensures { λ r. ⌜ r ≡ lowest 8 b 0 ⌝ }
+    ensures { result ≡ lowest 8 b 0 }
 {
     u8::trailing_zeros(b) as usize
 }
 
 // The row of a mode.
 pub fn row(m: usize) -> Mode
-    requires { ⌜ m < 8 ⌝ }
-    ensures { λ r. ⌜ r ≡ modeAt m ⌝ }
+    requires { m < 8 }
+    ensures { result ≡ mode_at m }
 {
     match m {
         0 => made(3, 4, 0, 0, 4, 0, 1, 0, 3, 0),
@@ -209,7 +207,7 @@ fn made(
     index: usize,
     second: usize,
 ) -> Mode
-    ensures { λ r. ⌜ r ≡ rowOf (subsets ∷ partition ∷ rotation ∷ selection ∷ colour ∷ alpha ∷ own ∷ shared ∷ index ∷ second ∷ []) ⌝ }
+    ensures { result ≡ row_of (subsets ∷ partition ∷ rotation ∷ selection ∷ colour ∷ alpha ∷ own ∷ shared ∷ index ∷ second ∷ []) }
 {
     Mode {
         subsets,
@@ -227,8 +225,8 @@ fn made(
 
 // w bits made eight.
 pub fn expand(w: usize, v: u8) -> u8
-    requires { ⌜ (w ≤ 8) × (v < 2 ^ w) ⌝ }
-    ensures { λ r. ⌜ r ≡ expandTo w v ⌝ }
+    requires { (w ≤ 8) × (v < 2 ^ w) }
+    ensures { result ≡ expand_to w v }
 {
     let s = (v as u32) << (8 - w);
     (s + (s >> w)) as u8
@@ -236,8 +234,8 @@ pub fn expand(w: usize, v: u8) -> u8
 
 // Between a and b, by a weight of 64.
 pub fn blend(a: u8, b: u8, w: u8) -> u32
-    requires { ⌜ w ≤ 64 ⌝ }
-    ensures { λ r. ⌜ (r ≡ blendOf a b w) × (r < 256) ⌝ }
+    requires { w ≤ 64 }
+    ensures { (result ≡ blend_of a b w) × (result < 256) }
 {
     ((a as u32) * (64 - w as u32) + (b as u32) * (w as u32) + 32) / 64
 }
@@ -250,8 +248,8 @@ const FOUR_BITS: [u8; 16] = [0, 4, 9, 13, 17, 21, 26, 30, 34, 38, 43, 47, 51, 55
 
 // The weights of an index of n bits, and 0 after them.
 fn weights(n: usize) -> [u8; 16]
-    requires { ⌜ (2 ≤ n) × (n ≤ 4) ⌝ }
-    ensures { λ r. ⌜ r ≡ build 16 (λ i. getD (weightsOf n) i 0) ⌝ }
+    requires { (2 ≤ n) × (n ≤ 4) }
+    ensures { result ≡ build 16 (λ i. get_or (weights_of n) i 0) }
 {
     if n == 2 {
         return TWO_BITS;
@@ -264,9 +262,9 @@ fn weights(n: usize) -> [u8; 16]
 
 // The weight of each of sixteen indices of n bits.
 pub fn weigh(indices: [u8; 16], n: usize) -> [u8; 16]
-    requires { ⌜ (2 ≤ n) × (n ≤ 4) ⌝ }
-    requires { ⌜ ((k : ℕ) → getD indices k 0 < 16) ⌝ }
-    ensures { λ r. ⌜ r ≡ build 16 (λ i. getD (weightsOf n) (getD indices i 0) 0) ⌝ }
+    requires le_n { (2 ≤ n) × (n ≤ 4) }
+    requires by_index { (k : ℕ) → get_or indices k 0 < 16 }
+    ensures { result ≡ build 16 (λ i. get_or (weights_of n) (get_or indices i 0) 0) }
 {
     let t = weights(n);
     let mut out = [0u8; 16];

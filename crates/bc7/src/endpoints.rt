@@ -1,18 +1,15 @@
 // The fields of a BC7 block in front of its endpoints, and the endpoints widened to bytes, by the record of its mode.
-use super::bptc;
-use super::rest;
+ghost use Rattle.std.specs.Prelude.{◌≡◌, cond, ℕ, ◌+◌, ◌*◌, ◌/◌, ◌^◌, ◌<◌, ◌≤◌, eqb, get_or};
+ghost use Rattle.rules.specs.Bc7.{colour_place, expand};
+ghost use Rattle.bc7.specs.rest.Whole.{whole};
+ghost use Rattle.bc7.specs.endpoints.Stages.{Sane, Fronted, Ended};
+
 use super::rest::Rest;
+use super::{bptc, rest};
 use rules::Mode;
-ghost use mathlib.Core.Path.{_≡_};
-ghost use mathlib.Core.Bool.{cond};
-ghost use Prim.Native.Nat.{ℕ, _+_, _*_, _/_, _^_, _<_, _≤_};
-ghost use lib.Dec.{eqb};
-ghost use lib.ListN.{getD};
-ghost use Rattle·rules.specs.Bc7.{colourPlace, expand};
-ghost use Rattle·bc7·specs.specs.rest.Whole.{whole};
-ghost use Rattle·bc7·specs.specs.endpoints.Stages.{Sane, Fronted, Ended};
 
 // The fields in front of the endpoints, and what is left.
+#[derive(Clone, Copy)]
 pub struct Front {
     pub partition: u8,
     pub rotation: u8,
@@ -21,6 +18,7 @@ pub struct Front {
 }
 
 // The endpoints of four channels, two for each subset, and what is left.
+#[derive(Clone, Copy)]
 pub struct Ends {
     pub red: [u8; 8],
     pub green: [u8; 8],
@@ -31,8 +29,8 @@ pub struct Ends {
 
 // The fields in front, of a block of mode m.
 pub fn front_of(r: Rest, m: usize, k: Mode) -> Front
-    requires { ⌜ (m < 8) × Sane k ⌝ }
-    ensures { λ h. ⌜ Fronted (whole r) m k h ⌝ }
+    requires { (m < 8) × Sane k }
+    ensures { Fronted (whole r) m k result }
 {
     let a = rest::past(r, m + 1);
     let partition = rest::next(a, k.partition);
@@ -51,7 +49,7 @@ pub fn front_of(r: Rest, m: usize, k: Mode) -> Front
 
 // Which p-bit endpoint e has: its own, or its subset's.
 fn shared_or_own(shared: usize, e: usize) -> usize
-    ensures { λ r. ⌜ (r ≡ cond (eqb shared 0) e (e / 2)) × (r ≤ e) ⌝ }
+    ensures { (result ≡ cond (eqb shared 0) e (e / 2)) × (result ≤ e) }
 {
     if shared == 0 {
         return e;
@@ -61,8 +59,8 @@ fn shared_or_own(shared: usize, e: usize) -> usize
 
 // An endpoint of w bits with pb p-bits under them, as a byte.
 fn endpoint(v: u8, p: u8, w: usize, pb: usize) -> u8
-    requires { ⌜ (w + pb ≤ 8) × (pb ≤ 1) × (v < 2 ^ w) × (p < 2 ^ pb) ⌝ }
-    ensures { λ r. ⌜ r ≡ expand (w + pb) (v * 2 ^ pb + p) ⌝ }
+    requires { (w + pb ≤ 8) × (pb ≤ 1) × (v < 2 ^ w) × (p < 2 ^ pb) }
+    ensures { result ≡ expand (w + pb) (v * 2 ^ pb + p) }
 {
     bptc::expand(w + pb, (v << pb) + p)
 }
@@ -77,11 +75,11 @@ fn channel(
     shared: usize,
     pb: usize,
 ) -> [u8; 8]
-    requires { ⌜ (count ≤ 6) × (at ≤ 12) × (w + pb ≤ 8) × (pb ≤ 1) ⌝ }
-    requires { ⌜ ((k : ℕ) → getD values k 0 < 2 ^ w) ⌝ }
-    requires { ⌜ ((k : ℕ) → getD ps k 0 < 2 ^ pb) ⌝ }
-    ensures { λ r. ⌜ ((e : ℕ) → e < count → getD r e 0
-        ≡ expand (w + pb) (getD values (at + e) 0 * 2 ^ pb + getD ps (cond (eqb shared 0) e (e / 2)) 0)) ⌝ }
+    requires count_bound { (count ≤ 6) × (at ≤ 12) × (w + pb ≤ 8) × (pb ≤ 1) }
+    requires by_index { (k : ℕ) → get_or values k 0 < 2 ^ w }
+    requires by_index_2 { (k : ℕ) → get_or ps k 0 < 2 ^ pb }
+    ensures { (e : ℕ) → e < count → get_or result e 0
+        ≡ expand (w + pb) (get_or values (at + e) 0 * 2 ^ pb + get_or ps (cond (eqb shared 0) e (e / 2)) 0) }
 {
     let mut out = [0u8; 8];
     let mut e: usize = 0;
@@ -95,8 +93,8 @@ fn channel(
 
 // How many p-bits there are, where there are any.
 fn p_count(k: Mode) -> usize
-    requires { ⌜ Sane k ⌝ }
-    ensures { λ r. ⌜ (r ≡ cond (eqb (k .shared) 0) (2 * k .subsets) (k .subsets)) × (r ≤ 6) ⌝ }
+    requires { Sane k }
+    ensures { (result ≡ cond (eqb k.shared 0) (2 * k.subsets) k.subsets) × (result ≤ 6) }
 {
     if k.shared == 0 {
         return 2 * k.subsets;
@@ -106,8 +104,8 @@ fn p_count(k: Mode) -> usize
 
 // The endpoints of every channel, wherever in a block they stand.
 pub fn ends_of(r: Rest, k: Mode) -> Ends
-    requires { ⌜ Sane k ⌝ }
-    ensures { λ e. ⌜ ((d m : ℕ) → whole r ≡ d / 2 ^ colourPlace m k → Ended d m k e) ⌝ }
+    requires { Sane k }
+    ensures { (d m : ℕ) → whole r ≡ d / 2 ^ colour_place m k → Ended d m k result }
 {
     let n = 2 * k.subsets;
     let pb = k.own + k.shared;

@@ -1,38 +1,37 @@
 // A BC7 block: all eight modes are one reading, by the record of the mode.
+#![tactic(auto)]
+
 mod bptc;
 mod endpoints;
 pub mod rest;
+
+ghost use Rattle.std.specs.Prelude.{◌≡◌, cond, ℕ, ◌-◌, ◌*◌, ◌/◌, ◌%◌, ◌^◌, ◌<◌, ◌≤◌, eqb, length, get_or, replicate};
+ghost use Rattle.rules.specs.Notation.{build};
+ghost use Rattle.rules.specs.Places.{tile};
+ghost use Rattle.rules.specs.Bptc.{weights_of};
+ghost use Rattle.rules.specs.Bc7.{rotated, pixel_in, mode_at, pixel_of, bc7_pixel};
+ghost use Rattle.bc7.specs.rest.Whole.{whole, width_by, passed_by};
+ghost use Rattle.bc7.specs.endpoints.Stages.{Sane};
+ghost use Rattle.bc7.specs.Shaded.{shaded};
 
 use endpoints::Ends;
 use pixel::color;
 use rest::Rest;
 use rules::Mode;
-ghost use mathlib.Core.Path.{_≡_};
-ghost use mathlib.Core.Bool.{cond};
-ghost use Prim.Native.Nat.{ℕ, _-_, _*_, _/_, _%_, _^_, _<_, _≤_};
-ghost use lib.Dec.{eqb};
-ghost use lib.ListN.{length, getD, replicate};
-ghost use Rattle·rules.specs.Notation.{build};
-ghost use Rattle·rules.specs.Places.{tile};
-ghost use Rattle·rules.specs.Bptc.{weightsOf};
-ghost use Rattle·rules.specs.Bc7.{rotated, pixelIn, modeAt, pixelOf, bc7Pixel};
-ghost use Rattle·bc7·specs.specs.rest.Whole.{whole, widthBy, passedBy};
-ghost use Rattle·bc7·specs.specs.endpoints.Stages.{Sane};
-ghost use Rattle·bc7·specs.specs.Shaded.{shaded};
 
 // The weights of sixteen indices of b bits, the first of which stands lowest.
 fn weights(v: u64, b: usize, mask: u64) -> [u8; 16]
-    requires { ⌜ (2 ≤ b) × (b ≤ 4) ⌝ }
-    ensures { λ r. ⌜ r ≡ build 16 (λ i. getD (weightsOf b) (v / 2 ^ passedBy b mask i % 2 ^ widthBy b mask i) 0) ⌝ }
+    requires { (2 ≤ b) × (b ≤ 4) }
+    ensures { result ≡ build 16 (λ i. get_or (weights_of b) (v / 2 ^ passed_by b mask i % 2 ^ width_by b mask i) 0) }
 {
     bptc::weigh(rest::indices(v, b, mask), b)
 }
 
 // The weights by a second index, or the first ones where there is none.
 fn second_weights(r: Rest, k: Mode, mask: u64, first: [u8; 16]) -> [u8; 16]
-    requires { ⌜ Sane k ⌝ }
-    ensures { λ r2. ⌜ r2 ≡ cond (eqb (k .second) 0) first (build 16 (λ i. getD (weightsOf (k .second))
-        (whole r / 2 ^ (16 * k .index - k .subsets) % 2 ^ 64 / 2 ^ passedBy (k .second) mask i % 2 ^ widthBy (k .second) mask i) 0)) ⌝ }
+    requires { Sane k }
+    ensures { result ≡ cond (eqb k.second 0) first (build 16 (λ i. get_or (weights_of k.second)
+        (whole r / 2 ^ (16 * k.index - k.subsets) % 2 ^ 64 / 2 ^ passed_by k.second mask i % 2 ^ width_by k.second mask i) 0)) }
 {
     if k.second == 0 {
         return first;
@@ -43,7 +42,7 @@ fn second_weights(r: Rest, k: Mode, mask: u64, first: [u8; 16]) -> [u8; 16]
 
 // The weights of colour, or of alpha: the index selection changes the two about.
 fn chosen(s: u8, a: [u8; 16], b: [u8; 16]) -> [u8; 16]
-    ensures { λ r. ⌜ r ≡ cond (eqb s 0) a b ⌝ }
+    ensures { result ≡ cond (eqb s 0) a b }
 {
     if s == 0 {
         return a;
@@ -53,8 +52,8 @@ fn chosen(s: u8, a: [u8; 16], b: [u8; 16]) -> [u8; 16]
 
 // The pixel of four bytes, alpha changed about with a colour.
 fn turned(t: u8, a: u32, r: u32, g: u32, b: u32) -> u32
-    requires { ⌜ (a < 256) × (r < 256) × (g < 256) × (b < 256) ⌝ }
-    ensures { λ w. ⌜ w ≡ rotated t a r g b ⌝ }
+    requires { (a < 256) × (r < 256) × (g < 256) × (b < 256) }
+    ensures { result ≡ rotated t a r g b }
 {
     if t == 1 {
         return color::color(a, g, b, r);
@@ -70,8 +69,8 @@ fn turned(t: u8, a: u32, r: u32, g: u32, b: u32) -> u32
 
 // Sixteen pixels out of the endpoints, the subset of each and its weights.
 fn shade(t: u8, layout: u64, e: Ends, colour: [u8; 16], alpha: [u8; 16]) -> [u32; 16]
-    requires { ⌜ ((i : ℕ) → (getD colour i 0 ≤ 64) × (getD alpha i 0 ≤ 64)) ⌝ }
-    ensures { λ r. ⌜ r ≡ build 16 (λ i. shaded t e (layout / 2 ^ (2 * i) % 4) (getD colour i 0) (getD alpha i 0)) ⌝ }
+    requires { (i : ℕ) → (get_or colour i 0 ≤ 64) × (get_or alpha i 0 ≤ 64) }
+    ensures { result ≡ build 16 (λ i. shaded t e (layout / 2 ^ (2 * i) % 4) (get_or colour i 0) (get_or alpha i 0)) }
 {
     let red = e.red;
     let green = e.green;
@@ -96,8 +95,8 @@ fn shade(t: u8, layout: u64, e: Ends, colour: [u8; 16], alpha: [u8; 16]) -> [u32
 
 // The sixteen pixels of a block of mode m.
 fn in_mode(r: Rest, m: usize) -> [u32; 16]
-    requires { ⌜ m < 8 ⌝ }
-    ensures { λ p. ⌜ p ≡ build 16 (pixelIn (whole r) m (modeAt m)) ⌝ }
+    requires { m < 8 }
+    ensures { result ≡ build 16 (pixel_in (whole r) m (mode_at m)) }
 {
     let k = bptc::row(m);
     let h = endpoints::front_of(r, m, k);
@@ -118,14 +117,14 @@ fn in_mode(r: Rest, m: usize) -> [u32; 16]
 
 // A block without a mode.
 fn nothing() -> [u32; 16]
-    ensures { λ r. ⌜ r ≡ replicate 16 0 ⌝ }
+    ensures { result ≡ replicate 16 0 }
 {
     [0u32; 16]
 }
 
 // The sixteen pixels of a block in two words.
 pub fn of_words(r: Rest) -> [u32; 16]
-    ensures { λ p. ⌜ p ≡ build 16 (pixelOf (whole r)) ⌝ }
+    ensures { result ≡ build 16 (pixel_of (whole r)) }
 {
     let m = bptc::zeros_below((r.lo % 256) as u8);
     if 7 < m {
@@ -136,8 +135,8 @@ pub fn of_words(r: Rest) -> [u32; 16]
 
 // The sixteen pixels of a block.
 pub fn bc7_block(d: &[u8]) -> [u32; 16]
-    requires { ⌜ 16 ≤ length (now d) ⌝ }
-    ensures { λ p. ⌜ p ≡ tile bc7Pixel (now (d .entry)) ⌝ }
+    requires { 16 ≤ length d.now }
+    ensures { result ≡ tile bc7_pixel d.now }
 {
     of_words(rest::words(d))
 }

@@ -1,13 +1,13 @@
 // The bits of a block in two words: what is left of them is shifted down, and a field is what stands lowest.
+ghost use Rattle.std.specs.Prelude.{◌≡◌, ℕ, ◌+◌, ◌-◌, ◌*◌, ◌/◌, ◌%◌, ◌^◌, ◌<◌, ◌≤◌, length, get_or};
+ghost use Rattle.rules.specs.Notation.{build};
+ghost use Rattle.rules.specs.Bc7.{block_word};
+ghost use Rattle.bc7.specs.rest.Whole.{whole, field_of, width_by, passed_by};
+
 use bc::bc1;
-ghost use mathlib.Core.Path.{_≡_};
-ghost use Prim.Native.Nat.{ℕ, _+_, _-_, _*_, _/_, _%_, _^_, _<_, _≤_};
-ghost use lib.ListN.{length, getD};
-ghost use Rattle·rules.specs.Notation.{build};
-ghost use Rattle·rules.specs.Bc7.{blockWord};
-ghost use Rattle·bc7·specs.specs.rest.Whole.{whole, fieldOf, widthBy, passedBy};
 
 // What is left of a block's bits, the next one lowest.
+#[derive(Clone, Copy)]
 pub struct Rest {
     pub lo: u64,
     pub hi: u64,
@@ -15,8 +15,8 @@ pub struct Rest {
 
 // The sixteen bytes of a block.
 pub fn words(d: &[u8]) -> Rest
-    requires { ⌜ 16 ≤ length (now d) ⌝ }
-    ensures { λ r. ⌜ whole r ≡ blockWord (now (d .entry)) ⌝ }
+    requires { 16 ≤ length d.now }
+    ensures { whole result ≡ block_word d.now }
 {
     let lo = bc1::half_word(d);
     let hi = bc1::half_word(&d[8..]);
@@ -25,16 +25,16 @@ pub fn words(d: &[u8]) -> Rest
 
 // The low word after n bits are passed.
 fn next_low(lo: u64, hi: u64, n: usize) -> u64
-    requires { ⌜ n < 64 ⌝ }
-    ensures { λ r. ⌜ r ≡ hi % 2 ^ n * 2 ^ (64 - n) + lo / 2 ^ n ⌝ }
+    requires { n < 64 }
+    ensures { result ≡ hi % 2 ^ n * 2 ^ (64 - n) + lo / 2 ^ n }
 {
     ((hi << 1) << (63 - n)) + (lo >> n)
 }
 
 // What is left after n bits more.
 pub fn past(r: Rest, n: usize) -> Rest
-    requires { ⌜ n < 64 ⌝ }
-    ensures { λ q. ⌜ whole q ≡ whole r / 2 ^ n ⌝ }
+    requires { n < 64 }
+    ensures { whole result ≡ whole r / 2 ^ n }
 {
     let lo = r.lo;
     let hi = r.hi;
@@ -46,28 +46,29 @@ pub fn past(r: Rest, n: usize) -> Rest
 
 // The lowest n bits of a word.
 fn lowest(v: u64, n: usize) -> u8
-    requires { ⌜ n ≤ 8 ⌝ }
-    ensures { λ r. ⌜ r ≡ v % 2 ^ n ⌝ }
+    requires { n ≤ 8 }
+    ensures { result ≡ v % 2 ^ n }
 {
     (v % (1 << n)) as u8
 }
 
 // The next n bits.
 pub fn next(r: Rest, n: usize) -> u8
-    requires { ⌜ n ≤ 8 ⌝ }
-    ensures { λ v. ⌜ v ≡ whole r % 2 ^ n ⌝ }
+    requires { n ≤ 8 }
+    ensures { result ≡ whole r % 2 ^ n }
 {
     lowest(r.lo, n)
 }
 
 // The next 64 bits.
 pub fn word_of(r: Rest) -> u64
-    ensures { λ v. ⌜ v ≡ whole r % 2 ^ 64 ⌝ }
+    ensures { result ≡ whole r % 2 ^ 64 }
 {
     r.lo
 }
 
 // Up to 24 fields of one width, and what is left.
+#[derive(Clone, Copy)]
 pub struct Fields {
     pub values: [u8; 24],
     pub rest: Rest,
@@ -75,10 +76,10 @@ pub struct Fields {
 
 // The next count fields of b bits each; the others are 0.
 pub fn several(r: Rest, count: usize, b: usize) -> Fields
-    requires { ⌜ (count ≤ 24) × (b ≤ 8) ⌝ }
-    ensures { λ f. ⌜ ((k : ℕ) → k < count → getD (f .values) k 0 ≡ fieldOf (whole r) b k) ⌝ }
-    ensures { λ f. ⌜ ((k : ℕ) → count ≤ k → getD (f .values) k 0 ≡ 0) ⌝ }
-    ensures { λ f. ⌜ whole (f .rest) ≡ whole r / 2 ^ (count * b) ⌝ }
+    requires { (count ≤ 24) × (b ≤ 8) }
+    ensures by_index { (k : ℕ) → k < count → get_or result.values k 0 ≡ field_of (whole r) b k }
+    ensures by_index_2 { (k : ℕ) → count ≤ k → get_or result.values k 0 ≡ 0 }
+    ensures rest_value { whole result.rest ≡ whole r / 2 ^ (count * b) }
 {
     let mut lo = r.lo;
     let mut hi = r.hi;
@@ -98,8 +99,8 @@ pub fn several(r: Rest, count: usize, b: usize) -> Fields
 
 // Sixteen indices of b bits, one less where the mask has a bit.
 pub fn indices(v: u64, b: usize, mask: u64) -> [u8; 16]
-    requires { ⌜ (1 ≤ b) × (b ≤ 8) ⌝ }
-    ensures { λ r. ⌜ r ≡ build 16 (λ i. v / 2 ^ passedBy b mask i % 2 ^ widthBy b mask i) ⌝ }
+    requires { (1 ≤ b) × (b ≤ 8) }
+    ensures { result ≡ build 16 (λ i. v / 2 ^ passed_by b mask i % 2 ^ width_by b mask i) }
 {
     let mut w = v;
     let mut m = mask;

@@ -1,35 +1,34 @@
 // Bits of lent bytes, lowest first: the core over a slice and a place, and a reader that holds both.
+ghost use Rattle.std.specs.Prelude.{◌≡◌, ◌+◌, ◌*◌, ◌/◌, ◌%◌, ◌^◌, ◌<◌, ◌≤◌, get_or};
+ghost use Rattle.rules.specs.Bits.{refuses, bits_said, read_verdict, place_after_lem};
+ghost use Rattle.bc7_held.specs.bits.Held.{ReadsBits};
+
 use rules::Bits;
-ghost use mathlib.Core.Path.{_≡_};
-ghost use Prim.Native.Nat.{_+_, _*_, _/_, _%_, _^_, _<_, _≤_};
-ghost use lib.ListN.{getD};
-ghost use Rattle·rules.specs.Bits.{refuses, bitsSaid, readVerdict, placeAfter};
-ghost use Rattle·bc7_held·specs.specs.bits.Held.{ReadsBits};
 
 fn wide(b: u8) -> u32
-    ensures { λ r. ⌜ (r ≡ b) × (r < 256) ⌝ }
+    ensures { (result ≡ b) × (result < 256) }
 {
     b as u32
 }
 
 // The byte at i, or 0 past the end.
 fn byte_or_0(s: &[u8], i: usize) -> u32
-    ensures { λ r. ⌜ (r ≡ getD (now (s .entry)) i 0) × (r < 256) ⌝ }
+    ensures { (result ≡ get_or s.now i 0) × (result < 256) }
 {
     if i < s.len() { wide(s[i]) } else { 0 }
 }
 
 // n bits of v from bit i on.
 fn part(v: u32, i: u32, n: u32) -> u8
-    requires { ⌜ (i < 8) × (n ≤ 8) ⌝ }
-    ensures { λ r. ⌜ r ≡ v / 2 ^ i % 2 ^ n ⌝ }
+    requires { (i < 8) × (n ≤ 8) }
+    ensures { result ≡ v / 2 ^ i % 2 ^ n }
 {
     ((v >> i) % (1 << n)) as u8
 }
 
 // Whether a read of n bits at the place is refused.
 pub fn refused(s: &[u8], place: usize, n: usize) -> bool
-    ensures { λ r. ⌜ r ≡ refuses (now (s .entry)) place n ⌝ }
+    ensures { result ≡ refuses s.now place n }
 {
     if 8 < n {
         return true;
@@ -45,7 +44,7 @@ pub fn refused(s: &[u8], place: usize, n: usize) -> bool
 
 // The n bits at the place.
 pub fn bits_at(s: &[u8], place: usize, n: usize) -> Bits
-    ensures { λ r. ⌜ bitsSaid r ≡ readVerdict (now (s .entry)) place n ⌝ }
+    ensures { bits_said result ≡ read_verdict s.now place n }
 {
     if refused(s, place, n) {
         return Bits::Refused;
@@ -59,7 +58,7 @@ pub fn bits_at(s: &[u8], place: usize, n: usize) -> Bits
 
 // Where the place is after that read: kept where it is refused.
 pub fn place_after(s: &[u8], place: usize, n: usize) -> usize
-    ensures { λ r. ⌜ r ≡ placeAfter (now (s .entry)) place n ⌝ }
+    ensures { result ≡ place_after_lem s.now place n }
 {
     if refused(s, place, n) {
         return place;
@@ -68,6 +67,7 @@ pub fn place_after(s: &[u8], place: usize, n: usize) -> usize
 }
 
 // A bit reader: it borrows the bytes, and holds the place of the next bit.
+#[derive(Clone, Copy)]
 pub struct BitReader<'a> {
     pub src: &'a [u8],
     pub place: usize,
@@ -75,21 +75,21 @@ pub struct BitReader<'a> {
 
 // A reader at the first bit.
 pub fn new<'a>(src: &'a [u8]) -> BitReader<'a>
-    ensures { λ r. ⌜ (r .src ≡ src .entry) × (r .place ≡ 0) ⌝ }
+    ensures { (result.src ≡ src.entry) × (result.place ≡ 0) }
 {
     BitReader { src, place: 0 }
 }
 
 // The place of the next bit.
 pub fn place<'a>(r: BitReader<'a>) -> usize
-    ensures { λ n. ⌜ n ≡ r .entry .place ⌝ }
+    ensures { result ≡ r.entry.place }
 {
     r.place
 }
 
 // The next n bits, and the place moves past them; where that is refused the place is kept.
 pub fn read<'s, 'a>(r: &'s mut BitReader<'a>, n: usize) -> Bits
-    ensures { λ b. ⌜ ReadsBits (now (r .entry)) n b (now (r .exit)) ⌝ }
+    ensures { ReadsBits r.old n result r.new }
 {
     let src = r.src;
     let at = r.place;
@@ -99,6 +99,7 @@ pub fn read<'s, 'a>(r: &'s mut BitReader<'a>, n: usize) -> Bits
 }
 
 // What a read has found, and where the reader stands after it.
+#[derive(Clone, Copy)]
 pub struct Found {
     pub bits: Bits,
     pub place: usize,
@@ -106,7 +107,7 @@ pub struct Found {
 
 // One read of n bits by a reader that is made for it, at a place.
 pub fn read_at(src: &[u8], at: usize, n: usize) -> Found
-    ensures { λ f. ⌜ (bitsSaid (f .bits) ≡ readVerdict (now (src .entry)) at n) × (f .place ≡ placeAfter (now (src .entry)) at n) ⌝ }
+    ensures { (bits_said result.bits ≡ read_verdict src.now at n) × (result.place ≡ place_after_lem src.now at n) }
 {
     let mut r = BitReader { src, place: at };
     let bits = read(&mut r, n);

@@ -1,33 +1,33 @@
 // A whole BC7 block through the bit reader: sixteen reads of eight bits. It shows what the fast reader shows, and takes longer.
+#![tactic(auto)]
+
 pub mod bits;
+
+ghost use Rattle.std.specs.Prelude.{◌≡◌, false, ◌+◌, ◌*◌, ◌^◌, ◌<◌, ◌≤◌, length};
+ghost use Rattle.rules.specs.Bits.{lacks, refuses, field_at};
+ghost use Rattle.bc7_held.specs.Sixteen.{block_from_lem};
 
 use bc7::rest::Rest;
 use bits::BitReader;
-use rules::Answer;
-use rules::Bits;
-ghost use mathlib.Core.Path.{_≡_};
-ghost use mathlib.Core.Bool.{false};
-ghost use Prim.Native.Nat.{_+_, _*_, _^_, _<_, _≤_};
-ghost use lib.ListN.{length};
-ghost use Rattle·rules.specs.Bits.{lacks, refuses, fieldAt};
-ghost use Rattle·bc7_held·specs.specs.Sixteen.{blockFrom};
+use rules::{Answer, Bits};
 
 // The pixels of a block, or why there are none.
+#[derive(Clone, Copy)]
 pub struct Sixteen {
     pub answer: Answer,
     pub pixels: [u32; 16],
 }
 
 fn wide(b: u8) -> u64
-    ensures { λ r. ⌜ (r ≡ b) × (r < 256) ⌝ }
+    ensures { (result ≡ b) × (result < 256) }
 {
     b as u64
 }
 
 // Eight bits at a place that has them.
 fn byte_at(s: &[u8], place: usize) -> u64
-    requires { ⌜ refuses (now s) place 8 ≡ false ⌝ }
-    ensures { λ r. ⌜ (r ≡ fieldAt (now (s .entry)) place 8) × (r < 256) ⌝ }
+    requires { refuses s.now place 8 ≡ false }
+    ensures { (result ≡ field_at s.now place 8) × (result < 256) }
 {
     let found = bits::read_at(s, place, 8);
     let got = found.bits;
@@ -39,8 +39,8 @@ fn byte_at(s: &[u8], place: usize) -> u64
 
 // Four times eight.
 fn four_at(s: &[u8], place: usize) -> u64
-    requires { ⌜ (place + 32 ≤ length (now s) * 8) × (place + 32 < 2 ^ 64) ⌝ }
-    ensures { λ r. ⌜ (r ≡ fieldAt (now (s .entry)) place 32) × (r < 4294967296) ⌝ }
+    requires { (place + 32 ≤ length s.now * 8) × (place + 32 < 2 ^ 64) }
+    ensures { (result ≡ field_at s.now place 32) × (result < 4294967296) }
 {
     let a = byte_at(s, place);
     let b = byte_at(s, place + 8);
@@ -51,8 +51,8 @@ fn four_at(s: &[u8], place: usize) -> u64
 
 // Eight times eight.
 fn word_at(s: &[u8], place: usize) -> u64
-    requires { ⌜ (place + 64 ≤ length (now s) * 8) × (place + 64 < 2 ^ 64) ⌝ }
-    ensures { λ r. ⌜ r ≡ fieldAt (now (s .entry)) place 64 ⌝ }
+    requires { (place + 64 ≤ length s.now * 8) × (place + 64 < 2 ^ 64) }
+    ensures { result ≡ field_at s.now place 64 }
 {
     let lo = four_at(s, place);
     let hi = four_at(s, place + 32);
@@ -61,7 +61,7 @@ fn word_at(s: &[u8], place: usize) -> u64
 
 // Whether a block's bits are past the lent bytes.
 fn missing(s: &[u8], place: usize) -> bool
-    ensures { λ r. ⌜ r ≡ lacks (now (s .entry)) place 128 ⌝ }
+    ensures { result ≡ lacks s.now place 128 }
 {
     if 18446744073709551615 - place < 128 {
         return true;
@@ -71,7 +71,7 @@ fn missing(s: &[u8], place: usize) -> bool
 
 // The block that begins at a place of the bytes.
 pub fn block_from(s: &[u8], place: usize) -> Sixteen
-    ensures { λ r. ⌜ r ≡ blockFrom (now (s .entry)) place ⌝ }
+    ensures { result ≡ block_from_lem s.now place }
 {
     if missing(s, place) {
         return Sixteen {
@@ -89,14 +89,14 @@ pub fn block_from(s: &[u8], place: usize) -> Sixteen
 
 // The block that a reader stands at.
 pub fn block_of<'a>(r: BitReader<'a>) -> Sixteen
-    ensures { λ t. ⌜ t ≡ blockFrom (now (r .entry .src)) (r .entry .place) ⌝ }
+    ensures { result ≡ block_from_lem r.entry.src.now r.entry.place }
 {
     block_from(r.src, r.place)
 }
 
 // The block at the first bit, through a reader that is made for it.
 pub fn first_block(s: &[u8]) -> Sixteen
-    ensures { λ t. ⌜ t ≡ blockFrom (now (s .entry)) 0 ⌝ }
+    ensures { result ≡ block_from_lem s.now 0 }
 {
     block_of(bits::new(s))
 }

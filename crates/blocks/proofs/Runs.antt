@@ -1,23 +1,23 @@
 -- Runs of a picture's blocks: one after another, from other bytes that are the same where they are looked at, and as a list that is
 -- painted by a test.
 -- Assumes nothing.
-use mathlib.Core.Path.{_≡_, _∙_, refl, sym, ap}
-use mathlib.Core.Bool.{Bool, true, false, cond, _&&_}
+use mathlib.Core.Path.{◌≡◌, ◌∙◌, refl, sym, ap}
+use mathlib.Core.Bool.{Bool, true, false, cond, ◌&&◌}
 use mathlib.Core.List.{List}
 use mathlib.Core.Logic.{inl, inr}
-use Prim.Native.Nat.{ℕ, _%_, _<_, _≤_}
+use Prim.Native.Nat.{ℕ, ◌%◌, ◌<◌, ◌≤◌}
 use native.Mathlib.Omega.{arith}
-use native.Mathlib.Decide.{decLt}
+use native.Mathlib.Decide.{dec_lt}
 use lib.Dec.{T, leb, ltb, leb→le, le→leb, ltb→lt, lt→ltb}
-use lib.ListN.{length, getD, List·getD-eq-default}
-use Rattle·rules.specs.Pixel.{Shows}
-use Rattle·rules.specs.Places.{inside, blockAt, column, row, pixelBy, painted}
-use Rattle·rules.specs.Pieces.{inRun}
-use Rattle·rules.specs.declared.Picture.{Picture}
-use Rattle·laws.specs.Painted.{Painted}
-use Rattle·laws.proofs.Paint.{said, also, is-painted, length-painted, getD-painted}
-use Rattle·pixel.specs.place.Tile.{Room}
-use Rattle·blocks·specs.specs.Run.{InRun}
+use lib.ListN.{length, get_or, get_or-eq_default}
+use Rattle.rules.specs.Pixel.{Shows}
+use Rattle.rules.specs.Places.{inside, block_at, column, row, pixel_by, painted}
+use Rattle.rules.specs.Pieces.{in_run}
+use Rattle.rules.specs.declared.Picture.{Picture}
+use Rattle.laws.specs.Painted.{Painted}
+use Rattle.laws.proofs.Paint.{said, also, is_painted, length_painted, get_d_painted}
+use Rattle.pixel.specs.place.Tile.{Room}
+use Rattle.blocks.specs.Run.{InRun}
 
 -- both of two tests
 both : (a b : Bool) → T a → T b → T (a && b)
@@ -43,70 +43,70 @@ left false x y h = refl
 
 module _ (pic : Picture) where
   -- the run as a test
-  pub tested : (a b k : ℕ) → T (inRun pic a b k) → InRun pic a b k
+  pub tested : (a b k : ℕ) → T (in_run pic a b k) → InRun pic a b k
   tested a b k t =
-      let r = two (inside pic k) (leb a (blockAt pic k) && ltb (blockAt pic k) b) t in
+      let r = two (inside pic k) (leb a (block_at pic k) && ltb (block_at pic k) b) t in
       record {
-        within = one (inside pic k) (leb a (blockAt pic k) && ltb (blockAt pic k) b) t;
-        from = leb→le a (blockAt pic k) (one (leb a (blockAt pic k)) (ltb (blockAt pic k) b) r);
-        to = ltb→lt (blockAt pic k) b (two (leb a (blockAt pic k)) (ltb (blockAt pic k) b) r);
+        within = one (inside pic k) (leb a (block_at pic k) && ltb (block_at pic k) b) t;
+        from = leb→le a (block_at pic k) (one (leb a (block_at pic k)) (ltb (block_at pic k) b) r);
+        to = ltb→lt (block_at pic k) b (two (leb a (block_at pic k)) (ltb (block_at pic k) b) r);
       }
 
-  pub tests : (a b k : ℕ) → InRun pic a b k → T (inRun pic a b k)
+  pub tests : (a b k : ℕ) → InRun pic a b k → T (in_run pic a b k)
   tests a b k r =
-      both (inside pic k) (leb a (blockAt pic k) && ltb (blockAt pic k) b) (r .within)
-      (both (leb a (blockAt pic k)) (ltb (blockAt pic k) b) (le→leb a (blockAt pic k) (r .from)) (lt→ltb (blockAt pic k) b (r .to)))
+      both (inside pic k) (leb a (block_at pic k) && ltb (block_at pic k) b) r.within
+      (both (leb a (block_at pic k)) (ltb (block_at pic k) b) (le→leb a (block_at pic k) r.from) (lt→ltb (block_at pic k) b r.to))
 
-  pub run-painted : (a b : ℕ) (v : ℕ → ℕ) (old new : List ℕ) → Painted (InRun pic a b) v old new → new ≡ painted (inRun pic a b) v old
-  run-painted a b v old new p = is-painted (InRun pic a b) (inRun pic a b) v old new (tested a b) (tests a b) p
+  pub run_painted : (a b : ℕ) (v : ℕ → ℕ) (old new : List ℕ) → Painted (InRun pic a b) v old new → new ≡ painted (in_run pic a b) v old
+  run_painted a b v old new p = is_painted (InRun pic a b) (in_run pic a b) v old new (tested a b) (tests a b) p
 
   -- one run, and then the next, of an image whose element k belongs to pixel `at k`
-  pub two-runs-in : (at : ℕ → ℕ) (a b c : ℕ) (v : ℕ → ℕ) (old mid new : List ℕ) → a ≤ b → b ≤ c
+  pub two_runs_in : (at : ℕ → ℕ) (a b c : ℕ) (v : ℕ → ℕ) (old mid new : List ℕ) → a ≤ b → b ≤ c
       → Painted (λ k. InRun pic a b (at k)) v old mid
       → Painted (λ k. InRun pic b c (at k)) v mid new
       → Painted (λ k. InRun pic a c (at k)) v old new
-  two-runs-in at a b c v old mid new h i p q =
+  two_runs_in at a b c v old mid new h i p q =
       also (λ k. InRun pic a b (at k)) (λ k. InRun pic b c (at k)) (λ k. InRun pic a c (at k)) v old mid new p q
-      (λ k z. record { within = z .within; from = z .from; to = omega (arith, z .to) })
-      (λ k z. record { within = z .within; from = omega (arith, z .from); to = z .to })
+      (λ k z. record { within = z.within; from = z.from; to = omega (arith, z.to) })
+      (λ k z. record { within = z.within; from = omega (arith, z.from); to = z.to })
       (λ k z.
-      elim (decLt (blockAt pic (at k)) b) [
-        | yes m ↦ inl (record { within = z .within; from = z .from; to = m }, λ o. omega (arith, o .from, m))
-        | no m ↦ inr (record { within = z .within; from = omega (arith, m); to = z .to })
+      elim (dec_lt (block_at pic (at k)) b) [
+        | yes m ↦ inl (record { within = z.within; from = z.from; to = m }, λ o. omega (arith, o.from, m))
+        | no m ↦ inr (record { within = z.within; from = omega (arith, m); to = z.to })
       ])
 
-  pub two-runs : (a b c : ℕ) (v : ℕ → ℕ) (old mid new : List ℕ) → a ≤ b → b ≤ c
+  pub two_runs : (a b c : ℕ) (v : ℕ → ℕ) (old mid new : List ℕ) → a ≤ b → b ≤ c
       → Painted (InRun pic a b) v old mid
       → Painted (InRun pic b c) v mid new
       → Painted (InRun pic a c) v old new
-  two-runs = two-runs-in (λ k. k)
+  two_runs = two_runs_in (λ k. k)
 
   -- the same, from other bytes that are equal where they are looked at
-  pub other-bytes : (shows : Shows) (a b : ℕ) (g h : ℕ → List ℕ) (old new : List ℕ)
+  pub other_bytes : (shows : Shows) (a b : ℕ) (g h : ℕ → List ℕ) (old new : List ℕ)
       → ((n : ℕ) → a ≤ n → n < b → g n ≡ h n)
-      → Painted (InRun pic a b) (pixelBy shows g pic) old new
-      → Painted (InRun pic a b) (pixelBy shows h pic) old new
-  other-bytes shows a b g h old new e p =
-      said (InRun pic a b) (InRun pic a b) (pixelBy shows g pic) (pixelBy shows h pic) old new p (λ k z. z) (λ k z. z)
-      (λ k z. ap (λ (l : List ℕ). shows l (column pic k % 4) (row pic k % 4)) (e (blockAt pic k) (z .from) (z .to)))
+      → Painted (InRun pic a b) (pixel_by shows g pic) old new
+      → Painted (InRun pic a b) (pixel_by shows h pic) old new
+  other_bytes shows a b g h old new e p =
+      said (InRun pic a b) (InRun pic a b) (pixel_by shows g pic) (pixel_by shows h pic) old new p (λ k z. z) (λ k z. z)
+      (λ k z. ap (λ (l : List ℕ). shows l (column pic k % 4) (row pic k % 4)) (e (block_at pic k) z.from z.to))
 
   -- what a list that is painted by the test holds, where it has room for the picture
-  module _ (a b : ℕ) (v : ℕ → ℕ) (old new : List ℕ) (room : Room pic (length old)) (e : new ≡ painted (inRun pic a b) v old) where
-    at : (k : ℕ) → k < length old → getD new k 0 ≡ cond (inRun pic a b k) (v k) (getD old k 0)
-    at k h = ap (λ (l : List ℕ). getD l k 0) e ∙ getD-painted (inRun pic a b) v old k h
+  module _ (a b : ℕ) (v : ℕ → ℕ) (old new : List ℕ) (room : Room pic (length old)) (e : new ≡ painted (in_run pic a b) v old) where
+    at : (k : ℕ) → k < length old → get_or new k 0 ≡ cond (in_run pic a b k) (v k) (get_or old k 0)
+    at k h = ap (λ (l : List ℕ). get_or l k 0) e ∙ get_d_painted (in_run pic a b) v old k h
 
     same : length new ≡ length old
-    same = ap length e ∙ length-painted (inRun pic a b) v old
+    same = ap length e ∙ length_painted (in_run pic a b) v old
 
-    pub was-painted : Painted (InRun pic a b) v old new
-    was-painted =
+    pub was_painted : Painted (InRun pic a b) v old new
+    was_painted =
         record {
-          hit = λ k r. at k (room .reach k (r .within)) ∙ taken (inRun pic a b k) (v k) (getD old k 0) (tests a b k r);
+          hit = λ k r. at k (room.reach k r.within) ∙ taken (in_run pic a b k) (v k) (get_or old k 0) (tests a b k r);
           miss =
               λ k n.
-              elim (decLt k (length old)) [
-                | yes h ↦ at k h ∙ left (inRun pic a b k) (v k) (getD old k 0) (λ t. n (tested a b k t))
-                | no h ↦ List·getD-eq-default new 0 (omega (arith, h, same)) ∙ sym (List·getD-eq-default old 0 (omega (arith, h)))
+              elim (dec_lt k (length old)) [
+                | yes h ↦ at k h ∙ left (in_run pic a b k) (v k) (get_or old k 0) (λ t. n (tested a b k t))
+                | no h ↦ get_or-eq_default new 0 (omega (arith, h, same)) ∙ sym (get_or-eq_default old 0 (omega (arith, h)))
               ];
           same = same;
         }

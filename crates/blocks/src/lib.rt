@@ -1,53 +1,49 @@
 // The formats: blocks that stand beside each other in a picture, painted one after another, and the sixteen pixels of one block. Each
 // kind of block has one caller, its own loop, so that its pixels go from the registers into the image (docs/PERFORMANCE.md); one block
 // alone is a picture of 4 by 4.
-use bc::bc1;
-use bc::bc2;
-use bc::bc3;
-use bc::rgtc;
+#![tactic(auto)]
+
+ghost use Rattle.std.specs.Prelude.{◌≡◌, true, false, ℕ, ◌+◌, ◌*◌, ◌≤◌, length, get_or};
+ghost use Rattle.rules.specs.Notation.{byte};
+ghost use Rattle.rules.specs.Places.{tile, bytes_of};
+ghost use Rattle.rules.specs.Channels.{red_pixel, red_green_pixel};
+ghost use Rattle.rules.specs.Desktop.{bc1_pixel, bc3_pixel, bc2_pixel};
+ghost use Rattle.rules.specs.Rgtc.{bc4_pixel, bc5_pixel};
+ghost use Rattle.rules.specs.Bc7.{bc7_pixel};
+ghost use Rattle.rules.specs.Formats.{size_of, shows_of};
+ghost use Rattle.laws.specs.Painted.{Painted};
+ghost use Rattle.tables.specs.consts.Tables.{signed_steps};
+ghost use Rattle.etc_alpha.specs.channel.Alphas.{eight_alphas_lem};
+ghost use Rattle.pixel.specs.place.Tile.{InTile, Room, number_in};
+ghost use Rattle.blocks.specs.Run.{Whole, PaintsRow};
+ghost use Rattle.blocks.specs.Colour.{colour_size_lem, colours_from_lem, colour_shows};
+
+use bc::{bc1, bc2, bc3, rgtc};
 use eac::values;
 use etc_alpha::channel;
 use etc_colour::etc2;
 use pixel::place;
-use rules::Format;
-use rules::Picture;
+use rules::{Format, Picture};
 use tables::consts;
-ghost use mathlib.Core.Path.{_≡_};
-ghost use mathlib.Core.Bool.{true, false};
-ghost use Prim.Native.Nat.{ℕ, _+_, _*_, _≤_};
-ghost use lib.ListN.{length, getD};
-ghost use Rattle·rules.specs.Notation.{byte};
-ghost use Rattle·rules.specs.Places.{tile, bytesOf};
-ghost use Rattle·rules.specs.Channels.{redPixel, redGreenPixel};
-ghost use Rattle·rules.specs.Desktop.{bc1Pixel, bc3Pixel, bc2Pixel};
-ghost use Rattle·rules.specs.Rgtc.{bc4Pixel, bc5Pixel};
-ghost use Rattle·rules.specs.Bc7.{bc7Pixel};
-ghost use Rattle·rules.specs.Formats.{sizeOf, showsOf};
-ghost use Rattle·laws.specs.Painted.{Painted};
-ghost use Rattle·tables.specs.consts.Tables.{signedSteps};
-ghost use Rattle·etc_alpha.specs.channel.Alphas.{eightAlphas};
-ghost use Rattle·pixel.specs.place.Tile.{InTile, Room, numberIn};
-ghost use Rattle·blocks·specs.specs.Run.{Whole, PaintsRow};
-ghost use Rattle·blocks·specs.specs.Colour.{colourSize, coloursFrom, colourShows};
 
 // How many bytes a block of colours has, with an alpha half before them and without.
 fn colour_size(alpha: bool) -> usize
-    ensures { λ r. ⌜ (r ≡ colourSize alpha) × (r ≤ 16) ⌝ }
+    ensures { (result ≡ colour_size_lem alpha) × (result ≤ 16) }
 {
     if alpha { 16 } else { 8 }
 }
 
 // Where its colours begin.
 fn colours_from(alpha: bool) -> usize
-    ensures { λ r. ⌜ (r ≡ coloursFrom alpha) × (r + 8 ≡ colourSize alpha) ⌝ }
+    ensures { (result ≡ colours_from_lem alpha) × (result + 8 ≡ colour_size_lem alpha) }
 {
     if alpha { 8 } else { 0 }
 }
 
 // The eight alphas of a block that has an alpha half. They are made before its colours, which stay in registers then.
 fn alphas_where(alpha: bool, d: &[u8]) -> [i16; 8]
-    requires { ⌜ 8 ≤ length (now d) ⌝ }
-    ensures { λ r. ⌜ (alpha ≡ true → r ≡ eightAlphas (byte (now (d .entry)) 0) (byte (now (d .entry)) 1)) ⌝ }
+    requires { 8 ≤ length d.now }
+    ensures { alpha ≡ true → result ≡ eight_alphas_lem (byte d.now 0) (byte d.now 1) }
 {
     if alpha {
         channel::eight_alphas(d[0], d[1])
@@ -68,11 +64,11 @@ fn paint_colour(
     pic: Picture,
     image: &mut [u32],
 )
-    requires { ⌜ (colourSize alpha ≤ length (now d)) × (now table ≡ signedSteps) ⌝ }
-    requires { ⌜ (bx * 4 + 4 ≤ pic .width) × (by * 4 + 4 ≤ pic .height) × Room pic (length (now image)) ⌝ }
-    ensures { λ _. ⌜ Painted (InTile pic bx by)
-        (λ (k : ℕ). getD (tile (colourShows plain punch alpha) (now (d .entry))) (numberIn pic k) 0)
-        (now (image .entry)) (now (image .exit)) ⌝ }
+    requires alpha_in_bounds { (colour_size_lem alpha ≤ length d.now) × (table.now ≡ signed_steps) }
+    requires bx_bound { (bx * 4 + 4 ≤ pic.width) × (by * 4 + 4 ≤ pic.height) × Room pic (length image.old) }
+    ensures { Painted (InTile pic bx by)
+        (λ (k : ℕ). get_or (tile (colour_shows plain punch alpha) d.now) (number_in pic k) 0)
+        image.old image.new }
 {
     let at = colours_from(alpha);
     let eight = alphas_where(alpha, d);
@@ -97,9 +93,9 @@ fn run_colour(
     pic: Picture,
     image: &mut [u32],
 )
-    requires { ⌜ (n * colourSize alpha ≤ length (now «data»)) × Whole pic bx by n (length (now image)) ⌝ }
-    ensures { λ _. ⌜ PaintsRow (colourShows plain punch alpha) (colourSize alpha) (now («data» .entry)) pic bx by n
-        (now (image .entry)) (now (image .exit)) ⌝ }
+    requires { (n * colour_size_lem alpha ≤ length «data».now) × Whole pic bx by n (length image.old) }
+    ensures { PaintsRow (colour_shows plain punch alpha) (colour_size_lem alpha) «data».now pic bx by n
+        image.old image.new }
 {
     let table = consts::modifiers();
     let size = colour_size(alpha);
@@ -132,8 +128,8 @@ fn run_red(
     pic: Picture,
     image: &mut [u32],
 )
-    requires { ⌜ (n * 8 ≤ length (now «data»)) × Whole pic bx by n (length (now image)) ⌝ }
-    ensures { λ _. ⌜ PaintsRow (redPixel signed) 8 (now («data» .entry)) pic bx by n (now (image .entry)) (now (image .exit)) ⌝ }
+    requires { (n * 8 ≤ length «data».now) × Whole pic bx by n (length image.old) }
+    ensures { PaintsRow (red_pixel signed) 8 «data».now pic bx by n image.old image.new }
 {
     let table = consts::alpha_steps();
     let span = values::span_of(signed);
@@ -162,8 +158,8 @@ fn run_red_green(
     pic: Picture,
     image: &mut [u32],
 )
-    requires { ⌜ (n * 16 ≤ length (now «data»)) × Whole pic bx by n (length (now image)) ⌝ }
-    ensures { λ _. ⌜ PaintsRow (redGreenPixel signed) 16 (now («data» .entry)) pic bx by n (now (image .entry)) (now (image .exit)) ⌝ }
+    requires { (n * 16 ≤ length «data».now) × Whole pic bx by n (length image.old) }
+    ensures { PaintsRow (red_green_pixel signed) 16 «data».now pic bx by n image.old image.new }
 {
     let table = consts::alpha_steps();
     let span = values::span_of(signed);
@@ -192,8 +188,8 @@ fn run_bc1(
     pic: Picture,
     image: &mut [u32],
 )
-    requires { ⌜ (n * 8 ≤ length (now «data»)) × Whole pic bx by n (length (now image)) ⌝ }
-    ensures { λ _. ⌜ PaintsRow (bc1Pixel false alpha) 8 (now («data» .entry)) pic bx by n (now (image .entry)) (now (image .exit)) ⌝ }
+    requires { (n * 8 ≤ length «data».now) × Whole pic bx by n (length image.old) }
+    ensures { PaintsRow (bc1_pixel false alpha) 8 «data».now pic bx by n image.old image.new }
 {
     let mut i: usize = 0;
     while i < n {
@@ -212,8 +208,8 @@ fn run_bc1(
 
 // Paints n blocks of BC3 beside each other, from column bx on in row by.
 fn run_bc3(data: &[u8], n: usize, bx: usize, by: usize, pic: Picture, image: &mut [u32])
-    requires { ⌜ (n * 16 ≤ length (now «data»)) × Whole pic bx by n (length (now image)) ⌝ }
-    ensures { λ _. ⌜ PaintsRow bc3Pixel 16 (now («data» .entry)) pic bx by n (now (image .entry)) (now (image .exit)) ⌝ }
+    requires { (n * 16 ≤ length «data».now) × Whole pic bx by n (length image.old) }
+    ensures { PaintsRow bc3_pixel 16 «data».now pic bx by n image.old image.new }
 {
     let mut i: usize = 0;
     while i < n {
@@ -226,8 +222,8 @@ fn run_bc3(data: &[u8], n: usize, bx: usize, by: usize, pic: Picture, image: &mu
 
 // Paints n blocks of BC7 beside each other, from column bx on in row by.
 fn run_bc7(data: &[u8], n: usize, bx: usize, by: usize, pic: Picture, image: &mut [u32])
-    requires { ⌜ (n * 16 ≤ length (now «data»)) × Whole pic bx by n (length (now image)) ⌝ }
-    ensures { λ _. ⌜ PaintsRow bc7Pixel 16 (now («data» .entry)) pic bx by n (now (image .entry)) (now (image .exit)) ⌝ }
+    requires { (n * 16 ≤ length «data».now) × Whole pic bx by n (length image.old) }
+    ensures { PaintsRow bc7_pixel 16 «data».now pic bx by n image.old image.new }
 {
     let mut i: usize = 0;
     while i < n {
@@ -240,8 +236,8 @@ fn run_bc7(data: &[u8], n: usize, bx: usize, by: usize, pic: Picture, image: &mu
 
 // Paints n blocks of BC2 beside each other, from column bx on in row by.
 fn run_bc2(data: &[u8], n: usize, bx: usize, by: usize, pic: Picture, image: &mut [u32])
-    requires { ⌜ (n * 16 ≤ length (now «data»)) × Whole pic bx by n (length (now image)) ⌝ }
-    ensures { λ _. ⌜ PaintsRow bc2Pixel 16 (now («data» .entry)) pic bx by n (now (image .entry)) (now (image .exit)) ⌝ }
+    requires { (n * 16 ≤ length «data».now) × Whole pic bx by n (length image.old) }
+    ensures { PaintsRow bc2_pixel 16 «data».now pic bx by n image.old image.new }
 {
     let mut i: usize = 0;
     while i < n {
@@ -262,8 +258,8 @@ fn run_bc4(
     pic: Picture,
     image: &mut [u32],
 )
-    requires { ⌜ (n * 8 ≤ length (now «data»)) × Whole pic bx by n (length (now image)) ⌝ }
-    ensures { λ _. ⌜ PaintsRow (bc4Pixel signed) 8 (now («data» .entry)) pic bx by n (now (image .entry)) (now (image .exit)) ⌝ }
+    requires { (n * 8 ≤ length «data».now) × Whole pic bx by n (length image.old) }
+    ensures { PaintsRow (bc4_pixel signed) 8 «data».now pic bx by n image.old image.new }
 {
     let mut i: usize = 0;
     while i < n {
@@ -290,8 +286,8 @@ fn run_bc5(
     pic: Picture,
     image: &mut [u32],
 )
-    requires { ⌜ (n * 16 ≤ length (now «data»)) × Whole pic bx by n (length (now image)) ⌝ }
-    ensures { λ _. ⌜ PaintsRow (bc5Pixel signed) 16 (now («data» .entry)) pic bx by n (now (image .entry)) (now (image .exit)) ⌝ }
+    requires { (n * 16 ≤ length «data».now) × Whole pic bx by n (length image.old) }
+    ensures { PaintsRow (bc5_pixel signed) 16 «data».now pic bx by n image.old image.new }
 {
     let mut i: usize = 0;
     while i < n {
@@ -310,8 +306,8 @@ fn run_bc5(
 
 // Paints n blocks of any format beside each other, from column bx on in row by.
 pub fn run(f: Format, data: &[u8], n: usize, bx: usize, by: usize, pic: Picture, image: &mut [u32])
-    requires { ⌜ (n * sizeOf f ≤ length (now «data»)) × Whole pic bx by n (length (now image)) ⌝ }
-    ensures { λ _. ⌜ PaintsRow (showsOf f) (sizeOf f) (now («data» .entry)) pic bx by n (now (image .entry)) (now (image .exit)) ⌝ }
+    requires { (n * size_of f ≤ length «data».now) × Whole pic bx by n (length image.old) }
+    ensures { PaintsRow (shows_of f) (size_of f) «data».now pic bx by n image.old image.new }
 {
     match f {
         Format::Etc1 => run_colour(true, false, false, data, n, bx, by, pic, image),
@@ -336,8 +332,8 @@ pub fn run(f: Format, data: &[u8], n: usize, bx: usize, by: usize, pic: Picture,
 
 // The sixteen pixels of block n of the data, row by row. Other bytes than the block's own are not read.
 pub fn block_at(f: Format, data: &[u8], n: usize) -> [u32; 16]
-    requires { ⌜ n * sizeOf f + sizeOf f ≤ length (now «data») ⌝ }
-    ensures { λ r. ⌜ r ≡ tile (showsOf f) (bytesOf (sizeOf f) (now («data» .entry)) n) ⌝ }
+    requires { n * size_of f + size_of f ≤ length «data».now }
+    ensures { result ≡ tile (shows_of f) (bytes_of (size_of f) «data».now n) }
 {
     let s = checks::size(f);
     let at = n * s;

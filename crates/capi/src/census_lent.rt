@@ -1,9 +1,9 @@
 // Counts handed over in a room that a caller from C has lent.
-ghost use Rattle·capi·specs.specs.census_lent.Lays.{Lays};
+ghost use Rattle.capi.specs.census_lent.Lays.{Lays};
 
 // Lays counts into the room lent for them, where there is enough.
 pub fn lay(counts: &[usize], room: &mut [usize]) -> u32
-    ensures { λ r. ⌜ Lays (now (counts .entry)) (now (room .entry)) r (now (room .exit)) ⌝ }
+    ensures { Lays counts.now room.old result room.new }
 {
     if room.len() < counts.len() {
         return 3;

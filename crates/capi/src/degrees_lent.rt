@@ -1,15 +1,14 @@
 // The reader of degrees for callers from C, to whom no enum can cross: a legend is the number of its kind and three floats, and a reading
 // goes into three floats that are lent.
-use rules::Legend;
-use rules::Reply;
-ghost use mathlib.Core.Path.{_≡_};
-ghost use lib.ListN.{getD};
-ghost use Rattle·rules.specs.Degrees.{degreesSaid};
-ghost use Rattle·capi·specs.specs.degrees_lent.Lent.{legendAt, valueOr, DegreesTold};
+ghost use Rattle.std.specs.Prelude.{◌≡◌, get_or};
+ghost use Rattle.rules.specs.Degrees.{degrees_said};
+ghost use Rattle.capi.specs.degrees_lent.Lent.{legend_at_lem, value_or, DegreesTold};
+
+use rules::{Legend, Reply};
 
 // The legend of a kind's number. What is no kind is a level that is not a number, which the reader refuses.
 fn legend_at(kind: usize, low: f32, step: f32, second: f32) -> Legend
-    ensures { λ r. ⌜ r ≡ legendAt kind low step second ⌝ }
+    ensures { result ≡ legend_at_lem kind low step second }
 {
     match kind {
         0 => Legend::Level(low),
@@ -28,10 +27,10 @@ fn legend_at(kind: usize, low: f32, step: f32, second: f32) -> Legend
 
 // The number of an answer. The values of a reading are written, and an answer that is none writes none.
 fn handed(reply: Reply, predicted: &mut f32, seen: &mut f32, difference: &mut f32) -> u32
-    ensures { λ r. ⌜ (r ≡ getD (degreesSaid reply) 0 0)
-        × (now (predicted .exit) ≡ valueOr (λ k. k .predicted) reply (now (predicted .entry)))
-        × (now (seen .exit) ≡ valueOr (λ k. k .measured) reply (now (seen .entry)))
-        × (now (difference .exit) ≡ valueOr (λ k. k .difference) reply (now (difference .entry))) ⌝ }
+    ensures { (result ≡ get_or (degrees_said reply) 0 0)
+        × (predicted.new ≡ value_or (λ k. k.predicted) reply predicted.old)
+        × (seen.new ≡ value_or (λ k. k.measured) reply seen.old)
+        × (difference.new ≡ value_or (λ k. k.difference) reply difference.old) }
 {
     match reply {
         Reply::Read(reading) => {
@@ -61,19 +60,19 @@ pub fn read(
     seen: &mut f32,
     difference: &mut f32,
 ) -> u32
-    ensures { λ r. ⌜ DegreesTold
-        (legendAt kind low step second)
+    ensures { DegreesTold
+        (legend_at_lem kind low step second)
         named
         shown
         pixel
         measured
-        (now (predicted .entry))
-        (now (seen .entry))
-        (now (difference .entry))
-        r
-        (now (predicted .exit))
-        (now (seen .exit))
-        (now (difference .exit)) ⌝ }
+        predicted.old
+        seen.old
+        difference.old
+        result
+        predicted.new
+        seen.new
+        difference.new }
 {
     let legend = legend_at(kind, low, step, second);
     handed(

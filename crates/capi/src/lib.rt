@@ -1,57 +1,52 @@
-// The public readers of crates/readers under C names, for `rt staticlib`: a slice is a pointer and a length, and the answer is
+// The public readers of crates/readers under C names, for `rt lib`: a slice is a pointer and a length, and the answer is
 // document 01's number of it. Each owes what the reader that it calls owes, and has no requires; that a C caller's pointers are what
 // the types say, nothing can check. include/yalivucu.h tells a C programmer the same in words.
+#![tactic(auto)]
+
 mod census_lent;
 mod degrees_lent;
 mod pictures;
 mod pieces_lent;
 
+ghost use Rattle.std.specs.Prelude.{◌≡◌, true, false, length};
+ghost use Rattle.rules.specs.Places.{sized, pitched};
+ghost use Rattle.rules.specs.Readers.{ReadsPicture, ReadsStrict, ReadsOpaque, ReadsBlock, ReadsAlpha, ReadsChannel, ReplacesChannel};
+ghost use Rattle.rules.specs.Readers.{ChecksStrict, ChecksOpaque};
+ghost use Rattle.rules.specs.Census.{rgb_tests, rgba1_tests};
+ghost use Rattle.rules.specs.Guards.{in_range, opaque_only};
+ghost use Rattle.guard.specs.Viewers.{guard_of};
+ghost use Rattle.rules.specs.Whole.{ReadsWhole};
+ghost use Rattle.rules.specs.Sheets.{ReadsSheet};
+ghost use Rattle.rules.specs.Pieces.{Ends};
+ghost use Rattle.rules.specs.Checking.{Checks};
+ghost use Rattle.file.specs.lent.Lent.{FileTold, LevelTold};
+ghost use Rattle.rules.specs.Baking.{Bakes};
+ghost use Rattle.capi.specs.pieces_lent.Lent.{state_in_lem, StartLent, PieceLent};
+ghost use Rattle.capi.specs.degrees_lent.Lent.{legend_at_lem, DegreesTold};
+ghost use Rattle.capi.specs.Census.{CountsInto, OlderInto};
+ghost use Rattle.capi.specs.pictures.Told.{Told, block_or_lem};
+ghost use Rattle.capi.specs.Told.{HeadTold, WriterTold, BakingTold};
+
 use guard::Viewer;
-use rules::Answer;
-use rules::Format;
-use rules::Older;
-use rules::Picture;
-use rules::RgbCensus;
-use rules::Rgba1Census;
-use rules::Sheet;
-ghost use mathlib.Core.Path.{_≡_};
-ghost use mathlib.Core.Bool.{true, false};
-ghost use lib.ListN.{length};
-ghost use Rattle·rules.specs.Places.{sized, pitched};
-ghost use Rattle·rules.specs.Readers.{ReadsPicture, ReadsStrict, ReadsOpaque, ReadsBlock, ReadsAlpha, ReadsChannel, ReplacesChannel};
-ghost use Rattle·rules.specs.Readers.{ChecksStrict, ChecksOpaque};
-ghost use Rattle·rules.specs.Census.{rgbTests, rgba1Tests};
-ghost use Rattle·rules.specs.Guards.{inRange, opaqueOnly};
-ghost use Rattle·guard.specs.Viewers.{guardOf};
-ghost use Rattle·rules.specs.Whole.{ReadsWhole};
-ghost use Rattle·rules.specs.Sheets.{ReadsSheet};
-ghost use Rattle·rules.specs.Pieces.{Ends};
-ghost use Rattle·rules.specs.Checking.{Checks};
-ghost use Rattle·file.specs.lent.Lent.{FileTold, LevelTold};
-ghost use Rattle·rules.specs.Baking.{Bakes};
-ghost use Rattle·capi·specs.specs.pieces_lent.Lent.{stateIn, StartLent, PieceLent};
-ghost use Rattle·capi·specs.specs.degrees_lent.Lent.{legendAt, DegreesTold};
-ghost use Rattle·capi·specs.specs.Census.{CountsInto, OlderInto};
-ghost use Rattle·capi·specs.specs.pictures.Told.{Told, blockOr};
-ghost use Rattle·capi·specs.specs.Told.{HeadTold, WriterTold, BakingTold};
+use rules::{Answer, Format, Older, Picture, RgbCensus, Rgba1Census, Sheet};
 
 // Reads an ETC1 picture.
-#[no_mangle]
+#[unsafe(no_mangle)]
 pub extern "C" fn yalivucu_decode_etc1(
     data: &[u8],
     width: usize,
     height: usize,
     image: &mut [u32],
 ) -> u32
-    ensures { λ r. ⌜ Told
-        (λ a. ReadsPicture Format.Etc1 (now («data» .entry)) (sized width height) (now (image .entry)) a (now (image .exit)))
-        r ⌝ }
+    ensures { Told
+        (λ a. ReadsPicture Format.Etc1 «data».now (sized width height) image.old a image.new)
+        result }
 {
     pictures::read(Format::Etc1, data, width, height, width, image)
 }
 
 // The same of a picture with a pitch.
-#[no_mangle]
+#[unsafe(no_mangle)]
 pub extern "C" fn yalivucu_decode_etc1_pitched(
     data: &[u8],
     width: usize,
@@ -59,30 +54,30 @@ pub extern "C" fn yalivucu_decode_etc1_pitched(
     pitch: usize,
     image: &mut [u32],
 ) -> u32
-    ensures { λ r. ⌜ Told
-        (λ a. ReadsPicture Format.Etc1 (now («data» .entry)) (pitched width height pitch) (now (image .entry)) a (now (image .exit)))
-        r ⌝ }
+    ensures { Told
+        (λ a. ReadsPicture Format.Etc1 «data».now (pitched width height pitch) image.old a image.new)
+        result }
 {
     pictures::read(Format::Etc1, data, width, height, pitch, image)
 }
 
 // Reads an ETC2 RGB picture.
-#[no_mangle]
+#[unsafe(no_mangle)]
 pub extern "C" fn yalivucu_decode_etc2_rgb(
     data: &[u8],
     width: usize,
     height: usize,
     image: &mut [u32],
 ) -> u32
-    ensures { λ r. ⌜ Told
-        (λ a. ReadsPicture Format.Etc2Rgb (now («data» .entry)) (sized width height) (now (image .entry)) a (now (image .exit)))
-        r ⌝ }
+    ensures { Told
+        (λ a. ReadsPicture Format.Etc2Rgb «data».now (sized width height) image.old a image.new)
+        result }
 {
     pictures::read(Format::Etc2Rgb, data, width, height, width, image)
 }
 
 // The same of a picture with a pitch.
-#[no_mangle]
+#[unsafe(no_mangle)]
 pub extern "C" fn yalivucu_decode_etc2_rgb_pitched(
     data: &[u8],
     width: usize,
@@ -90,30 +85,30 @@ pub extern "C" fn yalivucu_decode_etc2_rgb_pitched(
     pitch: usize,
     image: &mut [u32],
 ) -> u32
-    ensures { λ r. ⌜ Told
-        (λ a. ReadsPicture Format.Etc2Rgb (now («data» .entry)) (pitched width height pitch) (now (image .entry)) a (now (image .exit)))
-        r ⌝ }
+    ensures { Told
+        (λ a. ReadsPicture Format.Etc2Rgb «data».now (pitched width height pitch) image.old a image.new)
+        result }
 {
     pictures::read(Format::Etc2Rgb, data, width, height, pitch, image)
 }
 
 // Reads an ETC2 RGBA1 picture.
-#[no_mangle]
+#[unsafe(no_mangle)]
 pub extern "C" fn yalivucu_decode_etc2_rgba1(
     data: &[u8],
     width: usize,
     height: usize,
     image: &mut [u32],
 ) -> u32
-    ensures { λ r. ⌜ Told
-        (λ a. ReadsPicture Format.Etc2Rgba1 (now («data» .entry)) (sized width height) (now (image .entry)) a (now (image .exit)))
-        r ⌝ }
+    ensures { Told
+        (λ a. ReadsPicture Format.Etc2Rgba1 «data».now (sized width height) image.old a image.new)
+        result }
 {
     pictures::read(Format::Etc2Rgba1, data, width, height, width, image)
 }
 
 // The same of a picture with a pitch.
-#[no_mangle]
+#[unsafe(no_mangle)]
 pub extern "C" fn yalivucu_decode_etc2_rgba1_pitched(
     data: &[u8],
     width: usize,
@@ -121,30 +116,30 @@ pub extern "C" fn yalivucu_decode_etc2_rgba1_pitched(
     pitch: usize,
     image: &mut [u32],
 ) -> u32
-    ensures { λ r. ⌜ Told
-        (λ a. ReadsPicture Format.Etc2Rgba1 (now («data» .entry)) (pitched width height pitch) (now (image .entry)) a (now (image .exit)))
-        r ⌝ }
+    ensures { Told
+        (λ a. ReadsPicture Format.Etc2Rgba1 «data».now (pitched width height pitch) image.old a image.new)
+        result }
 {
     pictures::read(Format::Etc2Rgba1, data, width, height, pitch, image)
 }
 
 // Reads an ETC2 RGBA8 picture.
-#[no_mangle]
+#[unsafe(no_mangle)]
 pub extern "C" fn yalivucu_decode_etc2_rgba8(
     data: &[u8],
     width: usize,
     height: usize,
     image: &mut [u32],
 ) -> u32
-    ensures { λ r. ⌜ Told
-        (λ a. ReadsPicture Format.Etc2Rgba8 (now («data» .entry)) (sized width height) (now (image .entry)) a (now (image .exit)))
-        r ⌝ }
+    ensures { Told
+        (λ a. ReadsPicture Format.Etc2Rgba8 «data».now (sized width height) image.old a image.new)
+        result }
 {
     pictures::read(Format::Etc2Rgba8, data, width, height, width, image)
 }
 
 // The same of a picture with a pitch.
-#[no_mangle]
+#[unsafe(no_mangle)]
 pub extern "C" fn yalivucu_decode_etc2_rgba8_pitched(
     data: &[u8],
     width: usize,
@@ -152,30 +147,30 @@ pub extern "C" fn yalivucu_decode_etc2_rgba8_pitched(
     pitch: usize,
     image: &mut [u32],
 ) -> u32
-    ensures { λ r. ⌜ Told
-        (λ a. ReadsPicture Format.Etc2Rgba8 (now («data» .entry)) (pitched width height pitch) (now (image .entry)) a (now (image .exit)))
-        r ⌝ }
+    ensures { Told
+        (λ a. ReadsPicture Format.Etc2Rgba8 «data».now (pitched width height pitch) image.old a image.new)
+        result }
 {
     pictures::read(Format::Etc2Rgba8, data, width, height, pitch, image)
 }
 
 // Reads an EAC R picture.
-#[no_mangle]
+#[unsafe(no_mangle)]
 pub extern "C" fn yalivucu_decode_eacr(
     data: &[u8],
     width: usize,
     height: usize,
     image: &mut [u32],
 ) -> u32
-    ensures { λ r. ⌜ Told
-        (λ a. ReadsPicture Format.EacR (now («data» .entry)) (sized width height) (now (image .entry)) a (now (image .exit)))
-        r ⌝ }
+    ensures { Told
+        (λ a. ReadsPicture Format.EacR «data».now (sized width height) image.old a image.new)
+        result }
 {
     pictures::read(Format::EacR, data, width, height, width, image)
 }
 
 // The same of a picture with a pitch.
-#[no_mangle]
+#[unsafe(no_mangle)]
 pub extern "C" fn yalivucu_decode_eacr_pitched(
     data: &[u8],
     width: usize,
@@ -183,30 +178,30 @@ pub extern "C" fn yalivucu_decode_eacr_pitched(
     pitch: usize,
     image: &mut [u32],
 ) -> u32
-    ensures { λ r. ⌜ Told
-        (λ a. ReadsPicture Format.EacR (now («data» .entry)) (pitched width height pitch) (now (image .entry)) a (now (image .exit)))
-        r ⌝ }
+    ensures { Told
+        (λ a. ReadsPicture Format.EacR «data».now (pitched width height pitch) image.old a image.new)
+        result }
 {
     pictures::read(Format::EacR, data, width, height, pitch, image)
 }
 
 // Reads a signed EAC R picture.
-#[no_mangle]
+#[unsafe(no_mangle)]
 pub extern "C" fn yalivucu_decode_eacr_signed(
     data: &[u8],
     width: usize,
     height: usize,
     image: &mut [u32],
 ) -> u32
-    ensures { λ r. ⌜ Told
-        (λ a. ReadsPicture Format.EacRSigned (now («data» .entry)) (sized width height) (now (image .entry)) a (now (image .exit)))
-        r ⌝ }
+    ensures { Told
+        (λ a. ReadsPicture Format.EacRSigned «data».now (sized width height) image.old a image.new)
+        result }
 {
     pictures::read(Format::EacRSigned, data, width, height, width, image)
 }
 
 // The same of a picture with a pitch.
-#[no_mangle]
+#[unsafe(no_mangle)]
 pub extern "C" fn yalivucu_decode_eacr_signed_pitched(
     data: &[u8],
     width: usize,
@@ -214,30 +209,30 @@ pub extern "C" fn yalivucu_decode_eacr_signed_pitched(
     pitch: usize,
     image: &mut [u32],
 ) -> u32
-    ensures { λ r. ⌜ Told
-        (λ a. ReadsPicture Format.EacRSigned (now («data» .entry)) (pitched width height pitch) (now (image .entry)) a (now (image .exit)))
-        r ⌝ }
+    ensures { Told
+        (λ a. ReadsPicture Format.EacRSigned «data».now (pitched width height pitch) image.old a image.new)
+        result }
 {
     pictures::read(Format::EacRSigned, data, width, height, pitch, image)
 }
 
 // Reads an EAC RG picture.
-#[no_mangle]
+#[unsafe(no_mangle)]
 pub extern "C" fn yalivucu_decode_eacrg(
     data: &[u8],
     width: usize,
     height: usize,
     image: &mut [u32],
 ) -> u32
-    ensures { λ r. ⌜ Told
-        (λ a. ReadsPicture Format.EacRg (now («data» .entry)) (sized width height) (now (image .entry)) a (now (image .exit)))
-        r ⌝ }
+    ensures { Told
+        (λ a. ReadsPicture Format.EacRg «data».now (sized width height) image.old a image.new)
+        result }
 {
     pictures::read(Format::EacRg, data, width, height, width, image)
 }
 
 // The same of a picture with a pitch.
-#[no_mangle]
+#[unsafe(no_mangle)]
 pub extern "C" fn yalivucu_decode_eacrg_pitched(
     data: &[u8],
     width: usize,
@@ -245,30 +240,30 @@ pub extern "C" fn yalivucu_decode_eacrg_pitched(
     pitch: usize,
     image: &mut [u32],
 ) -> u32
-    ensures { λ r. ⌜ Told
-        (λ a. ReadsPicture Format.EacRg (now («data» .entry)) (pitched width height pitch) (now (image .entry)) a (now (image .exit)))
-        r ⌝ }
+    ensures { Told
+        (λ a. ReadsPicture Format.EacRg «data».now (pitched width height pitch) image.old a image.new)
+        result }
 {
     pictures::read(Format::EacRg, data, width, height, pitch, image)
 }
 
 // Reads a signed EAC RG picture.
-#[no_mangle]
+#[unsafe(no_mangle)]
 pub extern "C" fn yalivucu_decode_eacrg_signed(
     data: &[u8],
     width: usize,
     height: usize,
     image: &mut [u32],
 ) -> u32
-    ensures { λ r. ⌜ Told
-        (λ a. ReadsPicture Format.EacRgSigned (now («data» .entry)) (sized width height) (now (image .entry)) a (now (image .exit)))
-        r ⌝ }
+    ensures { Told
+        (λ a. ReadsPicture Format.EacRgSigned «data».now (sized width height) image.old a image.new)
+        result }
 {
     pictures::read(Format::EacRgSigned, data, width, height, width, image)
 }
 
 // The same of a picture with a pitch.
-#[no_mangle]
+#[unsafe(no_mangle)]
 pub extern "C" fn yalivucu_decode_eacrg_signed_pitched(
     data: &[u8],
     width: usize,
@@ -276,30 +271,30 @@ pub extern "C" fn yalivucu_decode_eacrg_signed_pitched(
     pitch: usize,
     image: &mut [u32],
 ) -> u32
-    ensures { λ r. ⌜ Told
-        (λ a. ReadsPicture Format.EacRgSigned (now («data» .entry)) (pitched width height pitch) (now (image .entry)) a (now (image .exit)))
-        r ⌝ }
+    ensures { Told
+        (λ a. ReadsPicture Format.EacRgSigned «data».now (pitched width height pitch) image.old a image.new)
+        result }
 {
     pictures::read(Format::EacRgSigned, data, width, height, pitch, image)
 }
 
 // Reads a BC1 picture without alpha.
-#[no_mangle]
+#[unsafe(no_mangle)]
 pub extern "C" fn yalivucu_decode_bc1(
     data: &[u8],
     width: usize,
     height: usize,
     image: &mut [u32],
 ) -> u32
-    ensures { λ r. ⌜ Told
-        (λ a. ReadsPicture Format.Bc1 (now («data» .entry)) (sized width height) (now (image .entry)) a (now (image .exit)))
-        r ⌝ }
+    ensures { Told
+        (λ a. ReadsPicture Format.Bc1 «data».now (sized width height) image.old a image.new)
+        result }
 {
     pictures::read(Format::Bc1, data, width, height, width, image)
 }
 
 // The same of a picture with a pitch.
-#[no_mangle]
+#[unsafe(no_mangle)]
 pub extern "C" fn yalivucu_decode_bc1_pitched(
     data: &[u8],
     width: usize,
@@ -307,30 +302,30 @@ pub extern "C" fn yalivucu_decode_bc1_pitched(
     pitch: usize,
     image: &mut [u32],
 ) -> u32
-    ensures { λ r. ⌜ Told
-        (λ a. ReadsPicture Format.Bc1 (now («data» .entry)) (pitched width height pitch) (now (image .entry)) a (now (image .exit)))
-        r ⌝ }
+    ensures { Told
+        (λ a. ReadsPicture Format.Bc1 «data».now (pitched width height pitch) image.old a image.new)
+        result }
 {
     pictures::read(Format::Bc1, data, width, height, pitch, image)
 }
 
 // Reads a BC1 picture with one bit of alpha.
-#[no_mangle]
+#[unsafe(no_mangle)]
 pub extern "C" fn yalivucu_decode_bc1a(
     data: &[u8],
     width: usize,
     height: usize,
     image: &mut [u32],
 ) -> u32
-    ensures { λ r. ⌜ Told
-        (λ a. ReadsPicture Format.Bc1Alpha (now («data» .entry)) (sized width height) (now (image .entry)) a (now (image .exit)))
-        r ⌝ }
+    ensures { Told
+        (λ a. ReadsPicture Format.Bc1Alpha «data».now (sized width height) image.old a image.new)
+        result }
 {
     pictures::read(Format::Bc1Alpha, data, width, height, width, image)
 }
 
 // The same of a picture with a pitch.
-#[no_mangle]
+#[unsafe(no_mangle)]
 pub extern "C" fn yalivucu_decode_bc1a_pitched(
     data: &[u8],
     width: usize,
@@ -338,30 +333,30 @@ pub extern "C" fn yalivucu_decode_bc1a_pitched(
     pitch: usize,
     image: &mut [u32],
 ) -> u32
-    ensures { λ r. ⌜ Told
-        (λ a. ReadsPicture Format.Bc1Alpha (now («data» .entry)) (pitched width height pitch) (now (image .entry)) a (now (image .exit)))
-        r ⌝ }
+    ensures { Told
+        (λ a. ReadsPicture Format.Bc1Alpha «data».now (pitched width height pitch) image.old a image.new)
+        result }
 {
     pictures::read(Format::Bc1Alpha, data, width, height, pitch, image)
 }
 
 // Reads a BC3 picture.
-#[no_mangle]
+#[unsafe(no_mangle)]
 pub extern "C" fn yalivucu_decode_bc3(
     data: &[u8],
     width: usize,
     height: usize,
     image: &mut [u32],
 ) -> u32
-    ensures { λ r. ⌜ Told
-        (λ a. ReadsPicture Format.Bc3 (now («data» .entry)) (sized width height) (now (image .entry)) a (now (image .exit)))
-        r ⌝ }
+    ensures { Told
+        (λ a. ReadsPicture Format.Bc3 «data».now (sized width height) image.old a image.new)
+        result }
 {
     pictures::read(Format::Bc3, data, width, height, width, image)
 }
 
 // The same of a picture with a pitch.
-#[no_mangle]
+#[unsafe(no_mangle)]
 pub extern "C" fn yalivucu_decode_bc3_pitched(
     data: &[u8],
     width: usize,
@@ -369,30 +364,30 @@ pub extern "C" fn yalivucu_decode_bc3_pitched(
     pitch: usize,
     image: &mut [u32],
 ) -> u32
-    ensures { λ r. ⌜ Told
-        (λ a. ReadsPicture Format.Bc3 (now («data» .entry)) (pitched width height pitch) (now (image .entry)) a (now (image .exit)))
-        r ⌝ }
+    ensures { Told
+        (λ a. ReadsPicture Format.Bc3 «data».now (pitched width height pitch) image.old a image.new)
+        result }
 {
     pictures::read(Format::Bc3, data, width, height, pitch, image)
 }
 
 // Reads a BC7 picture.
-#[no_mangle]
+#[unsafe(no_mangle)]
 pub extern "C" fn yalivucu_decode_bc7(
     data: &[u8],
     width: usize,
     height: usize,
     image: &mut [u32],
 ) -> u32
-    ensures { λ r. ⌜ Told
-        (λ a. ReadsPicture Format.Bc7 (now («data» .entry)) (sized width height) (now (image .entry)) a (now (image .exit)))
-        r ⌝ }
+    ensures { Told
+        (λ a. ReadsPicture Format.Bc7 «data».now (sized width height) image.old a image.new)
+        result }
 {
     pictures::read(Format::Bc7, data, width, height, width, image)
 }
 
 // The same of a picture with a pitch.
-#[no_mangle]
+#[unsafe(no_mangle)]
 pub extern "C" fn yalivucu_decode_bc7_pitched(
     data: &[u8],
     width: usize,
@@ -400,30 +395,30 @@ pub extern "C" fn yalivucu_decode_bc7_pitched(
     pitch: usize,
     image: &mut [u32],
 ) -> u32
-    ensures { λ r. ⌜ Told
-        (λ a. ReadsPicture Format.Bc7 (now («data» .entry)) (pitched width height pitch) (now (image .entry)) a (now (image .exit)))
-        r ⌝ }
+    ensures { Told
+        (λ a. ReadsPicture Format.Bc7 «data».now (pitched width height pitch) image.old a image.new)
+        result }
 {
     pictures::read(Format::Bc7, data, width, height, pitch, image)
 }
 
 // Reads a BC2 picture.
-#[no_mangle]
+#[unsafe(no_mangle)]
 pub extern "C" fn yalivucu_decode_bc2(
     data: &[u8],
     width: usize,
     height: usize,
     image: &mut [u32],
 ) -> u32
-    ensures { λ r. ⌜ Told
-        (λ a. ReadsPicture Format.Bc2 (now («data» .entry)) (sized width height) (now (image .entry)) a (now (image .exit)))
-        r ⌝ }
+    ensures { Told
+        (λ a. ReadsPicture Format.Bc2 «data».now (sized width height) image.old a image.new)
+        result }
 {
     pictures::read(Format::Bc2, data, width, height, width, image)
 }
 
 // The same of a picture with a pitch.
-#[no_mangle]
+#[unsafe(no_mangle)]
 pub extern "C" fn yalivucu_decode_bc2_pitched(
     data: &[u8],
     width: usize,
@@ -431,30 +426,30 @@ pub extern "C" fn yalivucu_decode_bc2_pitched(
     pitch: usize,
     image: &mut [u32],
 ) -> u32
-    ensures { λ r. ⌜ Told
-        (λ a. ReadsPicture Format.Bc2 (now («data» .entry)) (pitched width height pitch) (now (image .entry)) a (now (image .exit)))
-        r ⌝ }
+    ensures { Told
+        (λ a. ReadsPicture Format.Bc2 «data».now (pitched width height pitch) image.old a image.new)
+        result }
 {
     pictures::read(Format::Bc2, data, width, height, pitch, image)
 }
 
 // Reads a BC4 picture.
-#[no_mangle]
+#[unsafe(no_mangle)]
 pub extern "C" fn yalivucu_decode_bc4(
     data: &[u8],
     width: usize,
     height: usize,
     image: &mut [u32],
 ) -> u32
-    ensures { λ r. ⌜ Told
-        (λ a. ReadsPicture Format.Bc4 (now («data» .entry)) (sized width height) (now (image .entry)) a (now (image .exit)))
-        r ⌝ }
+    ensures { Told
+        (λ a. ReadsPicture Format.Bc4 «data».now (sized width height) image.old a image.new)
+        result }
 {
     pictures::read(Format::Bc4, data, width, height, width, image)
 }
 
 // The same of a picture with a pitch.
-#[no_mangle]
+#[unsafe(no_mangle)]
 pub extern "C" fn yalivucu_decode_bc4_pitched(
     data: &[u8],
     width: usize,
@@ -462,30 +457,30 @@ pub extern "C" fn yalivucu_decode_bc4_pitched(
     pitch: usize,
     image: &mut [u32],
 ) -> u32
-    ensures { λ r. ⌜ Told
-        (λ a. ReadsPicture Format.Bc4 (now («data» .entry)) (pitched width height pitch) (now (image .entry)) a (now (image .exit)))
-        r ⌝ }
+    ensures { Told
+        (λ a. ReadsPicture Format.Bc4 «data».now (pitched width height pitch) image.old a image.new)
+        result }
 {
     pictures::read(Format::Bc4, data, width, height, pitch, image)
 }
 
 // Reads a signed BC4 picture.
-#[no_mangle]
+#[unsafe(no_mangle)]
 pub extern "C" fn yalivucu_decode_bc4_signed(
     data: &[u8],
     width: usize,
     height: usize,
     image: &mut [u32],
 ) -> u32
-    ensures { λ r. ⌜ Told
-        (λ a. ReadsPicture Format.Bc4Signed (now («data» .entry)) (sized width height) (now (image .entry)) a (now (image .exit)))
-        r ⌝ }
+    ensures { Told
+        (λ a. ReadsPicture Format.Bc4Signed «data».now (sized width height) image.old a image.new)
+        result }
 {
     pictures::read(Format::Bc4Signed, data, width, height, width, image)
 }
 
 // The same of a picture with a pitch.
-#[no_mangle]
+#[unsafe(no_mangle)]
 pub extern "C" fn yalivucu_decode_bc4_signed_pitched(
     data: &[u8],
     width: usize,
@@ -493,30 +488,30 @@ pub extern "C" fn yalivucu_decode_bc4_signed_pitched(
     pitch: usize,
     image: &mut [u32],
 ) -> u32
-    ensures { λ r. ⌜ Told
-        (λ a. ReadsPicture Format.Bc4Signed (now («data» .entry)) (pitched width height pitch) (now (image .entry)) a (now (image .exit)))
-        r ⌝ }
+    ensures { Told
+        (λ a. ReadsPicture Format.Bc4Signed «data».now (pitched width height pitch) image.old a image.new)
+        result }
 {
     pictures::read(Format::Bc4Signed, data, width, height, pitch, image)
 }
 
 // Reads a BC5 picture.
-#[no_mangle]
+#[unsafe(no_mangle)]
 pub extern "C" fn yalivucu_decode_bc5(
     data: &[u8],
     width: usize,
     height: usize,
     image: &mut [u32],
 ) -> u32
-    ensures { λ r. ⌜ Told
-        (λ a. ReadsPicture Format.Bc5 (now («data» .entry)) (sized width height) (now (image .entry)) a (now (image .exit)))
-        r ⌝ }
+    ensures { Told
+        (λ a. ReadsPicture Format.Bc5 «data».now (sized width height) image.old a image.new)
+        result }
 {
     pictures::read(Format::Bc5, data, width, height, width, image)
 }
 
 // The same of a picture with a pitch.
-#[no_mangle]
+#[unsafe(no_mangle)]
 pub extern "C" fn yalivucu_decode_bc5_pitched(
     data: &[u8],
     width: usize,
@@ -524,30 +519,30 @@ pub extern "C" fn yalivucu_decode_bc5_pitched(
     pitch: usize,
     image: &mut [u32],
 ) -> u32
-    ensures { λ r. ⌜ Told
-        (λ a. ReadsPicture Format.Bc5 (now («data» .entry)) (pitched width height pitch) (now (image .entry)) a (now (image .exit)))
-        r ⌝ }
+    ensures { Told
+        (λ a. ReadsPicture Format.Bc5 «data».now (pitched width height pitch) image.old a image.new)
+        result }
 {
     pictures::read(Format::Bc5, data, width, height, pitch, image)
 }
 
 // Reads a signed BC5 picture.
-#[no_mangle]
+#[unsafe(no_mangle)]
 pub extern "C" fn yalivucu_decode_bc5_signed(
     data: &[u8],
     width: usize,
     height: usize,
     image: &mut [u32],
 ) -> u32
-    ensures { λ r. ⌜ Told
-        (λ a. ReadsPicture Format.Bc5Signed (now («data» .entry)) (sized width height) (now (image .entry)) a (now (image .exit)))
-        r ⌝ }
+    ensures { Told
+        (λ a. ReadsPicture Format.Bc5Signed «data».now (sized width height) image.old a image.new)
+        result }
 {
     pictures::read(Format::Bc5Signed, data, width, height, width, image)
 }
 
 // The same of a picture with a pitch.
-#[no_mangle]
+#[unsafe(no_mangle)]
 pub extern "C" fn yalivucu_decode_bc5_signed_pitched(
     data: &[u8],
     width: usize,
@@ -555,16 +550,16 @@ pub extern "C" fn yalivucu_decode_bc5_signed_pitched(
     pitch: usize,
     image: &mut [u32],
 ) -> u32
-    ensures { λ r. ⌜ Told
-        (λ a. ReadsPicture Format.Bc5Signed (now («data» .entry)) (pitched width height pitch) (now (image .entry)) a (now (image .exit)))
-        r ⌝ }
+    ensures { Told
+        (λ a. ReadsPicture Format.Bc5Signed «data».now (pitched width height pitch) image.old a image.new)
+        result }
 {
     pictures::read(Format::Bc5Signed, data, width, height, pitch, image)
 }
 
 // Reads an ETC1 picture that holds no block out of range. Where it refuses for one, `block` is its number; otherwise `block` stays as it
 // was.
-#[no_mangle]
+#[unsafe(no_mangle)]
 pub extern "C" fn yalivucu_decode_etc1_strict(
     data: &[u8],
     width: usize,
@@ -572,10 +567,10 @@ pub extern "C" fn yalivucu_decode_etc1_strict(
     image: &mut [u32],
     block: &mut usize,
 ) -> u32
-    ensures { λ r. ⌜ Told
-        (λ a. ReadsStrict (now («data» .entry)) (sized width height) (now (image .entry)) a (now (image .exit))
-        × (now (block .exit) ≡ blockOr a (now (block .entry))))
-        r ⌝ }
+    ensures { Told
+        (λ a. ReadsStrict «data».now (sized width height) image.old a image.new
+        × (block.new ≡ block_or_lem a block.old))
+        result }
 {
     let pic = Picture {
         width: width,
@@ -586,7 +581,7 @@ pub extern "C" fn yalivucu_decode_etc1_strict(
 }
 
 // The same of a picture with a pitch.
-#[no_mangle]
+#[unsafe(no_mangle)]
 pub extern "C" fn yalivucu_decode_etc1_strict_pitched(
     data: &[u8],
     width: usize,
@@ -595,10 +590,10 @@ pub extern "C" fn yalivucu_decode_etc1_strict_pitched(
     image: &mut [u32],
     block: &mut usize,
 ) -> u32
-    ensures { λ r. ⌜ Told
-        (λ a. ReadsStrict (now («data» .entry)) (pitched width height pitch) (now (image .entry)) a (now (image .exit))
-        × (now (block .exit) ≡ blockOr a (now (block .entry))))
-        r ⌝ }
+    ensures { Told
+        (λ a. ReadsStrict «data».now (pitched width height pitch) image.old a image.new
+        × (block.new ≡ block_or_lem a block.old))
+        result }
 {
     let pic = Picture {
         width: width,
@@ -610,7 +605,7 @@ pub extern "C" fn yalivucu_decode_etc1_strict_pitched(
 
 // Reads an ETC2 RGBA1 picture for a viewer that knows ETC2 RGB alone. Where it refuses for a block whose opaque bit is clear, `block` is
 // its number; otherwise `block` stays as it was.
-#[no_mangle]
+#[unsafe(no_mangle)]
 pub extern "C" fn yalivucu_decode_etc2_rgba1_opaque(
     data: &[u8],
     width: usize,
@@ -618,10 +613,10 @@ pub extern "C" fn yalivucu_decode_etc2_rgba1_opaque(
     image: &mut [u32],
     block: &mut usize,
 ) -> u32
-    ensures { λ r. ⌜ Told
-        (λ a. ReadsOpaque (now («data» .entry)) (sized width height) (now (image .entry)) a (now (image .exit))
-        × (now (block .exit) ≡ blockOr a (now (block .entry))))
-        r ⌝ }
+    ensures { Told
+        (λ a. ReadsOpaque «data».now (sized width height) image.old a image.new
+        × (block.new ≡ block_or_lem a block.old))
+        result }
 {
     let pic = Picture {
         width: width,
@@ -632,7 +627,7 @@ pub extern "C" fn yalivucu_decode_etc2_rgba1_opaque(
 }
 
 // The same of a picture with a pitch.
-#[no_mangle]
+#[unsafe(no_mangle)]
 pub extern "C" fn yalivucu_decode_etc2_rgba1_opaque_pitched(
     data: &[u8],
     width: usize,
@@ -641,10 +636,10 @@ pub extern "C" fn yalivucu_decode_etc2_rgba1_opaque_pitched(
     image: &mut [u32],
     block: &mut usize,
 ) -> u32
-    ensures { λ r. ⌜ Told
-        (λ a. ReadsOpaque (now («data» .entry)) (pitched width height pitch) (now (image .entry)) a (now (image .exit))
-        × (now (block .exit) ≡ blockOr a (now (block .entry))))
-        r ⌝ }
+    ensures { Told
+        (λ a. ReadsOpaque «data».now (pitched width height pitch) image.old a image.new
+        × (block.new ≡ block_or_lem a block.old))
+        result }
 {
     let pic = Picture {
         width: width,
@@ -656,53 +651,53 @@ pub extern "C" fn yalivucu_decode_etc2_rgba1_opaque_pitched(
 
 // Checks an ETC1 picture as the strict reader does, with no image. Where it refuses for a block out of range, `block` is its number;
 // otherwise `block` stays as it was.
-#[no_mangle]
+#[unsafe(no_mangle)]
 pub extern "C" fn yalivucu_check_strict(
     data: &[u8],
     width: usize,
     height: usize,
     block: &mut usize,
 ) -> u32
-    ensures { λ r. ⌜ Told
-        (λ a. ChecksStrict (now («data» .entry)) (sized width height) a × (now (block .exit) ≡ blockOr a (now (block .entry))))
-        r ⌝ }
+    ensures { Told
+        (λ a. ChecksStrict «data».now (sized width height) a × (block.new ≡ block_or_lem a block.old))
+        result }
 {
     pictures::check_strict(data, width, height, block)
 }
 
 // Checks an ETC2 RGBA1 picture as the reader of an opaque-only viewer does, with no image. Where it refuses for a block whose opaque bit
 // is clear, `block` is its number; otherwise `block` stays as it was.
-#[no_mangle]
+#[unsafe(no_mangle)]
 pub extern "C" fn yalivucu_check_opaque(
     data: &[u8],
     width: usize,
     height: usize,
     block: &mut usize,
 ) -> u32
-    ensures { λ r. ⌜ Told
-        (λ a. ChecksOpaque (now («data» .entry)) (sized width height) a × (now (block .exit) ≡ blockOr a (now (block .entry))))
-        r ⌝ }
+    ensures { Told
+        (λ a. ChecksOpaque «data».now (sized width height) a × (block.new ≡ block_or_lem a block.old))
+        result }
 {
     pictures::check_opaque(data, width, height, block)
 }
 
 // Reads all eleven bits of an EAC R picture, 0 to 2047, into 16-bit numbers.
-#[no_mangle]
+#[unsafe(no_mangle)]
 pub extern "C" fn yalivucu_decode_eacr11(
     data: &[u8],
     width: usize,
     height: usize,
     image: &mut [u16],
 ) -> u32
-    ensures { λ r. ⌜ Told
-        (λ a. ReadsWhole false 1 (now («data» .entry)) (sized width height) (now (image .entry)) a (now (image .exit)))
-        r ⌝ }
+    ensures { Told
+        (λ a. ReadsWhole false 1 «data».now (sized width height) image.old a image.new)
+        result }
 {
     pictures::read_whole(false, false, data, width, height, width, image)
 }
 
 // The same of a picture with a pitch, in pixels.
-#[no_mangle]
+#[unsafe(no_mangle)]
 pub extern "C" fn yalivucu_decode_eacr11_pitched(
     data: &[u8],
     width: usize,
@@ -710,30 +705,30 @@ pub extern "C" fn yalivucu_decode_eacr11_pitched(
     pitch: usize,
     image: &mut [u16],
 ) -> u32
-    ensures { λ r. ⌜ Told
-        (λ a. ReadsWhole false 1 (now («data» .entry)) (pitched width height pitch) (now (image .entry)) a (now (image .exit)))
-        r ⌝ }
+    ensures { Told
+        (λ a. ReadsWhole false 1 «data».now (pitched width height pitch) image.old a image.new)
+        result }
 {
     pictures::read_whole(false, false, data, width, height, pitch, image)
 }
 
 // The same of a signed EAC R picture, -1023 to 1023: a negative number is in two's complement.
-#[no_mangle]
+#[unsafe(no_mangle)]
 pub extern "C" fn yalivucu_decode_eacr11_signed(
     data: &[u8],
     width: usize,
     height: usize,
     image: &mut [u16],
 ) -> u32
-    ensures { λ r. ⌜ Told
-        (λ a. ReadsWhole true 1 (now («data» .entry)) (sized width height) (now (image .entry)) a (now (image .exit)))
-        r ⌝ }
+    ensures { Told
+        (λ a. ReadsWhole true 1 «data».now (sized width height) image.old a image.new)
+        result }
 {
     pictures::read_whole(false, true, data, width, height, width, image)
 }
 
 // The same of a picture with a pitch, in pixels.
-#[no_mangle]
+#[unsafe(no_mangle)]
 pub extern "C" fn yalivucu_decode_eacr11_signed_pitched(
     data: &[u8],
     width: usize,
@@ -741,30 +736,30 @@ pub extern "C" fn yalivucu_decode_eacr11_signed_pitched(
     pitch: usize,
     image: &mut [u16],
 ) -> u32
-    ensures { λ r. ⌜ Told
-        (λ a. ReadsWhole true 1 (now («data» .entry)) (pitched width height pitch) (now (image .entry)) a (now (image .exit)))
-        r ⌝ }
+    ensures { Told
+        (λ a. ReadsWhole true 1 «data».now (pitched width height pitch) image.old a image.new)
+        result }
 {
     pictures::read_whole(false, true, data, width, height, pitch, image)
 }
 
 // Reads all eleven bits of an EAC RG picture: two numbers to a pixel, red then green.
-#[no_mangle]
+#[unsafe(no_mangle)]
 pub extern "C" fn yalivucu_decode_eacrg11(
     data: &[u8],
     width: usize,
     height: usize,
     image: &mut [u16],
 ) -> u32
-    ensures { λ r. ⌜ Told
-        (λ a. ReadsWhole false 2 (now («data» .entry)) (sized width height) (now (image .entry)) a (now (image .exit)))
-        r ⌝ }
+    ensures { Told
+        (λ a. ReadsWhole false 2 «data».now (sized width height) image.old a image.new)
+        result }
 {
     pictures::read_whole(true, false, data, width, height, width, image)
 }
 
 // The same of a picture with a pitch, in pixels.
-#[no_mangle]
+#[unsafe(no_mangle)]
 pub extern "C" fn yalivucu_decode_eacrg11_pitched(
     data: &[u8],
     width: usize,
@@ -772,30 +767,30 @@ pub extern "C" fn yalivucu_decode_eacrg11_pitched(
     pitch: usize,
     image: &mut [u16],
 ) -> u32
-    ensures { λ r. ⌜ Told
-        (λ a. ReadsWhole false 2 (now («data» .entry)) (pitched width height pitch) (now (image .entry)) a (now (image .exit)))
-        r ⌝ }
+    ensures { Told
+        (λ a. ReadsWhole false 2 «data».now (pitched width height pitch) image.old a image.new)
+        result }
 {
     pictures::read_whole(true, false, data, width, height, pitch, image)
 }
 
 // The same of a signed EAC RG picture.
-#[no_mangle]
+#[unsafe(no_mangle)]
 pub extern "C" fn yalivucu_decode_eacrg11_signed(
     data: &[u8],
     width: usize,
     height: usize,
     image: &mut [u16],
 ) -> u32
-    ensures { λ r. ⌜ Told
-        (λ a. ReadsWhole true 2 (now («data» .entry)) (sized width height) (now (image .entry)) a (now (image .exit)))
-        r ⌝ }
+    ensures { Told
+        (λ a. ReadsWhole true 2 «data».now (sized width height) image.old a image.new)
+        result }
 {
     pictures::read_whole(true, true, data, width, height, width, image)
 }
 
 // The same of a picture with a pitch, in pixels.
-#[no_mangle]
+#[unsafe(no_mangle)]
 pub extern "C" fn yalivucu_decode_eacrg11_signed_pitched(
     data: &[u8],
     width: usize,
@@ -803,196 +798,196 @@ pub extern "C" fn yalivucu_decode_eacrg11_signed_pitched(
     pitch: usize,
     image: &mut [u16],
 ) -> u32
-    ensures { λ r. ⌜ Told
-        (λ a. ReadsWhole true 2 (now («data» .entry)) (pitched width height pitch) (now (image .entry)) a (now (image .exit)))
-        r ⌝ }
+    ensures { Told
+        (λ a. ReadsWhole true 2 «data».now (pitched width height pitch) image.old a image.new)
+        result }
 {
     pictures::read_whole(true, true, data, width, height, pitch, image)
 }
 
 // Reads an ETC1 block of 8 bytes into the elements 0 to 15.
-#[no_mangle]
+#[unsafe(no_mangle)]
 pub extern "C" fn yalivucu_decode_etc1_block(data: &[u8], out: &mut [u32]) -> u32
-    ensures { λ r. ⌜ Told (λ a. ReadsBlock Format.Etc1 (now («data» .entry)) (now (out .entry)) a (now (out .exit))) r ⌝ }
+    ensures { Told (λ a. ReadsBlock Format.Etc1 «data».now out.old a out.new) result }
 {
     readers::number(readers::decode_etc1_block(data, out))
 }
 
 // Reads an ETC2 RGB block of 8 bytes into the elements 0 to 15.
-#[no_mangle]
+#[unsafe(no_mangle)]
 pub extern "C" fn yalivucu_decode_etc2_rgb_block(data: &[u8], out: &mut [u32]) -> u32
-    ensures { λ r. ⌜ Told (λ a. ReadsBlock Format.Etc2Rgb (now («data» .entry)) (now (out .entry)) a (now (out .exit))) r ⌝ }
+    ensures { Told (λ a. ReadsBlock Format.Etc2Rgb «data».now out.old a out.new) result }
 {
     readers::number(readers::decode_etc2_rgb_block(data, out))
 }
 
 // Reads an ETC2 RGBA1 block of 8 bytes into the elements 0 to 15.
-#[no_mangle]
+#[unsafe(no_mangle)]
 pub extern "C" fn yalivucu_decode_etc2_rgba1_block(data: &[u8], out: &mut [u32]) -> u32
-    ensures { λ r. ⌜ Told (λ a. ReadsBlock Format.Etc2Rgba1 (now («data» .entry)) (now (out .entry)) a (now (out .exit))) r ⌝ }
+    ensures { Told (λ a. ReadsBlock Format.Etc2Rgba1 «data».now out.old a out.new) result }
 {
     readers::number(readers::decode_etc2_rgba1_block(data, out))
 }
 
 // Reads an ETC2 RGBA8 block of 16 bytes into the elements 0 to 15.
-#[no_mangle]
+#[unsafe(no_mangle)]
 pub extern "C" fn yalivucu_decode_etc2_rgba8_block(data: &[u8], out: &mut [u32]) -> u32
-    ensures { λ r. ⌜ Told (λ a. ReadsBlock Format.Etc2Rgba8 (now («data» .entry)) (now (out .entry)) a (now (out .exit))) r ⌝ }
+    ensures { Told (λ a. ReadsBlock Format.Etc2Rgba8 «data».now out.old a out.new) result }
 {
     readers::number(readers::decode_etc2_rgba8_block(data, out))
 }
 
 // Reads an EAC R block of 8 bytes into the elements 0 to 15.
-#[no_mangle]
+#[unsafe(no_mangle)]
 pub extern "C" fn yalivucu_decode_eacr_block(data: &[u8], out: &mut [u32]) -> u32
-    ensures { λ r. ⌜ Told (λ a. ReadsBlock Format.EacR (now («data» .entry)) (now (out .entry)) a (now (out .exit))) r ⌝ }
+    ensures { Told (λ a. ReadsBlock Format.EacR «data».now out.old a out.new) result }
 {
     readers::number(readers::decode_eacr_block(data, out))
 }
 
 // Reads a signed EAC R block of 8 bytes into the elements 0 to 15.
-#[no_mangle]
+#[unsafe(no_mangle)]
 pub extern "C" fn yalivucu_decode_eacr_signed_block(data: &[u8], out: &mut [u32]) -> u32
-    ensures { λ r. ⌜ Told (λ a. ReadsBlock Format.EacRSigned (now («data» .entry)) (now (out .entry)) a (now (out .exit))) r ⌝ }
+    ensures { Told (λ a. ReadsBlock Format.EacRSigned «data».now out.old a out.new) result }
 {
     readers::number(readers::decode_eacr_signed_block(data, out))
 }
 
 // Reads an EAC RG block of 16 bytes into the elements 0 to 15.
-#[no_mangle]
+#[unsafe(no_mangle)]
 pub extern "C" fn yalivucu_decode_eacrg_block(data: &[u8], out: &mut [u32]) -> u32
-    ensures { λ r. ⌜ Told (λ a. ReadsBlock Format.EacRg (now («data» .entry)) (now (out .entry)) a (now (out .exit))) r ⌝ }
+    ensures { Told (λ a. ReadsBlock Format.EacRg «data».now out.old a out.new) result }
 {
     readers::number(readers::decode_eacrg_block(data, out))
 }
 
 // Reads a signed EAC RG block of 16 bytes into the elements 0 to 15.
-#[no_mangle]
+#[unsafe(no_mangle)]
 pub extern "C" fn yalivucu_decode_eacrg_signed_block(data: &[u8], out: &mut [u32]) -> u32
-    ensures { λ r. ⌜ Told (λ a. ReadsBlock Format.EacRgSigned (now («data» .entry)) (now (out .entry)) a (now (out .exit))) r ⌝ }
+    ensures { Told (λ a. ReadsBlock Format.EacRgSigned «data».now out.old a out.new) result }
 {
     readers::number(readers::decode_eacrg_signed_block(data, out))
 }
 
 // Reads a BC1 block of 8 bytes without alpha into the elements 0 to 15.
-#[no_mangle]
+#[unsafe(no_mangle)]
 pub extern "C" fn yalivucu_decode_bc1_block(data: &[u8], out: &mut [u32]) -> u32
-    ensures { λ r. ⌜ Told (λ a. ReadsBlock Format.Bc1 (now («data» .entry)) (now (out .entry)) a (now (out .exit))) r ⌝ }
+    ensures { Told (λ a. ReadsBlock Format.Bc1 «data».now out.old a out.new) result }
 {
     readers::number(readers::decode_bc1_block(data, out))
 }
 
 // Reads a BC1 block of 8 bytes with one bit of alpha into the elements 0 to 15.
-#[no_mangle]
+#[unsafe(no_mangle)]
 pub extern "C" fn yalivucu_decode_bc1a_block(data: &[u8], out: &mut [u32]) -> u32
-    ensures { λ r. ⌜ Told (λ a. ReadsBlock Format.Bc1Alpha (now («data» .entry)) (now (out .entry)) a (now (out .exit))) r ⌝ }
+    ensures { Told (λ a. ReadsBlock Format.Bc1Alpha «data».now out.old a out.new) result }
 {
     readers::number(readers::decode_bc1a_block(data, out))
 }
 
 // Reads a BC3 block of 16 bytes into the elements 0 to 15.
-#[no_mangle]
+#[unsafe(no_mangle)]
 pub extern "C" fn yalivucu_decode_bc3_block(data: &[u8], out: &mut [u32]) -> u32
-    ensures { λ r. ⌜ Told (λ a. ReadsBlock Format.Bc3 (now («data» .entry)) (now (out .entry)) a (now (out .exit))) r ⌝ }
+    ensures { Told (λ a. ReadsBlock Format.Bc3 «data».now out.old a out.new) result }
 {
     readers::number(readers::decode_bc3_block(data, out))
 }
 
 // Reads a BC7 block of 16 bytes into the elements 0 to 15.
-#[no_mangle]
+#[unsafe(no_mangle)]
 pub extern "C" fn yalivucu_decode_bc7_block(data: &[u8], out: &mut [u32]) -> u32
-    ensures { λ r. ⌜ Told (λ a. ReadsBlock Format.Bc7 (now («data» .entry)) (now (out .entry)) a (now (out .exit))) r ⌝ }
+    ensures { Told (λ a. ReadsBlock Format.Bc7 «data».now out.old a out.new) result }
 {
     readers::number(readers::decode_bc7_block(data, out))
 }
 
 // Reads a BC2 block of 16 bytes into the elements 0 to 15.
-#[no_mangle]
+#[unsafe(no_mangle)]
 pub extern "C" fn yalivucu_decode_bc2_block(data: &[u8], out: &mut [u32]) -> u32
-    ensures { λ r. ⌜ Told (λ a. ReadsBlock Format.Bc2 (now («data» .entry)) (now (out .entry)) a (now (out .exit))) r ⌝ }
+    ensures { Told (λ a. ReadsBlock Format.Bc2 «data».now out.old a out.new) result }
 {
     readers::number(readers::decode_bc2_block(data, out))
 }
 
 // Reads a BC4 block of 8 bytes into the elements 0 to 15.
-#[no_mangle]
+#[unsafe(no_mangle)]
 pub extern "C" fn yalivucu_decode_bc4_block(data: &[u8], out: &mut [u32]) -> u32
-    ensures { λ r. ⌜ Told (λ a. ReadsBlock Format.Bc4 (now («data» .entry)) (now (out .entry)) a (now (out .exit))) r ⌝ }
+    ensures { Told (λ a. ReadsBlock Format.Bc4 «data».now out.old a out.new) result }
 {
     readers::number(readers::decode_bc4_block(data, out))
 }
 
 // Reads a signed BC4 block of 8 bytes into the elements 0 to 15.
-#[no_mangle]
+#[unsafe(no_mangle)]
 pub extern "C" fn yalivucu_decode_bc4_signed_block(data: &[u8], out: &mut [u32]) -> u32
-    ensures { λ r. ⌜ Told (λ a. ReadsBlock Format.Bc4Signed (now («data» .entry)) (now (out .entry)) a (now (out .exit))) r ⌝ }
+    ensures { Told (λ a. ReadsBlock Format.Bc4Signed «data».now out.old a out.new) result }
 {
     readers::number(readers::decode_bc4_signed_block(data, out))
 }
 
 // Reads a BC5 block of 16 bytes into the elements 0 to 15.
-#[no_mangle]
+#[unsafe(no_mangle)]
 pub extern "C" fn yalivucu_decode_bc5_block(data: &[u8], out: &mut [u32]) -> u32
-    ensures { λ r. ⌜ Told (λ a. ReadsBlock Format.Bc5 (now («data» .entry)) (now (out .entry)) a (now (out .exit))) r ⌝ }
+    ensures { Told (λ a. ReadsBlock Format.Bc5 «data».now out.old a out.new) result }
 {
     readers::number(readers::decode_bc5_block(data, out))
 }
 
 // Reads a signed BC5 block of 16 bytes into the elements 0 to 15.
-#[no_mangle]
+#[unsafe(no_mangle)]
 pub extern "C" fn yalivucu_decode_bc5_signed_block(data: &[u8], out: &mut [u32]) -> u32
-    ensures { λ r. ⌜ Told (λ a. ReadsBlock Format.Bc5Signed (now («data» .entry)) (now (out .entry)) a (now (out .exit))) r ⌝ }
+    ensures { Told (λ a. ReadsBlock Format.Bc5Signed «data».now out.old a out.new) result }
 {
     readers::number(readers::decode_bc5_signed_block(data, out))
 }
 
 // Reads an alpha half of 8 bytes into the top bytes of the elements 0 to 15, and keeps the rest of them.
-#[no_mangle]
+#[unsafe(no_mangle)]
 pub extern "C" fn yalivucu_decode_etc2_a8_block(data: &[u8], out: &mut [u32]) -> u32
-    ensures { λ r. ⌜ Told (λ a. ReadsAlpha (now («data» .entry)) (now (out .entry)) a (now (out .exit))) r ⌝ }
+    ensures { Told (λ a. ReadsAlpha «data».now out.old a out.new) result }
 {
     readers::number(readers::decode_etc2_a8_block(data, out))
 }
 
 // Reads an EAC block of 8 bytes and ORs its bytes into channel 0 blue, 1 green, 2 red or 3 alpha of the elements 0 to 15.
-#[no_mangle]
+#[unsafe(no_mangle)]
 pub extern "C" fn yalivucu_decode_eac_block(data: &[u8], channel: usize, out: &mut [u32]) -> u32
-    ensures { λ r. ⌜ Told (λ a. ReadsChannel false (now («data» .entry)) channel (now (out .entry)) a (now (out .exit))) r ⌝ }
+    ensures { Told (λ a. ReadsChannel false «data».now channel out.old a out.new) result }
 {
     readers::number(readers::decode_eac_block(data, channel, out))
 }
 
 // Reads a signed EAC block of 8 bytes and ORs its bytes into channel 0 blue, 1 green, 2 red or 3 alpha of the elements 0 to 15.
-#[no_mangle]
+#[unsafe(no_mangle)]
 pub extern "C" fn yalivucu_decode_eac_signed_block(
     data: &[u8],
     channel: usize,
     out: &mut [u32],
 ) -> u32
-    ensures { λ r. ⌜ Told (λ a. ReadsChannel true (now («data» .entry)) channel (now (out .entry)) a (now (out .exit))) r ⌝ }
+    ensures { Told (λ a. ReadsChannel true «data».now channel out.old a out.new) result }
 {
     readers::number(readers::decode_eac_signed_block(data, channel, out))
 }
 
 // Reads the alpha half of a BC3 block, 8 bytes, into channel 0 blue, 1 green, 2 red or 3 alpha of the elements 0 to 15, in place of the
 // byte that stood there.
-#[no_mangle]
+#[unsafe(no_mangle)]
 pub extern "C" fn yalivucu_decode_bc3_alpha(data: &[u8], channel: usize, out: &mut [u32]) -> u32
-    ensures { λ r. ⌜ Told (λ a. ReplacesChannel (now («data» .entry)) channel (now (out .entry)) a (now (out .exit))) r ⌝ }
+    ensures { Told (λ a. ReplacesChannel «data».now channel out.old a out.new) result }
 {
     readers::number(readers::decode_bc3_alpha(data, channel, out))
 }
 
 // Counts the blocks of each kind of an ETC2 RGB picture: individual, differential, T, H, planar.
-#[no_mangle]
+#[unsafe(no_mangle)]
 pub extern "C" fn yalivucu_census_etc2_rgb(
     data: &[u8],
     width: usize,
     height: usize,
     counts: &mut [usize],
 ) -> u32
-    ensures { λ r. ⌜ Told (λ a. CountsInto rgbTests (now («data» .entry)) (sized width height)
-        (now (counts .entry)) a (now (counts .exit))) r ⌝ }
+    ensures { Told (λ a. CountsInto rgb_tests «data».now (sized width height)
+        counts.old a counts.new) result }
 {
     match readers::census_etc2_rgb(data, width, height) {
         RgbCensus::TooLarge => 1,
@@ -1005,15 +1000,15 @@ pub extern "C" fn yalivucu_census_etc2_rgb(
 }
 
 // Counts the blocks of each kind of an ETC2 RGBA1 picture: differential, T, H, planar with the opaque bit set, and then with it clear.
-#[no_mangle]
+#[unsafe(no_mangle)]
 pub extern "C" fn yalivucu_census_etc2_rgba1(
     data: &[u8],
     width: usize,
     height: usize,
     counts: &mut [usize],
 ) -> u32
-    ensures { λ r. ⌜ Told (λ a. CountsInto rgba1Tests (now («data» .entry)) (sized width height)
-        (now (counts .entry)) a (now (counts .exit))) r ⌝ }
+    ensures { Told (λ a. CountsInto rgba1_tests «data».now (sized width height)
+        counts.old a counts.new) result }
 {
     match readers::census_etc2_rgba1(data, width, height) {
         Rgba1Census::TooLarge => 1,
@@ -1044,8 +1039,8 @@ fn older_counts(
     height: usize,
     counts: &mut [usize],
 ) -> u32
-    ensures { λ r. ⌜ Told (λ a. OlderInto (guardOf viewer) (now («data» .entry)) (sized width height)
-        (now (counts .entry)) a (now (counts .exit))) r ⌝ }
+    ensures { Told (λ a. OlderInto (guard_of viewer) «data».now (sized width height)
+        counts.old a counts.new) result }
 {
     let pic = Picture {
         width: width,
@@ -1066,50 +1061,50 @@ fn older_counts(
 
 // Counts what a viewer that knows ETC1 alone shows wrong of an ETC2 RGB picture: pixels, blocks, the first such block and its first such
 // place, and the largest differences of a colour and of an alpha.
-#[no_mangle]
+#[unsafe(no_mangle)]
 pub extern "C" fn yalivucu_older_etc1(
     data: &[u8],
     width: usize,
     height: usize,
     counts: &mut [usize],
 ) -> u32
-    ensures { λ r. ⌜ Told (λ a. OlderInto inRange (now («data» .entry)) (sized width height)
-        (now (counts .entry)) a (now (counts .exit))) r ⌝ }
+    ensures { Told (λ a. OlderInto in_range «data».now (sized width height)
+        counts.old a counts.new) result }
 {
     older_counts(Viewer::Etc1, data, width, height, counts)
 }
 
 // The same of a viewer that knows ETC2 RGB, but nothing transparent, and an RGBA1 picture.
-#[no_mangle]
+#[unsafe(no_mangle)]
 pub extern "C" fn yalivucu_older_rgb(
     data: &[u8],
     width: usize,
     height: usize,
     counts: &mut [usize],
 ) -> u32
-    ensures { λ r. ⌜ Told (λ a. OlderInto opaqueOnly (now («data» .entry)) (sized width height)
-        (now (counts .entry)) a (now (counts .exit))) r ⌝ }
+    ensures { Told (λ a. OlderInto opaque_only «data».now (sized width height)
+        counts.old a counts.new) result }
 {
     older_counts(Viewer::Opaque, data, width, height, counts)
 }
 
 // Tells the head of a sheet. With answer 0 alone, the format, the width and the height are written.
-#[no_mangle]
+#[unsafe(no_mangle)]
 pub extern "C" fn yalivucu_sheet_head(
     sheet: &[u8],
     format: &mut usize,
     width: &mut usize,
     height: &mut usize,
 ) -> u32
-    ensures { λ r. ⌜ HeadTold
-        (now (sheet .entry))
-        (now (format .entry))
-        (now (width .entry))
-        (now (height .entry))
-        r
-        (now (format .exit))
-        (now (width .exit))
-        (now (height .exit)) ⌝ }
+    ensures { HeadTold
+        sheet.now
+        format.old
+        width.old
+        height.old
+        result
+        format.new
+        width.new
+        height.new }
 {
     let told = readers::sheet_head(sheet);
     match told {
@@ -1124,15 +1119,15 @@ pub extern "C" fn yalivucu_sheet_head(
 }
 
 // Reads a sheet.
-#[no_mangle]
+#[unsafe(no_mangle)]
 pub extern "C" fn yalivucu_read_sheet(sheet: &[u8], image: &mut [u32]) -> u32
-    ensures { λ r. ⌜ Told (λ a. ReadsSheet (now (sheet .entry)) (now (image .entry)) a (now (image .exit))) r ⌝ }
+    ensures { Told (λ a. ReadsSheet sheet.now image.old a image.new) result }
 {
     readers::number(readers::read_sheet(sheet, image))
 }
 
 // Writes a sheet. With answer 0 alone, the number of its bytes is written.
-#[no_mangle]
+#[unsafe(no_mangle)]
 pub extern "C" fn yalivucu_write_sheet(
     format: usize,
     width: usize,
@@ -1141,15 +1136,15 @@ pub extern "C" fn yalivucu_write_sheet(
     room: &mut [u8],
     written: &mut usize,
 ) -> u32
-    ensures { λ r. ⌜ WriterTold
+    ensures { WriterTold
         format
         (sized width height)
-        (now (blocks .entry))
-        (now (room .entry))
-        (now (written .entry))
-        r
-        (now (room .exit))
-        (now (written .exit)) ⌝ }
+        blocks.now
+        room.old
+        written.old
+        result
+        room.new
+        written.new }
 {
     let wrote = readers::write_sheet(format, width, height, blocks, room);
     let answer = wrote.answer;
@@ -1161,7 +1156,7 @@ pub extern "C" fn yalivucu_write_sheet(
 }
 
 // Starts to read an ETC1 picture in pieces; the caller keeps the state, in the two arrays.
-#[no_mangle]
+#[unsafe(no_mangle)]
 pub extern "C" fn yalivucu_start_etc1(
     width: usize,
     height: usize,
@@ -1170,10 +1165,10 @@ pub extern "C" fn yalivucu_start_etc1(
     numbers: &mut [usize; 5],
     kept: &mut [u8; 15],
 ) -> u32
-    ensures { λ r. ⌜ Told
-        (λ a. StartLent Format.Etc1 (pitched width height pitch) (length (now (image .entry)))
-        a (now (numbers .exit)) (now (kept .exit)))
-        r ⌝ }
+    ensures { Told
+        (λ a. StartLent Format.Etc1 (pitched width height pitch) (length image.now)
+        a numbers.new kept.new)
+        result }
 {
     let pic = Picture {
         width: width,
@@ -1184,7 +1179,7 @@ pub extern "C" fn yalivucu_start_etc1(
 }
 
 // Starts to read an ETC2 RGB picture in pieces; the caller keeps the state, in the two arrays.
-#[no_mangle]
+#[unsafe(no_mangle)]
 pub extern "C" fn yalivucu_start_etc2_rgb(
     width: usize,
     height: usize,
@@ -1193,10 +1188,10 @@ pub extern "C" fn yalivucu_start_etc2_rgb(
     numbers: &mut [usize; 5],
     kept: &mut [u8; 15],
 ) -> u32
-    ensures { λ r. ⌜ Told
-        (λ a. StartLent Format.Etc2Rgb (pitched width height pitch) (length (now (image .entry)))
-        a (now (numbers .exit)) (now (kept .exit)))
-        r ⌝ }
+    ensures { Told
+        (λ a. StartLent Format.Etc2Rgb (pitched width height pitch) (length image.now)
+        a numbers.new kept.new)
+        result }
 {
     let pic = Picture {
         width: width,
@@ -1207,7 +1202,7 @@ pub extern "C" fn yalivucu_start_etc2_rgb(
 }
 
 // Starts to read an ETC2 RGBA1 picture in pieces; the caller keeps the state, in the two arrays.
-#[no_mangle]
+#[unsafe(no_mangle)]
 pub extern "C" fn yalivucu_start_etc2_rgba1(
     width: usize,
     height: usize,
@@ -1216,10 +1211,10 @@ pub extern "C" fn yalivucu_start_etc2_rgba1(
     numbers: &mut [usize; 5],
     kept: &mut [u8; 15],
 ) -> u32
-    ensures { λ r. ⌜ Told
-        (λ a. StartLent Format.Etc2Rgba1 (pitched width height pitch) (length (now (image .entry)))
-        a (now (numbers .exit)) (now (kept .exit)))
-        r ⌝ }
+    ensures { Told
+        (λ a. StartLent Format.Etc2Rgba1 (pitched width height pitch) (length image.now)
+        a numbers.new kept.new)
+        result }
 {
     let pic = Picture {
         width: width,
@@ -1230,7 +1225,7 @@ pub extern "C" fn yalivucu_start_etc2_rgba1(
 }
 
 // Starts to read an ETC2 RGBA8 picture in pieces; the caller keeps the state, in the two arrays.
-#[no_mangle]
+#[unsafe(no_mangle)]
 pub extern "C" fn yalivucu_start_etc2_rgba8(
     width: usize,
     height: usize,
@@ -1239,10 +1234,10 @@ pub extern "C" fn yalivucu_start_etc2_rgba8(
     numbers: &mut [usize; 5],
     kept: &mut [u8; 15],
 ) -> u32
-    ensures { λ r. ⌜ Told
-        (λ a. StartLent Format.Etc2Rgba8 (pitched width height pitch) (length (now (image .entry)))
-        a (now (numbers .exit)) (now (kept .exit)))
-        r ⌝ }
+    ensures { Told
+        (λ a. StartLent Format.Etc2Rgba8 (pitched width height pitch) (length image.now)
+        a numbers.new kept.new)
+        result }
 {
     let pic = Picture {
         width: width,
@@ -1253,7 +1248,7 @@ pub extern "C" fn yalivucu_start_etc2_rgba8(
 }
 
 // Starts to read an EAC R picture in pieces; the caller keeps the state, in the two arrays.
-#[no_mangle]
+#[unsafe(no_mangle)]
 pub extern "C" fn yalivucu_start_eacr(
     width: usize,
     height: usize,
@@ -1262,10 +1257,10 @@ pub extern "C" fn yalivucu_start_eacr(
     numbers: &mut [usize; 5],
     kept: &mut [u8; 15],
 ) -> u32
-    ensures { λ r. ⌜ Told
-        (λ a. StartLent Format.EacR (pitched width height pitch) (length (now (image .entry)))
-        a (now (numbers .exit)) (now (kept .exit)))
-        r ⌝ }
+    ensures { Told
+        (λ a. StartLent Format.EacR (pitched width height pitch) (length image.now)
+        a numbers.new kept.new)
+        result }
 {
     let pic = Picture {
         width: width,
@@ -1276,7 +1271,7 @@ pub extern "C" fn yalivucu_start_eacr(
 }
 
 // Starts to read a signed EAC R picture in pieces; the caller keeps the state, in the two arrays.
-#[no_mangle]
+#[unsafe(no_mangle)]
 pub extern "C" fn yalivucu_start_eacr_signed(
     width: usize,
     height: usize,
@@ -1285,10 +1280,10 @@ pub extern "C" fn yalivucu_start_eacr_signed(
     numbers: &mut [usize; 5],
     kept: &mut [u8; 15],
 ) -> u32
-    ensures { λ r. ⌜ Told
-        (λ a. StartLent Format.EacRSigned (pitched width height pitch) (length (now (image .entry)))
-        a (now (numbers .exit)) (now (kept .exit)))
-        r ⌝ }
+    ensures { Told
+        (λ a. StartLent Format.EacRSigned (pitched width height pitch) (length image.now)
+        a numbers.new kept.new)
+        result }
 {
     let pic = Picture {
         width: width,
@@ -1299,7 +1294,7 @@ pub extern "C" fn yalivucu_start_eacr_signed(
 }
 
 // Starts to read an EAC RG picture in pieces; the caller keeps the state, in the two arrays.
-#[no_mangle]
+#[unsafe(no_mangle)]
 pub extern "C" fn yalivucu_start_eacrg(
     width: usize,
     height: usize,
@@ -1308,10 +1303,10 @@ pub extern "C" fn yalivucu_start_eacrg(
     numbers: &mut [usize; 5],
     kept: &mut [u8; 15],
 ) -> u32
-    ensures { λ r. ⌜ Told
-        (λ a. StartLent Format.EacRg (pitched width height pitch) (length (now (image .entry)))
-        a (now (numbers .exit)) (now (kept .exit)))
-        r ⌝ }
+    ensures { Told
+        (λ a. StartLent Format.EacRg (pitched width height pitch) (length image.now)
+        a numbers.new kept.new)
+        result }
 {
     let pic = Picture {
         width: width,
@@ -1322,7 +1317,7 @@ pub extern "C" fn yalivucu_start_eacrg(
 }
 
 // Starts to read a signed EAC RG picture in pieces; the caller keeps the state, in the two arrays.
-#[no_mangle]
+#[unsafe(no_mangle)]
 pub extern "C" fn yalivucu_start_eacrg_signed(
     width: usize,
     height: usize,
@@ -1331,10 +1326,10 @@ pub extern "C" fn yalivucu_start_eacrg_signed(
     numbers: &mut [usize; 5],
     kept: &mut [u8; 15],
 ) -> u32
-    ensures { λ r. ⌜ Told
-        (λ a. StartLent Format.EacRgSigned (pitched width height pitch) (length (now (image .entry)))
-        a (now (numbers .exit)) (now (kept .exit)))
-        r ⌝ }
+    ensures { Told
+        (λ a. StartLent Format.EacRgSigned (pitched width height pitch) (length image.now)
+        a numbers.new kept.new)
+        result }
 {
     let pic = Picture {
         width: width,
@@ -1345,7 +1340,7 @@ pub extern "C" fn yalivucu_start_eacrg_signed(
 }
 
 // Starts to read a BC1 picture without alpha in pieces; the caller keeps the state, in the two arrays.
-#[no_mangle]
+#[unsafe(no_mangle)]
 pub extern "C" fn yalivucu_start_bc1(
     width: usize,
     height: usize,
@@ -1354,10 +1349,10 @@ pub extern "C" fn yalivucu_start_bc1(
     numbers: &mut [usize; 5],
     kept: &mut [u8; 15],
 ) -> u32
-    ensures { λ r. ⌜ Told
-        (λ a. StartLent Format.Bc1 (pitched width height pitch) (length (now (image .entry)))
-        a (now (numbers .exit)) (now (kept .exit)))
-        r ⌝ }
+    ensures { Told
+        (λ a. StartLent Format.Bc1 (pitched width height pitch) (length image.now)
+        a numbers.new kept.new)
+        result }
 {
     let pic = Picture {
         width: width,
@@ -1368,7 +1363,7 @@ pub extern "C" fn yalivucu_start_bc1(
 }
 
 // Starts to read a BC1 picture with one bit of alpha in pieces; the caller keeps the state, in the two arrays.
-#[no_mangle]
+#[unsafe(no_mangle)]
 pub extern "C" fn yalivucu_start_bc1a(
     width: usize,
     height: usize,
@@ -1377,10 +1372,10 @@ pub extern "C" fn yalivucu_start_bc1a(
     numbers: &mut [usize; 5],
     kept: &mut [u8; 15],
 ) -> u32
-    ensures { λ r. ⌜ Told
-        (λ a. StartLent Format.Bc1Alpha (pitched width height pitch) (length (now (image .entry)))
-        a (now (numbers .exit)) (now (kept .exit)))
-        r ⌝ }
+    ensures { Told
+        (λ a. StartLent Format.Bc1Alpha (pitched width height pitch) (length image.now)
+        a numbers.new kept.new)
+        result }
 {
     let pic = Picture {
         width: width,
@@ -1391,7 +1386,7 @@ pub extern "C" fn yalivucu_start_bc1a(
 }
 
 // Starts to read a BC3 picture in pieces; the caller keeps the state, in the two arrays.
-#[no_mangle]
+#[unsafe(no_mangle)]
 pub extern "C" fn yalivucu_start_bc3(
     width: usize,
     height: usize,
@@ -1400,10 +1395,10 @@ pub extern "C" fn yalivucu_start_bc3(
     numbers: &mut [usize; 5],
     kept: &mut [u8; 15],
 ) -> u32
-    ensures { λ r. ⌜ Told
-        (λ a. StartLent Format.Bc3 (pitched width height pitch) (length (now (image .entry)))
-        a (now (numbers .exit)) (now (kept .exit)))
-        r ⌝ }
+    ensures { Told
+        (λ a. StartLent Format.Bc3 (pitched width height pitch) (length image.now)
+        a numbers.new kept.new)
+        result }
 {
     let pic = Picture {
         width: width,
@@ -1414,7 +1409,7 @@ pub extern "C" fn yalivucu_start_bc3(
 }
 
 // Starts to read a BC7 picture in pieces; the caller keeps the state, in the two arrays.
-#[no_mangle]
+#[unsafe(no_mangle)]
 pub extern "C" fn yalivucu_start_bc7(
     width: usize,
     height: usize,
@@ -1423,9 +1418,9 @@ pub extern "C" fn yalivucu_start_bc7(
     numbers: &mut [usize; 5],
     kept: &mut [u8; 15],
 ) -> u32
-    ensures { λ r. ⌜ Told
-        (λ a. StartLent Format.Bc7 (pitched width height pitch) (length (now (image .entry))) a (now (numbers .exit)) (now (kept .exit)))
-        r ⌝ }
+    ensures { Told
+        (λ a. StartLent Format.Bc7 (pitched width height pitch) (length image.now) a numbers.new kept.new)
+        result }
 {
     let pic = Picture {
         width: width,
@@ -1436,7 +1431,7 @@ pub extern "C" fn yalivucu_start_bc7(
 }
 
 // Starts to read a BC2 picture in pieces; the caller keeps the state, in the two arrays.
-#[no_mangle]
+#[unsafe(no_mangle)]
 pub extern "C" fn yalivucu_start_bc2(
     width: usize,
     height: usize,
@@ -1445,9 +1440,9 @@ pub extern "C" fn yalivucu_start_bc2(
     numbers: &mut [usize; 5],
     kept: &mut [u8; 15],
 ) -> u32
-    ensures { λ r. ⌜ Told
-        (λ a. StartLent Format.Bc2 (pitched width height pitch) (length (now (image .entry))) a (now (numbers .exit)) (now (kept .exit)))
-        r ⌝ }
+    ensures { Told
+        (λ a. StartLent Format.Bc2 (pitched width height pitch) (length image.now) a numbers.new kept.new)
+        result }
 {
     let pic = Picture {
         width: width,
@@ -1458,7 +1453,7 @@ pub extern "C" fn yalivucu_start_bc2(
 }
 
 // Starts to read a BC4 picture in pieces; the caller keeps the state, in the two arrays.
-#[no_mangle]
+#[unsafe(no_mangle)]
 pub extern "C" fn yalivucu_start_bc4(
     width: usize,
     height: usize,
@@ -1467,9 +1462,9 @@ pub extern "C" fn yalivucu_start_bc4(
     numbers: &mut [usize; 5],
     kept: &mut [u8; 15],
 ) -> u32
-    ensures { λ r. ⌜ Told
-        (λ a. StartLent Format.Bc4 (pitched width height pitch) (length (now (image .entry))) a (now (numbers .exit)) (now (kept .exit)))
-        r ⌝ }
+    ensures { Told
+        (λ a. StartLent Format.Bc4 (pitched width height pitch) (length image.now) a numbers.new kept.new)
+        result }
 {
     let pic = Picture {
         width: width,
@@ -1480,7 +1475,7 @@ pub extern "C" fn yalivucu_start_bc4(
 }
 
 // Starts to read a signed BC4 picture in pieces; the caller keeps the state, in the two arrays.
-#[no_mangle]
+#[unsafe(no_mangle)]
 pub extern "C" fn yalivucu_start_bc4_signed(
     width: usize,
     height: usize,
@@ -1489,10 +1484,10 @@ pub extern "C" fn yalivucu_start_bc4_signed(
     numbers: &mut [usize; 5],
     kept: &mut [u8; 15],
 ) -> u32
-    ensures { λ r. ⌜ Told
-        (λ a. StartLent Format.Bc4Signed (pitched width height pitch) (length (now (image .entry)))
-        a (now (numbers .exit)) (now (kept .exit)))
-        r ⌝ }
+    ensures { Told
+        (λ a. StartLent Format.Bc4Signed (pitched width height pitch) (length image.now)
+        a numbers.new kept.new)
+        result }
 {
     let pic = Picture {
         width: width,
@@ -1503,7 +1498,7 @@ pub extern "C" fn yalivucu_start_bc4_signed(
 }
 
 // Starts to read a BC5 picture in pieces; the caller keeps the state, in the two arrays.
-#[no_mangle]
+#[unsafe(no_mangle)]
 pub extern "C" fn yalivucu_start_bc5(
     width: usize,
     height: usize,
@@ -1512,9 +1507,9 @@ pub extern "C" fn yalivucu_start_bc5(
     numbers: &mut [usize; 5],
     kept: &mut [u8; 15],
 ) -> u32
-    ensures { λ r. ⌜ Told
-        (λ a. StartLent Format.Bc5 (pitched width height pitch) (length (now (image .entry))) a (now (numbers .exit)) (now (kept .exit)))
-        r ⌝ }
+    ensures { Told
+        (λ a. StartLent Format.Bc5 (pitched width height pitch) (length image.now) a numbers.new kept.new)
+        result }
 {
     let pic = Picture {
         width: width,
@@ -1525,7 +1520,7 @@ pub extern "C" fn yalivucu_start_bc5(
 }
 
 // Starts to read a signed BC5 picture in pieces; the caller keeps the state, in the two arrays.
-#[no_mangle]
+#[unsafe(no_mangle)]
 pub extern "C" fn yalivucu_start_bc5_signed(
     width: usize,
     height: usize,
@@ -1534,10 +1529,10 @@ pub extern "C" fn yalivucu_start_bc5_signed(
     numbers: &mut [usize; 5],
     kept: &mut [u8; 15],
 ) -> u32
-    ensures { λ r. ⌜ Told
-        (λ a. StartLent Format.Bc5Signed (pitched width height pitch) (length (now (image .entry)))
-        a (now (numbers .exit)) (now (kept .exit)))
-        r ⌝ }
+    ensures { Told
+        (λ a. StartLent Format.Bc5Signed (pitched width height pitch) (length image.now)
+        a numbers.new kept.new)
+        result }
 {
     let pic = Picture {
         width: width,
@@ -1548,7 +1543,7 @@ pub extern "C" fn yalivucu_start_bc5_signed(
 }
 
 // Takes a piece of a picture that was started.
-#[no_mangle]
+#[unsafe(no_mangle)]
 pub extern "C" fn yalivucu_take_piece(
     numbers: &mut [usize; 5],
     kept: &mut [u8; 15],
@@ -1557,25 +1552,25 @@ pub extern "C" fn yalivucu_take_piece(
     painted: &mut usize,
     unused: &mut usize,
 ) -> u32
-    ensures { λ r. ⌜ Told
-        (λ a. PieceLent (now (numbers .entry)) (now (kept .entry)) (now (bytes .entry)) (now (image .entry))
-        a (now (numbers .exit)) (now (kept .exit)) (now (painted .exit)) (now (unused .exit)) (now (image .exit)))
-        r ⌝ }
+    ensures { Told
+        (λ a. PieceLent numbers.old kept.old bytes.now image.old
+        a numbers.new kept.new painted.new unused.new image.new)
+        result }
 {
     readers::number(pieces_lent::take_piece(numbers, kept, bytes, image, painted, unused))
 }
 
 // Ends a picture that was started.
-#[no_mangle]
+#[unsafe(no_mangle)]
 pub extern "C" fn yalivucu_end_pieces(numbers: &[usize; 5], kept: &[u8; 15]) -> u32
-    ensures { λ r. ⌜ Told (λ a. Ends (stateIn (now (numbers .entry)) (now (kept .entry))) a) r ⌝ }
+    ensures { Told (λ a. Ends (state_in_lem numbers.now kept.now) a) result }
 {
     readers::number(pieces_lent::end(numbers, kept))
 }
 
 // The reading at a pixel, by a legend of kind 0 level, 1 line or 2 bend; any other kind is refused with 13. With answer 0 alone, its three
 // values are written.
-#[no_mangle]
+#[unsafe(no_mangle)]
 pub extern "C" fn yalivucu_read_degrees(
     kind: usize,
     low: f32,
@@ -1589,19 +1584,19 @@ pub extern "C" fn yalivucu_read_degrees(
     seen: &mut f32,
     difference: &mut f32,
 ) -> u32
-    ensures { λ r. ⌜ DegreesTold
-        (legendAt kind low step second)
-        «legend_digit»
-        «picture_digit»
+    ensures { DegreesTold
+        (legend_at_lem kind low step second)
+        legend_digit
+        picture_digit
         pixel
         measured
-        (now (predicted .entry))
-        (now (seen .entry))
-        (now (difference .entry))
-        r
-        (now (predicted .exit))
-        (now (seen .exit))
-        (now (difference .exit)) ⌝ }
+        predicted.old
+        seen.old
+        difference.old
+        result
+        predicted.new
+        seen.new
+        difference.new }
 {
     degrees_lent::read(
         kind,
@@ -1619,15 +1614,15 @@ pub extern "C" fn yalivucu_read_degrees(
 }
 
 // Checks an ETC1 block against a tile.
-#[no_mangle]
+#[unsafe(no_mangle)]
 pub extern "C" fn yalivucu_check_etc1_block(block: &[u8], tile: &[u32], tolerance: u32) -> u32
-    ensures { λ r. ⌜ BakingTold (λ a. Checks tolerance (now (block .entry)) (now (tile .entry)) a) r ⌝ }
+    ensures { BakingTold (λ a. Checks tolerance block.now tile.now a) result }
 {
     readers::baking_number(readers::check_etc1_block(block, tile, tolerance))
 }
 
 // Bakes an individual ETC1 block.
-#[no_mangle]
+#[unsafe(no_mangle)]
 pub extern "C" fn yalivucu_bake_etc1_block(
     first: &[u8; 3],
     second: &[u8; 3],
@@ -1635,26 +1630,26 @@ pub extern "C" fn yalivucu_bake_etc1_block(
     tile: &[u32],
     block: &mut [u8],
 ) -> u32
-    ensures { λ r. ⌜ BakingTold
-        (λ a. Bakes (now (first .entry)) (now (second .entry)) flip (now (tile .entry)) a (now (block .entry)) (now (block .exit)))
-        r ⌝ }
+    ensures { BakingTold
+        (λ a. Bakes first.now second.now flip tile.now a block.old block.new)
+        result }
 {
     readers::baking_number(readers::bake_etc1_block(*first, *second, flip, tile, block))
 }
 
 // Opens a texture file. With answer 0 alone, nine numbers are written: the container, the format, 1 where it is sRGB, the width, the
 // height, the number of levels, 1 where the greatest byte is first, the orientation, and the bytes that are left over.
-#[no_mangle]
+#[unsafe(no_mangle)]
 pub extern "C" fn yalivucu_open_file(data: &[u8], out: &mut [usize; 9]) -> u32
-    ensures { λ r. ⌜ FileTold (now («data» .entry)) (now (out .entry)) r (now (out .exit)) ⌝ }
+    ensures { FileTold «data».now out.old result out.new }
 {
     file::lent::open_file(data, out)
 }
 
 // A level of a texture file. With answer 0 alone, four numbers are written: the width, the height, the start and the length.
-#[no_mangle]
+#[unsafe(no_mangle)]
 pub extern "C" fn yalivucu_file_level(data: &[u8], level: usize, out: &mut [usize; 4]) -> u32
-    ensures { λ r. ⌜ LevelTold (now («data» .entry)) level (now (out .entry)) r (now (out .exit)) ⌝ }
+    ensures { LevelTold «data».now level out.old result out.new }
 {
     file::lent::file_level(data, level, out)
 }

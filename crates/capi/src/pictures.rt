@@ -1,13 +1,12 @@
 // The picture readers as a caller from C is told of them: the answer's number, and the block that a reader with a guard names.
-use rules::Answer;
-use rules::Format;
-use rules::Picture;
-ghost use mathlib.Core.Path.{_≡_};
-ghost use Rattle·rules.specs.Places.{sized, pitched};
-ghost use Rattle·rules.specs.Readers.{ReadsPicture, ReadsStrict, ReadsOpaque, ChecksStrict, ChecksOpaque};
-ghost use Rattle·rules.specs.Whole.{ReadsWhole};
-ghost use Rattle·whole.specs.Lanes.{lanes};
-ghost use Rattle·capi·specs.specs.pictures.Told.{Told, answerNumber, blockOr};
+ghost use Rattle.std.specs.Prelude.{◌≡◌};
+ghost use Rattle.rules.specs.Places.{sized, pitched};
+ghost use Rattle.rules.specs.Readers.{ReadsPicture, ReadsStrict, ReadsOpaque, ChecksStrict, ChecksOpaque};
+ghost use Rattle.rules.specs.Whole.{ReadsWhole};
+ghost use Rattle.whole.specs.Lanes.{lanes};
+ghost use Rattle.capi.specs.pictures.Told.{Told, answer_number, block_or_lem};
+
+use rules::{Answer, Format, Picture};
 
 // Reads a picture of any format and pitch.
 pub fn read(
@@ -18,9 +17,9 @@ pub fn read(
     pitch: usize,
     image: &mut [u32],
 ) -> u32
-    ensures { λ r. ⌜ Told
-        (λ a. ReadsPicture f (now («data» .entry)) (pitched width height pitch) (now (image .entry)) a (now (image .exit)))
-        r ⌝ }
+    ensures { Told
+        (λ a. ReadsPicture f «data».now (pitched width height pitch) image.old a image.new)
+        result }
 {
     let pic = Picture {
         width: width,
@@ -40,9 +39,9 @@ pub fn read_whole(
     pitch: usize,
     image: &mut [u16],
 ) -> u32
-    ensures { λ r. ⌜ Told
-        (λ a. ReadsWhole signed (lanes green) (now («data» .entry)) (pitched width height pitch) (now (image .entry)) a (now (image .exit)))
-        r ⌝ }
+    ensures { Told
+        (λ a. ReadsWhole signed (lanes green) «data».now (pitched width height pitch) image.old a image.new)
+        result }
 {
     let pic = Picture {
         width,
@@ -54,7 +53,7 @@ pub fn read_whole(
 
 // The number of an answer. The block that it names is written, and an answer that names none writes none.
 fn handed(answer: Answer, block: &mut usize) -> u32
-    ensures { λ r. ⌜ (r ≡ answerNumber answer) × (now (block .exit) ≡ blockOr answer (now (block .entry))) ⌝ }
+    ensures { (result ≡ answer_number answer) × (block.new ≡ block_or_lem answer block.old) }
 {
     if answer_numbers::names(answer) {
         *block = answer_numbers::block_or(answer, 0);
@@ -65,38 +64,38 @@ fn handed(answer: Answer, block: &mut usize) -> u32
 
 // The strict reader of a picture with any pitch, and the block that it names.
 pub fn strict(data: &[u8], pic: Picture, image: &mut [u32], block: &mut usize) -> u32
-    ensures { λ r. ⌜ Told
-        (λ a. ReadsStrict (now («data» .entry)) pic (now (image .entry)) a (now (image .exit))
-        × (now (block .exit) ≡ blockOr a (now (block .entry))))
-        r ⌝ }
+    ensures { Told
+        (λ a. ReadsStrict «data».now pic image.old a image.new
+        × (block.new ≡ block_or_lem a block.old))
+        result }
 {
     handed(picture::read_strict(data, pic, image), block)
 }
 
 // The reader of an opaque-only viewer, likewise.
 pub fn opaque(data: &[u8], pic: Picture, image: &mut [u32], block: &mut usize) -> u32
-    ensures { λ r. ⌜ Told
-        (λ a. ReadsOpaque (now («data» .entry)) pic (now (image .entry)) a (now (image .exit))
-        × (now (block .exit) ≡ blockOr a (now (block .entry))))
-        r ⌝ }
+    ensures { Told
+        (λ a. ReadsOpaque «data».now pic image.old a image.new
+        × (block.new ≡ block_or_lem a block.old))
+        result }
 {
     handed(picture::read_opaque(data, pic, image), block)
 }
 
 // The check of the strict reader without an image, and the block that it names.
 pub fn check_strict(data: &[u8], width: usize, height: usize, block: &mut usize) -> u32
-    ensures { λ r. ⌜ Told
-        (λ a. ChecksStrict (now («data» .entry)) (sized width height) a × (now (block .exit) ≡ blockOr a (now (block .entry))))
-        r ⌝ }
+    ensures { Told
+        (λ a. ChecksStrict «data».now (sized width height) a × (block.new ≡ block_or_lem a block.old))
+        result }
 {
     handed(picture::check_strict(data, width, height), block)
 }
 
 // That of the reader of an opaque-only viewer, likewise.
 pub fn check_opaque(data: &[u8], width: usize, height: usize, block: &mut usize) -> u32
-    ensures { λ r. ⌜ Told
-        (λ a. ChecksOpaque (now («data» .entry)) (sized width height) a × (now (block .exit) ≡ blockOr a (now (block .entry))))
-        r ⌝ }
+    ensures { Told
+        (λ a. ChecksOpaque «data».now (sized width height) a × (block.new ≡ block_or_lem a block.old))
+        result }
 {
     handed(picture::check_opaque(data, width, height), block)
 }

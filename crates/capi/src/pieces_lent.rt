@@ -1,19 +1,16 @@
 // The reader of a picture in pieces for callers who keep its state themselves, in two arrays that they lend: five numbers and fifteen
 // bytes. Every content of them is a state, so a caller who spoils them gets another picture and never a store out of place.
+ghost use Rattle.std.specs.Prelude.{◌≡◌, length};
+ghost use Rattle.rules.specs.Pieces.{Ends};
+ghost use Rattle.rules.specs.FileFormats.{format_number};
+ghost use Rattle.capi.specs.pieces_lent.Lent.{state_in_lem, StartLent, PieceLent};
+
 use file::formats;
-use rules::Answer;
-use rules::Format;
-use rules::Picture;
-use rules::Progress;
-ghost use mathlib.Core.Path.{_≡_};
-ghost use lib.ListN.{length};
-ghost use Rattle·rules.specs.Pieces.{Ends};
-ghost use Rattle·rules.specs.FileFormats.{formatNumber};
-ghost use Rattle·capi·specs.specs.pieces_lent.Lent.{stateIn, StartLent, PieceLent};
+use rules::{Answer, Format, Picture, Progress};
 
 // The number of a format.
 fn number_of(f: Format) -> usize
-    ensures { λ r. ⌜ r ≡ formatNumber f ⌝ }
+    ensures { result ≡ format_number f }
 {
     match f {
         Format::Etc1 => 0,
@@ -38,7 +35,7 @@ fn number_of(f: Format) -> usize
 
 // The state that the two arrays hold.
 fn state_in(numbers: [usize; 5], kept: [u8; 15]) -> Progress
-    ensures { λ r. ⌜ r ≡ stateIn numbers kept ⌝ }
+    ensures { result ≡ state_in_lem numbers kept }
 {
     let f = formats::format_at(numbers[0]);
     let pic = Picture {
@@ -62,7 +59,7 @@ pub fn start(
     numbers: &mut [usize; 5],
     kept: &mut [u8; 15],
 ) -> Answer
-    ensures { λ r. ⌜ StartLent f pic (length (now (image .entry))) r (now (numbers .exit)) (now (kept .exit)) ⌝ }
+    ensures { StartLent f pic (length image.now) result numbers.new kept.new }
 {
     let started = pieces::start(f, pic, image);
     let progress = started.progress;
@@ -82,8 +79,8 @@ pub fn take_piece(
     painted: &mut usize,
     unused: &mut usize,
 ) -> Answer
-    ensures { λ r. ⌜ PieceLent (now (numbers .entry)) (now (kept .entry)) (now (bytes .entry)) (now (image .entry))
-        r (now (numbers .exit)) (now (kept .exit)) (now (painted .exit)) (now (unused .exit)) (now (image .exit)) ⌝ }
+    ensures { PieceLent numbers.old kept.old bytes.now image.old
+        result numbers.new kept.new painted.new unused.new image.new }
 {
     let before = *numbers;
     let state = state_in(before, *kept);
@@ -99,7 +96,7 @@ pub fn take_piece(
 
 // Ends: what the arrays hold is not changed.
 pub fn end(numbers: &[usize; 5], kept: &[u8; 15]) -> Answer
-    ensures { λ r. ⌜ Ends (stateIn (now (numbers .entry)) (now (kept .entry))) r ⌝ }
+    ensures { Ends (state_in_lem numbers.now kept.now) result }
 {
     pieces::end(state_in(*numbers, *kept))
 }

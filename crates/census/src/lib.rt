@@ -1,20 +1,17 @@
 // How many blocks of a picture are of each kind. Nothing is painted.
+#![tactic(auto)]
+
 mod tally;
 
-use rules::KindCounts;
-use rules::Picture;
-use rules::RgbCensus;
-use rules::RgbCounts;
-use rules::Rgba1Census;
-use rules::Rgba1Counts;
-ghost use mathlib.Core.Path.{_≡_};
-ghost use lib.ListN.{getD};
-ghost use Rattle·rules.specs.Notation.{build};
-ghost use Rattle·rules.specs.Census.{rgbValues, rgba1Values, CountsRgb, CountsRgba1};
+ghost use Rattle.std.specs.Prelude.{◌≡◌, get_or};
+ghost use Rattle.rules.specs.Notation.{build};
+ghost use Rattle.rules.specs.Census.{rgb_values, rgba1_values, CountsRgb, CountsRgba1};
+
+use rules::{KindCounts, Picture, RgbCensus, RgbCounts, Rgba1Census, Rgba1Counts};
 
 // A tally of the five tests, by their names.
 fn rgb_counts(c: [usize; 8]) -> RgbCounts
-    ensures { λ r. ⌜ rgbValues r ≡ build 5 (λ k. getD c k 0) ⌝ }
+    ensures { rgb_values result ≡ build 5 (λ k. get_or c k 0) }
 {
     RgbCounts {
         individual: c[0],
@@ -27,7 +24,7 @@ fn rgb_counts(c: [usize; 8]) -> RgbCounts
 
 // A tally of the eight.
 fn rgba1_counts(c: [usize; 8]) -> Rgba1Counts
-    ensures { λ r. ⌜ rgba1Values r ≡ build 8 (λ k. getD c k 0) ⌝ }
+    ensures { rgba1_values result ≡ build 8 (λ k. get_or c k 0) }
 {
     let opaque = KindCounts {
         differential: c[0],
@@ -49,7 +46,7 @@ fn rgba1_counts(c: [usize; 8]) -> Rgba1Counts
 
 // The census of an ETC2 RGB picture, for all inputs.
 pub fn rgb(data: &[u8], pic: Picture) -> RgbCensus
-    ensures { λ r. ⌜ CountsRgb (now («data» .entry)) pic r ⌝ }
+    ensures { CountsRgb «data».now pic result }
 {
     if checks::too_large(65536, pic) {
         return RgbCensus::TooLarge;
@@ -63,7 +60,7 @@ pub fn rgb(data: &[u8], pic: Picture) -> RgbCensus
 
 // The census of an ETC2 RGBA1 picture, for all inputs.
 pub fn rgba1(data: &[u8], pic: Picture) -> Rgba1Census
-    ensures { λ r. ⌜ CountsRgba1 (now («data» .entry)) pic r ⌝ }
+    ensures { CountsRgba1 «data».now pic result }
 {
     if checks::too_large(65536, pic) {
         return Rgba1Census::TooLarge;

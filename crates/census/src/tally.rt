@@ -1,16 +1,14 @@
 // How many blocks meet each test of a census: each meets one.
+ghost use Rattle.std.specs.Prelude.{true, ◌≡◌, ◌*◌, ◌<◌, ◌≤◌, length};
+ghost use Rattle.rules.specs.Places.{bytes_of};
+ghost use Rattle.rules.specs.Census.{counts};
+ghost use Rattle.laws.specs.Sorted.{met, only, eight, fourth};
+
 use rules::Kind;
-ghost use mathlib.Core.Bool.{true};
-ghost use mathlib.Core.Path.{_≡_};
-ghost use Prim.Native.Nat.{_*_, _<_, _≤_};
-ghost use lib.ListN.{length};
-ghost use Rattle·rules.specs.Places.{bytesOf};
-ghost use Rattle·rules.specs.Census.{counts};
-ghost use Rattle·laws.specs.Sorted.{met, only, eight, fourth};
 
 // The place of a kind among the four that RGBA1 has. None is individual.
 fn among_four(kind: Kind) -> usize
-    ensures { λ r. ⌜ (r ≡ fourth kind) × (r < 4) ⌝ }
+    ensures { (result ≡ fourth kind) × (result < 4) }
 {
     match kind {
         Kind::Individual => 0,
@@ -23,8 +21,8 @@ fn among_four(kind: Kind) -> usize
 
 // The number of the one test that a block meets, among those of RGBA1, which split by the opaque bit, or those of RGB.
 fn place_of(split: bool, d: &[u8]) -> usize
-    requires { ⌜ 8 ≤ length (now d) ⌝ }
-    ensures { λ r. ⌜ (only (met (eight split) (now (d .entry))) r ≡ true) × (r < 8) ⌝ }
+    requires { 8 ≤ length d.now }
+    ensures { (only (met (eight split) d.now) result ≡ true) × (result < 8) }
 {
     let four = among_four(kinds::kind_by_sums(d));
     if d[3] / 2 % 2 == 1 {
@@ -36,8 +34,8 @@ fn place_of(split: bool, d: &[u8]) -> usize
 
 // How many of the first n blocks meet each test.
 pub fn tally(split: bool, data: &[u8], n: usize) -> [usize; 8]
-    requires { ⌜ n * 8 ≤ length (now «data») ⌝ }
-    ensures { λ r. ⌜ r ≡ counts (bytesOf 8 (now («data» .entry))) n (eight split) ⌝ }
+    requires { n * 8 ≤ length «data».now }
+    ensures { result ≡ counts (bytes_of 8 «data».now) n (eight split) }
 {
     let mut tally = [0usize; 8];
     let mut b: usize = 0;

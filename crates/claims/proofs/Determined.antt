@@ -4,38 +4,38 @@
 use mathlib.Core.Bool.{Bool}
 use mathlib.Core.List.{List}
 use Prim.Native.Nat.{ℕ}
-use Rattle·rules.specs.Readers.{ReadsPicture, ReadsStrict, ReadsOpaque, ReadsBlock, ReadsAlpha, ReadsChannel, ReplacesChannel}
-use Rattle·rules.specs.declared.Answer.{Answer}
-use Rattle·rules.specs.declared.Format.{Format}
-use Rattle·rules.specs.declared.Picture.{Picture}
-use Rattle·laws.proofs.Unique.{no-second-outcome}
-use Rattle·claims·proofs.proofs.Outcomes.{Same}
+use Rattle.rules.specs.Readers.{ReadsPicture, ReadsStrict, ReadsOpaque, ReadsBlock, ReadsAlpha, ReadsChannel, ReplacesChannel}
+use Rattle.rules.specs.declared.Answer.{Answer}
+use Rattle.rules.specs.declared.Format.{Format}
+use Rattle.rules.specs.declared.Picture.{Picture}
+use Rattle.laws.proofs.Unique.{no_second_outcome}
+use Rattle.claims.proofs.Outcomes.{Same}
 
 module _ (d image : List ℕ) (a b : Answer) (new new' : List ℕ) where
   -- the picture readers of the formats
-  pub picture-determined : (f : Format) (pic : Picture) → ReadsPicture f d pic image a new → ReadsPicture f d pic image b new' → Same a b new new'
-  picture-determined f pic p q = no-second-outcome _ _ image a b new new' p q
+  pub picture_determined : (f : Format) (pic : Picture) → ReadsPicture f d pic image a new → ReadsPicture f d pic image b new' → Same a b new new'
+  picture_determined f pic p q = no_second_outcome _ _ image a b new new' p q
 
   -- strict ETC1
-  pub strict-determined : (pic : Picture) → ReadsStrict d pic image a new → ReadsStrict d pic image b new' → Same a b new new'
-  strict-determined pic p q = no-second-outcome _ _ image a b new new' p q
+  pub strict_determined : (pic : Picture) → ReadsStrict d pic image a new → ReadsStrict d pic image b new' → Same a b new new'
+  strict_determined pic p q = no_second_outcome _ _ image a b new new' p q
 
   -- RGBA1 for an opaque-only viewer
-  pub opaque-determined : (pic : Picture) → ReadsOpaque d pic image a new → ReadsOpaque d pic image b new' → Same a b new new'
-  opaque-determined pic p q = no-second-outcome _ _ image a b new new' p q
+  pub opaque_determined : (pic : Picture) → ReadsOpaque d pic image a new → ReadsOpaque d pic image b new' → Same a b new new'
+  opaque_determined pic p q = no_second_outcome _ _ image a b new new' p q
 
   -- the block readers of the formats
-  pub block-determined : (f : Format) → ReadsBlock f d image a new → ReadsBlock f d image b new' → Same a b new new'
-  block-determined f p q = no-second-outcome _ _ image a b new new' p q
+  pub block_determined : (f : Format) → ReadsBlock f d image a new → ReadsBlock f d image b new' → Same a b new new'
+  block_determined f p q = no_second_outcome _ _ image a b new new' p q
 
   -- the alpha half
-  pub alpha-determined : ReadsAlpha d image a new → ReadsAlpha d image b new' → Same a b new new'
-  alpha-determined p q = no-second-outcome _ _ image a b new new' p q
+  pub alpha_determined : ReadsAlpha d image a new → ReadsAlpha d image b new' → Same a b new new'
+  alpha_determined p q = no_second_outcome _ _ image a b new new' p q
 
   -- a single channel, unsigned and signed
-  pub channel-determined : (signed : Bool) (channel : ℕ) → ReadsChannel signed d channel image a new → ReadsChannel signed d channel image b new' → Same a b new new'
-  channel-determined signed channel p q = no-second-outcome _ _ image a b new new' p q
+  pub channel_determined : (signed : Bool) (channel : ℕ) → ReadsChannel signed d channel image a new → ReadsChannel signed d channel image b new' → Same a b new new'
+  channel_determined signed channel p q = no_second_outcome _ _ image a b new new' p q
 
   -- the alpha half of BC3 into a channel
-  pub replaced-determined : (channel : ℕ) → ReplacesChannel d channel image a new → ReplacesChannel d channel image b new' → Same a b new new'
-  replaced-determined channel p q = no-second-outcome _ _ image a b new new' p q
+  pub replaced_determined : (channel : ℕ) → ReplacesChannel d channel image a new → ReplacesChannel d channel image b new' → Same a b new new'
+  replaced_determined channel p q = no_second_outcome _ _ image a b new new' p q

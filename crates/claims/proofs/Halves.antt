@@ -1,21 +1,21 @@
 -- The sum of a block's differences, half by half and pixel by pixel, by its codes and indices.
 -- Assumes nothing.
-use mathlib.Core.Path.{_≡_, _∙_, ap}
+use mathlib.Core.Path.{◌≡◌, ◌∙◌, ap}
 use mathlib.Core.Bool.{Bool, true, false, cond}
 use mathlib.Core.List.{List}
-use Prim.Native.Nat.{ℕ, _+_, _*_, _/_, _%_, _<_}
+use Prim.Native.Nat.{ℕ, ◌+◌, ◌*◌, ◌/◌, ◌%◌, ◌<◌}
 use native.Mathlib.Omega.{arith}
 use lib.Dec.{eqb}
-use lib.ListN.{getD}
-use Rattle·rules.specs.Counting.{sumOf}
-use Rattle·rules.specs.Checking.{differ, pixel, cost}
-use Rattle·rules.specs.Baking.{basesOf, halfOf, own, shown}
-use Rattle·bake.proofs.baking.Sums.{sum-same}
-use Rattle·bake.proofs.baking.Block.{Reads, shows}
+use lib.ListN.{get_or}
+use Rattle.rules.specs.Counting.{sum_of}
+use Rattle.rules.specs.Checking.{differ, pixel, cost}
+use Rattle.rules.specs.Baking.{bases_of_lem, half_of, own, shown}
+use Rattle.bake.proofs.baking.Sums.{sum_same}
+use Rattle.bake.proofs.baking.Block.{Reads, shows}
 
 -- the places of the two halves, one after the other, are the sixteen
-split : (flip : Bool) (f : ℕ → ℕ) → sumOf f 16 ≡ sumOf (λ h. sumOf (λ j. f (cond flip (8 * h + j) (4 * (j / 2) + 2 * h + j % 2))) 8) 2
-unfolding sumOf
+split : (flip : Bool) (f : ℕ → ℕ) → sum_of f 16 ≡ sum_of (λ h. sum_of (λ j. f (cond flip (8 * h + j) (4 * (j / 2) + 2 * h + j % 2))) 8) 2
+unfolding sum_of
 split true f = omega arith
 split false f = omega arith
 
@@ -37,31 +37,31 @@ found true k h = (omega arith, omega arith)
 found false k h = (omega arith, omega arith)
 
 module _ (flip : ℕ) where
-  pub own-below : (h j : ℕ) → h < 2 → j < 8 → own flip h j < 16
-  own-below h j p q = within (eqb flip 1) h j p q
+  pub own_below : (h j : ℕ) → h < 2 → j < 8 → own flip h j < 16
+  own_below h j p q = within (eqb flip 1) h j p q
 
-  pub own-half : (h j : ℕ) → h < 2 → j < 8 → halfOf flip (own flip h j) ≡ h
-  own-half h j p q = back (eqb flip 1) h j p q
+  pub own_half : (h j : ℕ) → h < 2 → j < 8 → half_of flip (own flip h j) ≡ h
+  own_half h j p q = back (eqb flip 1) h j p q
 
-  pub own-turn : (k : ℕ) → k < 16 → (turn flip k < 8) × (own flip (halfOf flip k) (turn flip k) ≡ k)
-  own-turn k h = found (eqb flip 1) k h
+  pub own_turn : (k : ℕ) → k < 16 → (turn flip k < 8) × (own flip (half_of flip k) (turn flip k) ≡ k)
+  own_turn k h = found (eqb flip 1) k h
 
 -- what index i adds at pixel j of half h, with code c
 abbrev pub adds : (ℕ → List ℕ) → ℕ → List ℕ → ℕ → ℕ → ℕ → ℕ → ℕ
-adds base flip t h c j i = differ (shown (base h) c i) (getD t (own flip h j) 0)
+adds base flip t h c j i = differ (shown (base h) c i) (get_or t (own flip h j) 0)
 
 -- the sum of half h, of codes and indices
-abbrev pub halfSum : (ℕ → List ℕ) → ℕ → List ℕ → (ℕ → ℕ) → (ℕ → ℕ) → ℕ → ℕ
-halfSum base flip t codes indices h = sumOf (λ j. adds base flip t h (codes h) j (indices (own flip h j))) 8
+abbrev pub half_sum : (ℕ → List ℕ) → ℕ → List ℕ → (ℕ → ℕ) → (ℕ → ℕ) → ℕ → ℕ
+half_sum base flip t codes indices h = sum_of (λ j. adds base flip t h (codes h) j (indices (own flip h j))) 8
 
-pub by-halves : {first second : List ℕ} {flip : ℕ} {codes indices : ℕ → ℕ} {d : List ℕ} (t : List ℕ) → Reads first second flip codes indices d
-    → cost d t ≡ sumOf (halfSum (basesOf first second) flip t codes indices) 2
-by-halves {first} {second} {flip} {codes} {indices} {d} t p =
-    split (eqb flip 1) (λ k. differ (pixel d k) (getD t k 0))
-    ∙ sum-same (λ h. sumOf (λ j. differ (pixel d (own flip h j)) (getD t (own flip h j) 0)) 8) (halfSum (basesOf first second) flip t codes indices) 2
+pub by_halves : {first second : List ℕ} {flip : ℕ} {codes indices : ℕ → ℕ} {d : List ℕ} (t : List ℕ) → Reads first second flip codes indices d
+    → cost d t ≡ sum_of (half_sum (bases_of_lem first second) flip t codes indices) 2
+by_halves {first} {second} {flip} {codes} {indices} {d} t p =
+    split (eqb flip 1) (λ k. differ (pixel d k) (get_or t k 0))
+    ∙ sum_same (λ h. sum_of (λ j. differ (pixel d (own flip h j)) (get_or t (own flip h j) 0)) 8) (half_sum (bases_of_lem first second) flip t codes indices) 2
     (λ h m.
-    sum-same (λ j. differ (pixel d (own flip h j)) (getD t (own flip h j) 0)) (λ j. adds (basesOf first second) flip t h (codes h) j (indices (own flip h j))) 8
+    sum_same (λ j. differ (pixel d (own flip h j)) (get_or t (own flip h j) 0)) (λ j. adds (bases_of_lem first second) flip t h (codes h) j (indices (own flip h j))) 8
     (λ j n.
     let o = own flip h j in
-    ap (λ (v : ℕ). differ v (getD t o 0)) (shows p o (own-below flip h j m n))
-    ∙ ap (λ (x : ℕ). differ (shown (basesOf first second x) (codes x) (indices o)) (getD t o 0)) (own-half flip h j m n)))
+    ap (λ (v : ℕ). differ v (get_or t o 0)) (shows p o (own_below flip h j m n))
+    ∙ ap (λ (x : ℕ). differ (shown (bases_of_lem first second x) (codes x) (indices o)) (get_or t o 0)) (own_half flip h j m n)))

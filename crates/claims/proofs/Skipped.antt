@@ -1,76 +1,76 @@
 -- A skipped record that is put in at any border after the first record changes nothing: neither what the head's reader tells nor the
 -- reader's answer nor its picture.
 -- Assumes nothing.
-use mathlib.Core.Path.{_≡_, _∙_, sym, ap}
+use mathlib.Core.Path.{◌≡◌, ◌∙◌, sym, ap}
 use mathlib.Core.Bool.{Bool, true, cond}
-use mathlib.Core.List.{List, [], _∷_, _++_}
-use Prim.Native.Nat.{ℕ, _≤_}
+use mathlib.Core.List.{List, [], ◌∷◌, ◌++◌}
+use Prim.Native.Nat.{ℕ, ◌≤◌}
 use borrow.Author.Tests.{le-leb}
 use lib.ListN.{length}
-use Rattle·rules.specs.Answers.{left}
-use Rattle·rules.specs.Readers.{pictureOf}
-use Rattle·rules.specs.declared.Answer.{Answer}
-use Rattle·rules.specs.declared.Sheet.{Sheet}
-use Rattle·rules.specs.Records.{Record, encoded, Records, more, recordsOf, first, later, isSkipped, kept}
-use Rattle·rules.specs.Sheets.{formatOf, formatIn, sizeIn, fromHead, walkVerdict, headIn, blocksIn, headVerdict, readVerdict, sheetPicture, TellsHead, ReadsSheet}
-use Rattle·sheet.specs.Shown.{walk}
-use Rattle·sheet.proofs.Shown.{headSaid, roomSaid}
-use Rattle·claims·proofs.proofs.Encoded.{Fits, one, all-encoded, All-fit, before, many}
+use Rattle.rules.specs.Answers.{left}
+use Rattle.rules.specs.Readers.{picture_of}
+use Rattle.rules.specs.declared.Answer.{Answer}
+use Rattle.rules.specs.declared.Sheet.{Sheet}
+use Rattle.rules.specs.Records.{Record, encoded, Records, more, records_of, first, later, is_skipped, kept}
+use Rattle.rules.specs.Sheets.{format_of, format_in, size_in, from_head, walk_verdict, head_in, blocks_in, head_verdict, read_verdict, sheet_picture, TellsHead, ReadsSheet}
+use Rattle.sheet.specs.Shown.{walk}
+use Rattle.sheet.proofs.Shown.{head_said, room_said}
+use Rattle.claims.proofs.Encoded.{Fits, one, all_encoded, All-fit, before, many}
 
 -- a skipped record leaves what is kept of the records around it
-passed : (rs : List Record) (s : Record) (x : Records) → isSkipped s ≡ true → kept (before rs (more s x)) ≡ kept (before rs x)
+passed : (rs : List Record) (s : Record) (x : Records) → is_skipped s ≡ true → kept (before rs (more s x)) ≡ kept (before rs x)
 unfolding kept
 passed [] s x e = ap (λ (b : Bool). cond b (kept x) (more s (kept x))) e
-passed (r ∷ rs) s x e = ap (λ (z : Records). cond (isSkipped r) z (more r z)) (passed rs s x e)
+passed (r ∷ rs) s x e = ap (λ (z : Records). cond (is_skipped r) z (more r z)) (passed rs s x e)
 
 -- bytes that begin with the same record and keep the same records behind it
 pub record SameKept (d e : List ℕ) : Type 0 where
   pub head : Record
   pub rest : Records
   pub rest' : Records
-  pub meets : recordsOf d ≡ more head rest
-  pub meets' : recordsOf e ≡ more head rest'
+  pub meets : records_of d ≡ more head rest
+  pub meets' : records_of e ≡ more head rest'
   pub same : kept rest ≡ kept rest'
 
 module _ (d e : List ℕ) (a : SameKept d e) where
-  head-is : headIn d ≡ headIn e
-  head-is = ap first (a .meets) ∙ sym (ap first (a .meets'))
+  head_is : head_in d ≡ head_in e
+  head_is = ap first a.meets ∙ sym (ap first a.meets')
 
-  blocks-are : blocksIn d ≡ blocksIn e
-  blocks-are =
-      ap (λ (z : Records). first (kept (later z)) .payload) (a .meets)
-      ∙ ap (λ (z : Records). first z .payload) (a .same)
-      ∙ sym (ap (λ (z : Records). first (kept (later z)) .payload) (a .meets'))
+  blocks_are : blocks_in d ≡ blocks_in e
+  blocks_are =
+      ap (λ (z : Records). (first (kept (later z))).payload) a.meets
+      ∙ ap (λ (z : Records). (first z).payload) a.same
+      ∙ sym (ap (λ (z : Records). (first (kept (later z))).payload) a.meets')
 
   walks : (then : List ℕ) → walk d then ≡ walk e then
   walks then =
-      ap (walkVerdict then) (a .meets) ∙ ap (fromHead (a .head) then) (a .same) ∙ sym (ap (walkVerdict then) (a .meets'))
+      ap (walk_verdict then) a.meets ∙ ap (from_head a.head then) a.same ∙ sym (ap (walk_verdict then) a.meets')
 
-  pub tells-alike : (sheet : Sheet) → TellsHead d sheet → TellsHead e sheet
-  unfolding headVerdict
-  tells-alike sheet p =
+  pub tells_alike : (sheet : Sheet) → TellsHead d sheet → TellsHead e sheet
+  unfolding head_verdict
+  tells_alike sheet p =
       p
-      ∙ walks (headSaid d)
-      ∙ ap (λ (r : Record). walk e (0 ∷ formatIn r ∷ sizeIn r .width ∷ sizeIn r .height ∷ [])) head-is
+      ∙ walks (head_said d)
+      ∙ ap (λ (r : Record). walk e (0 ∷ format_in r ∷ (size_in r).width ∷ (size_in r).height ∷ [])) head_is
 
-  reads : (n : ℕ) → readVerdict d n ≡ readVerdict e n
-  unfolding readVerdict
+  reads : (n : ℕ) → read_verdict d n ≡ read_verdict e n
+  unfolding read_verdict
   reads n =
-      walks (roomSaid n (sizeIn (headIn d))) ∙ ap (λ (r : Record). walk e (roomSaid n (sizeIn r))) head-is
+      walks (room_said n (size_in (head_in d))) ∙ ap (λ (r : Record). walk e (room_said n (size_in r))) head_is
 
-  picture : (image : List ℕ) → sheetPicture d image ≡ sheetPicture e image
+  picture : (image : List ℕ) → sheet_picture d image ≡ sheet_picture e image
   picture image =
-      ap (λ (r : Record). pictureOf (formatOf (formatIn r)) (sizeIn r) (blocksIn d) image) head-is
-      ∙ ap (λ (b : List ℕ). pictureOf (formatOf (formatIn (headIn e))) (sizeIn (headIn e)) b image) blocks-are
+      ap (λ (r : Record). picture_of (format_of (format_in r)) (size_in r) (blocks_in d) image) head_is
+      ∙ ap (λ (b : List ℕ). picture_of (format_of (format_in (head_in e))) (size_in (head_in e)) b image) blocks_are
 
-  pub reads-alike : (image new : List ℕ) (answer : Answer) → ReadsSheet d image answer new → ReadsSheet e image answer new
-  reads-alike image new answer p =
+  pub reads_alike : (image new : List ℕ) (answer : Answer) → ReadsSheet d image answer new → ReadsSheet e image answer new
+  reads_alike image new answer p =
       record {
-        says = p .says ∙ reads (length image);
+        says = p.says ∙ reads (length image);
         leaves =
-            p .leaves
-            ∙ ap (λ (v : List ℕ). left v (sheetPicture d image) image) (reads (length image))
-            ∙ ap (λ (l : List ℕ). left (readVerdict e (length image)) l image) (picture image);
+            p.leaves
+            ∙ ap (λ (v : List ℕ). left v (sheet_picture d image) image) (reads (length image))
+            ∙ ap (λ (l : List ℕ). left (read_verdict e (length image)) l image) (picture image);
       }
 
 -- "Kinds from 8000 hex on may stand anywhere after the first and are skipped": after any first records, at least one, and before
@@ -78,14 +78,14 @@ module _ (d e : List ℕ) (a : SameKept d e) where
 pub inserted : (r : Record) (rs : List Record) (s : Record) (d : List ℕ)
     → All-fit (r ∷ rs)
     → Fits s
-    → 0x8000 ≤ s .kind
-    → SameKept (all-encoded (r ∷ rs) ++ d) (all-encoded (r ∷ rs) ++ (encoded s ++ d))
+    → 0x8000 ≤ s.kind
+    → SameKept (all_encoded (r ∷ rs) ++ d) (all_encoded (r ∷ rs) ++ (encoded s ++ d))
 inserted r rs s d f g h =
     record {
       head = r;
-      rest = before rs (recordsOf d);
-      rest' = before rs (more s (recordsOf d));
+      rest = before rs (records_of d);
+      rest' = before rs (more s (records_of d));
       meets = many (r ∷ rs) f d;
       meets' = many (r ∷ rs) f (encoded s ++ d) ∙ ap (before (r ∷ rs)) (one s g d);
-      same = sym (passed rs s (recordsOf d) (le-leb 0x8000 (s .kind) h));
+      same = sym (passed rs s (records_of d) (le-leb 0x8000 s.kind h));
     }

@@ -1,12 +1,13 @@
 // A legend: whether it is refused, and the degrees that it predicts at a red.
+ghost use Rattle.std.specs.Prelude.{◌≡◌};
+ghost use Rattle.rules.specs.Degrees.{line_at, bend_at, predicted_at, sound as is_sound};
+
 use super::ranges;
 use rules::Legend;
-ghost use mathlib.Core.Path.{_≡_};
-ghost use Rattle·rules.specs.Degrees.{lineAt, bendAt, predictedAt, sound as isSound};
 
 // Whether every low, level and step of a legend is in its range.
 pub fn sound(legend: Legend) -> bool
-    ensures { λ r. ⌜ r ≡ isSound legend ⌝ }
+    ensures { result ≡ is_sound legend }
 {
     match legend {
         Legend::Level(degrees) => ranges::in_degrees(degrees),
@@ -19,14 +20,14 @@ pub fn sound(legend: Legend) -> bool
 
 // The degrees of a line, so many steps above its low: a product and a sum, each rounded.
 fn line(low: f32, step: f32, steps: u8) -> f32
-    ensures { λ r. ⌜ r ≡ lineAt low step steps ⌝ }
+    ensures { result ≡ line_at low step steps }
 {
     low + step * (steps as f32)
 }
 
 // Those of a bend, which goes on from its line's degrees at red 128.
 fn bend(low: f32, step: f32, second: f32, red: u8) -> f32
-    ensures { λ r. ⌜ r ≡ bendAt low step second red ⌝ }
+    ensures { result ≡ bend_at low step second red }
 {
     if red <= 128 {
         line(low, step, red)
@@ -38,7 +39,7 @@ fn bend(low: f32, step: f32, second: f32, red: u8) -> f32
 
 // What a legend predicts at a red.
 pub fn predicted(legend: Legend, red: u8) -> f32
-    ensures { λ r. ⌜ r ≡ predictedAt legend red ⌝ }
+    ensures { result ≡ predicted_at legend red }
 {
     match legend {
         Legend::Level(degrees) => degrees,

@@ -1,33 +1,33 @@
 // From colour to degrees: what a legend predicts at a pixel, beside what was measured.
+#![tactic(auto)]
+
 pub mod floats;
 mod legend;
 mod ranges;
 
-use rules::Legend;
-use rules::Reading;
-use rules::Reply;
-ghost use mathlib.Core.Path.{_≡_};
-ghost use lib.Dec.{eqb};
-ghost use Rattle·rules.specs.Pixel.{alphaOf};
-ghost use Rattle·rules.specs.Degrees.{oneDigit, ReadsDegrees};
+ghost use Rattle.std.specs.Prelude.{◌≡◌, eqb};
+ghost use Rattle.rules.specs.Pixel.{alpha_of};
+ghost use Rattle.rules.specs.Degrees.{one_digit_lem, ReadsDegrees};
+
+use rules::{Legend, Reading, Reply};
 
 // Whether two digits are one, thumb to little.
 fn one_digit(named: usize, shown: usize) -> bool
-    ensures { λ r. ⌜ r ≡ oneDigit named shown ⌝ }
+    ensures { result ≡ one_digit_lem named shown }
 {
     named == shown && named <= 4
 }
 
 // Whether a pixel has alpha 0.
 fn unseen(pixel: u32) -> bool
-    ensures { λ r. ⌜ r ≡ eqb (alphaOf pixel) 0 ⌝ }
+    ensures { result ≡ eqb (alpha_of pixel) 0 }
 {
     pixel / 0x1000000 % 256 == 0
 }
 
 // The reading at a pixel by a legend that names a digit, of a picture that shows one, beside a measurement.
 pub fn read_degrees(legend: Legend, named: usize, shown: usize, pixel: u32, measured: f32) -> Reply
-    ensures { λ r. ⌜ ReadsDegrees legend named shown pixel measured r ⌝ }
+    ensures { ReadsDegrees legend named shown pixel measured result }
 {
     let good_legend = legend::sound(legend);
     let good_digit = one_digit(named, shown);

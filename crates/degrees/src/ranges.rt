@@ -1,8 +1,7 @@
 // The two ranges that degrees and steps lie in.
-ghost use mathlib.Core.Path.{_≡_};
-ghost use mathlib.Core.Bool.{_&&_};
-ghost use lib.Ieee.{le, neg};
-ghost use Rattle·rules.specs.Degrees.{inDegrees, inStep};
+ghost use Rattle.std.specs.Prelude.{◌≡◌, ◌&&◌};
+ghost use Rattle.std.specs.Float.Ieee.{le, neg};
+ghost use Rattle.rules.specs.Degrees.{in_degrees_lem, in_step_lem};
 
 // The furthest that degrees and steps go, either way.
 const MOST_DEGREES: f32 = 720.0;
@@ -11,19 +10,19 @@ const MOST_STEP: f32 = 8.0;
 
 // Whether x lies in -n to n. No comparison with a NaN holds.
 fn within(x: f32, n: f32) -> bool
-    ensures { λ r. ⌜ r ≡ (le (neg n) x && le x n) ⌝ }
+    ensures { result ≡ (le (neg n) x && le x n) }
 {
     if -n <= x { x <= n } else { false }
 }
 
 pub fn in_degrees(x: f32) -> bool
-    ensures { λ r. ⌜ r ≡ inDegrees x ⌝ }
+    ensures { result ≡ in_degrees_lem x }
 {
     within(x, MOST_DEGREES)
 }
 
 pub fn in_step(x: f32) -> bool
-    ensures { λ r. ⌜ r ≡ inStep x ⌝ }
+    ensures { result ≡ in_step_lem x }
 {
     within(x, MOST_STEP)
 }

@@ -1,163 +1,156 @@
 -- The eight values of a block as the machine makes them, the one that each pixel picks, and what `eac_bytes` hands on: sixteen numbers,
 -- each the byte of its pixel and below 256.
 -- Assumes nothing.
-use mathlib.Core.Bool.{Bool, true, false}
-use mathlib.Core.List.{List, []}
-use mathlib.Core.Path.{_≡_, _∙_, refl, sym, ap, subst}
-use Prim.Native.Nat.{ℕ, _+_, _*_, _/_, _%_, _<_, _^_}
-use native.Mathlib.Omega.{arith}
-use lib.Dec.{T}
-use lib.IntN.{ℤ, pos, natAbs, _+ℤ_, _*ℤ_, +ℤ-comm}
-use lib.ListN.{getD}
-use lib.Signed.{mag, ltZ, nonNeg}
-use mir.Syntax.{w16}
-use Rattle·rules.specs.Notation.{byte, bits, build}
-use Rattle·rules.specs.Channels.{alphaSteps, alphaStep, centre, multiplier, eacValue, eacByte}
-use Rattle·rules.specs.Whole.{least, most, between, middle, added, eacWhole}
-use Rattle·laws.proofs.Filled.{getD-build, build-same}
-use Rattle·laws.proofs.Signed.{held, held-is, held-small, clamp-le}
-use Rattle·etc_alpha.specs.picks.Picks.{pickAt}
-use Rattle·eac·specs.specs.Eights.{stepsIn, wholeOf, eighthOf, numberAt}
-use Rattle·etc_alpha.proofs.channel.Steps.{small-row}
-use Rattle·eac·proofs.proofs.values.Whole.{Raised, raised, not-negative, bytes-stay}
+use Rattle.std.proofs.Common.{◌≡◌, ℕ, ◌/◌, ◌%◌, ◌^◌, ◌<◌, Bool, true, false, T, List, [], get_or, ℤ, pos, ◌+ℤ◌, ◌*ℤ◌, nat_abs, sym, refl, ap, ◌∙◌, subst, arith, w16}
+use lib.IntN.{+ℤ_comm}
+use lib.Signed.{mag, lt_z, non_neg}
+use Rattle.rules.specs.Notation.{byte, bits, build}
+use Rattle.rules.specs.Channels.{alpha_steps_lem, alpha_step, centre, multiplier, eac_value, eac_byte}
+use Rattle.rules.specs.Whole.{least, most, between, middle, added, eac_whole_lem}
+use Rattle.laws.proofs.Filled.{get_or_build, build_same}
+use Rattle.laws.proofs.Signed.{held, held_is, held_small, clamp_le}
+use Rattle.etc_alpha.specs.picks.Picks.{pick_at}
+use Rattle.eac.specs.Eights.{steps_in_lem, whole_of, eighth_of, number_at}
+use Rattle.etc_alpha.proofs.channel.Steps.{small_row}
+use Rattle.eac.proofs.values.Whole.{Raised, raised, not_negative, bytes_stay}
 
 -- a base moved by a multiple of a step, and clamped, is the same where its parts are
-moved-same : {a b s t l k h g : ℤ} {m n : ℕ} → l ≡ k → h ≡ g → a ≡ b → m ≡ n → s ≡ t → between l h (a +ℤ pos m *ℤ s) ≡ between k g (b +ℤ pos n *ℤ t)
-moved-same o p q r e = cc
+moved_same : {a b s t l k h g : ℤ} {m n : ℕ} → l ≡ k → h ≡ g → a ≡ b → m ≡ n → s ≡ t → between l h (a +ℤ pos m *ℤ s) ≡ between k g (b +ℤ pos n *ℤ t)
+moved_same o p q r e = cc
 
-small-least : (signed : Bool) → mag (least signed) < 2 ^ 15
-small-least true = omega arith
-small-least false = omega arith
+small_least : (signed : Bool) → mag (least signed) < 2 ^ 15
+small_least true = omega arith
+small_least false = omega arith
 
-small-most : (signed : Bool) → mag (most signed) < 2 ^ 15
-small-most true = omega arith
-small-most false = omega arith
+small_most : (signed : Bool) → mag (most signed) < 2 ^ 15
+small_most true = omega arith
+small_most false = omega arith
 
 -- the range is not empty, as the machine holds its ends
-pub in-order : (signed : Bool) (low high : ℤ) → low ≡ least signed → high ≡ most signed → ltZ (held w16 high) (held w16 low) ≡ false
-in-order signed low high el eh =
-    ap (λ (z : ℤ). ltZ z (held w16 low)) (held-is w16 high (most signed) eh (small-most signed))
-    ∙ ap (λ (z : ℤ). ltZ (most signed) z) (held-is w16 low (least signed) el (small-least signed))
+pub in_order : (signed : Bool) (low high : ℤ) → low ≡ least signed → high ≡ most signed → lt_z (held w16 high) (held w16 low) ≡ false
+in_order signed low high el eh =
+    ap (λ (z : ℤ). lt_z z (held w16 low)) (held_is w16 high (most signed) eh (small_most signed))
+    ∙ ap (λ (z : ℤ). lt_z (most signed) z) (held_is w16 low (least signed) el (small_least signed))
     ∙ tested signed
   where
-    tested : (t : Bool) → ltZ (most t) (least t) ≡ false
+    tested : (t : Bool) → lt_z (most t) (least t) ≡ false
     tested true = refl
     tested false = refl
 
 -- what is added is small
-pub small-added : (signed : Bool) (up : ℕ) → up ≡ added signed → up < 2048
-small-added true up e = omega arith
-small-added false up e = omega arith
+pub small_added : (signed : Bool) (up : ℕ) → up ≡ added signed → up < 2048
+small_added true up e = omega arith
+small_added false up e = omega arith
 
 -- each of the eight values is small, so that every type holds it
-pub small-whole : (signed : Bool) (d : List ℕ) (j : ℕ) → Raised (added signed) (wholeOf signed d j)
-small-whole signed d j =
-    raised signed (middle signed (byte d 0) +ℤ pos (multiplier (bits 7 4 (byte d 1))) *ℤ getD (stepsIn d) j (pos 0))
+pub small_whole : (signed : Bool) (d : List ℕ) (j : ℕ) → Raised (added signed) (whole_of signed d j)
+small_whole signed d j =
+    raised signed (middle signed (byte d 0) +ℤ pos (multiplier (bits 7 4 (byte d 1))) *ℤ get_or (steps_in_lem d) j (pos 0))
 
 -- and its eighth is as large as a byte
-pub small-eighth : (signed : Bool) (d : List ℕ) (j : ℕ) → eighthOf signed d j < 256
-small-eighth signed d j =
-    let r = small-whole signed d j in
-    let e : natAbs (wholeOf signed d j +ℤ pos (added signed)) ≡ r .value = ap natAbs (+ℤ-comm (wholeOf signed d j) (pos (added signed)) ∙ r .is) in
-    omega (arith, e, r .few)
+pub small_eighth : (signed : Bool) (d : List ℕ) (j : ℕ) → eighth_of signed d j < 256
+small_eighth signed d j =
+    let r = small_whole signed d j in
+    let e : nat_abs (whole_of signed d j +ℤ pos (added signed)) ≡ r.value = ap nat_abs (+ℤ_comm (whole_of signed d j) (pos (added signed)) ∙ r.is) in
+    omega (arith, e, r.few)
 
 -- the value in their middle as it is held
-pub middle-held : (base : ℤ) {z : ℤ} → base ≡ z → mag base < 4096 → (held w16 base ≡ z) × (mag (held w16 base) < 4096)
-middle-held base e b = let h = held-small w16 base (omega arith) in (h ∙ e, rw h b)
+pub middle_held : (base : ℤ) {z : ℤ} → base ≡ z → mag base < 4096 → (held w16 base ≡ z) × (mag (held w16 base) < 4096)
+middle_held base e b = let h = held_small w16 base (omega arith) in (h ∙ e, rw h b)
 
 -- a step as it is held
-module _ (d : List ℕ) (steps : List ℤ) (row j : ℕ) (es : steps ≡ getD alphaSteps row []) (er : row ≡ bits 3 0 (byte d 1)) where
-  step-is : getD steps j (pos 0) ≡ getD (stepsIn d) j (pos 0)
-  step-is = ap (λ (l : List ℤ). getD l j (pos 0)) (es ∙ ap (λ (n : ℕ). getD alphaSteps n []) er)
+module _ (d : List ℕ) (steps : List ℤ) (row j : ℕ) (es : steps ≡ get_or alpha_steps_lem row []) (er : row ≡ bits 3 0 (byte d 1)) where
+  step_is : get_or steps j (pos 0) ≡ get_or (steps_in_lem d) j (pos 0)
+  step_is = ap (λ (l : List ℤ). get_or l j (pos 0)) (es ∙ ap (λ (n : ℕ). get_or alpha_steps_lem n []) er)
 
-  pub step-held : held w16 (getD steps j (pos 0)) ≡ getD (stepsIn d) j (pos 0)
-  step-held = held-is w16 _ _ step-is (omega (arith, small-row (bits 3 0 (byte d 1)) j (omega arith)))
+  pub step_held : held w16 (get_or steps j (pos 0)) ≡ get_or (steps_in_lem d) j (pos 0)
+  step_held = held_is w16 _ _ step_is (omega (arith, small_row (bits 3 0 (byte d 1)) j (omega arith)))
 
-  pub step-small : mag (held w16 (getD steps j (pos 0))) < 16
-  step-small = rw step-held (small-row (bits 3 0 (byte d 1)) j (omega arith))
+  pub step_small : mag (held w16 (get_or steps j (pos 0))) < 16
+  step_small = rw step_held (small_row (bits 3 0 (byte d 1)) j (omega arith))
 
 -- what the machine makes of a block's middle, multiplier and steps, clamped, is the value of its number
 module _ (signed : Bool) (d : List ℕ) (base low high w s : ℤ) (m j : ℕ)
     (eb : base ≡ middle signed (byte d 0)) (bb : mag base < 4096) (em : m ≡ multiplier (bits 7 4 (byte d 1)))
-    (el : low ≡ least signed) (eh : high ≡ most signed) (es : s ≡ getD (stepsIn d) j (pos 0))
+    (el : low ≡ least signed) (eh : high ≡ most signed) (es : s ≡ get_or (steps_in_lem d) j (pos 0))
     (e : w ≡ between (held w16 low) (held w16 high) (held w16 base +ℤ pos m *ℤ s)) where
-  pub whole-at : held w16 w ≡ wholeOf signed d j
-  whole-at =
-      held-is w16 w _
+  pub whole_at_lem : held w16 w ≡ whole_of signed d j
+  whole_at_lem =
+      held_is w16 w _
       (e
-      ∙ moved-same (held-is w16 low (least signed) el (small-least signed)) (held-is w16 high (most signed) eh (small-most signed))
-      (held-small w16 base (omega arith) ∙ eb) em es)
-      (omega (arith, small-whole signed d j .small))
+      ∙ moved_same (held_is w16 low (least signed) el (small_least signed)) (held_is w16 high (most signed) eh (small_most signed))
+      (held_small w16 base (omega arith) ∙ eb) em es)
+      (omega (arith, (small_whole signed d j).small))
 
 -- a value that is one of a block's
-module _ (signed : Bool) (d : List ℕ) (v : ℤ) (j up : ℕ) (e : v ≡ wholeOf signed d j) (u : up ≡ added signed) where
-  pub whole-small : mag v < 2048
-  whole-small = subst (λ (z : ℤ). mag z < 2048) (sym e) (small-whole signed d j .small)
+module _ (signed : Bool) (d : List ℕ) (v : ℤ) (j up : ℕ) (e : v ≡ whole_of signed d j) (u : up ≡ added signed) where
+  pub whole_small : mag v < 2048
+  whole_small = subst (λ (z : ℤ). mag z < 2048) (sym e) (small_whole signed d j).small
 
-  pub whole-raised : T (nonNeg (pos up +ℤ v))
-  whole-raised =
-      subst (λ (z : ℤ). T (nonNeg (pos up +ℤ z))) (sym e)
-      (subst (λ (n : ℕ). T (nonNeg (pos n +ℤ wholeOf signed d j))) (sym u)
-      (not-negative (added signed) (small-whole signed d j .value) (wholeOf signed d j) (small-whole signed d j .is)))
+  pub whole_raised : T (non_neg (pos up +ℤ v))
+  whole_raised =
+      subst (λ (z : ℤ). T (non_neg (pos up +ℤ z))) (sym e)
+      (subst (λ (n : ℕ). T (non_neg (pos n +ℤ whole_of signed d j))) (sym u)
+      (not_negative (added signed) (small_whole signed d j).value (whole_of signed d j) (small_whole signed d j).is))
 
   -- its eighth
-  pub eighth : natAbs (pos up +ℤ v) / 8 ≡ eighthOf signed d j
+  pub eighth : nat_abs (pos up +ℤ v) / 8 ≡ eighth_of signed d j
   eighth =
-      ap (λ (z : ℤ). natAbs (pos up +ℤ z) / 8) e
-      ∙ ap (λ (n : ℕ). natAbs (pos n +ℤ wholeOf signed d j) / 8) u
-      ∙ ap (λ (z : ℤ). natAbs z / 8) (+ℤ-comm (pos (added signed)) (wholeOf signed d j))
+      ap (λ (z : ℤ). nat_abs (pos up +ℤ z) / 8) e
+      ∙ ap (λ (n : ℕ). nat_abs (pos n +ℤ whole_of signed d j) / 8) u
+      ∙ ap (λ (z : ℤ). nat_abs z / 8) (+ℤ_comm (pos (added signed)) (whole_of signed d j))
 
 -- eight of them
-module _ (signed : Bool) (d : List ℕ) (wholes : List ℤ) (e : wholes ≡ build 8 (wholeOf signed d)) where
-  pub wholes-at : (j : ℕ) → j < 8 → getD wholes j (pos 0) ≡ wholeOf signed d j
-  wholes-at j h = ap (λ (l : List ℤ). getD l j (pos 0)) e ∙ getD-build (wholeOf signed d) (pos 0) 8 j h
+module _ (signed : Bool) (d : List ℕ) (wholes : List ℤ) (e : wholes ≡ build 8 (whole_of signed d)) where
+  pub wholes_at : (j : ℕ) → j < 8 → get_or wholes j (pos 0) ≡ whole_of signed d j
+  wholes_at j h = ap (λ (l : List ℤ). get_or l j (pos 0)) e ∙ get_or_build (whole_of signed d) (pos 0) 8 j h
 
 -- what pixel k picks of eight numbers, and of eight that have a rule
-pub picked-at : (d : List ℕ) (eight sixteen : List ℤ) (k : ℕ) → sixteen ≡ build 16 (pickAt d eight) → k < 16 → getD sixteen k (pos 0) ≡ getD eight (numberAt d k) (pos 0)
-unfolding pickAt
-picked-at d eight sixteen k g h = ap (λ (l : List ℤ). getD l k (pos 0)) g ∙ getD-build (pickAt d eight) (pos 0) 16 k h
+pub picked_at : (d : List ℕ) (eight sixteen : List ℤ) (k : ℕ) → sixteen ≡ build 16 (pick_at d eight) → k < 16 → get_or sixteen k (pos 0) ≡ get_or eight (number_at d k) (pos 0)
+unfolding pick_at
+picked_at d eight sixteen k g h = ap (λ (l : List ℤ). get_or l k (pos 0)) g ∙ get_or_build (pick_at d eight) (pos 0) 16 k h
 
-pub picks : (f : ℕ → ℤ) (d : List ℕ) (eight sixteen : List ℤ) (k : ℕ) → eight ≡ build 8 f → sixteen ≡ build 16 (pickAt d eight) → k < 16
-    → getD sixteen k (pos 0) ≡ f (numberAt d k)
+pub picks : (f : ℕ → ℤ) (d : List ℕ) (eight sixteen : List ℤ) (k : ℕ) → eight ≡ build 8 f → sixteen ≡ build 16 (pick_at d eight) → k < 16
+    → get_or sixteen k (pos 0) ≡ f (number_at d k)
 picks f d eight sixteen k e g h =
-    picked-at d eight sixteen k g h
-    ∙ ap (λ (l : List ℤ). getD l (numberAt d k) (pos 0)) e
-    ∙ getD-build f (pos 0) 8 (numberAt d k) (omega arith)
+    picked_at d eight sixteen k g h
+    ∙ ap (λ (l : List ℤ). get_or l (number_at d k) (pos 0)) e
+    ∙ get_or_build f (pos 0) 8 (number_at d k) (omega arith)
 
 -- its value and its byte are those of the pixel
-pub whole-picked : (signed : Bool) (d : List ℕ) (k : ℕ) → wholeOf signed d (numberAt d k) ≡ eacWhole signed d (k % 4) (k / 4)
-unfolding eacWhole alphaStep
-whole-picked signed d k = refl
+pub whole_picked : (signed : Bool) (d : List ℕ) (k : ℕ) → whole_of signed d (number_at d k) ≡ eac_whole_lem signed d (k % 4) (k / 4)
+unfolding eac_whole_lem alpha_step
+whole_picked signed d k = refl
 
-pub byte-picked : (signed : Bool) (d : List ℕ) (k : ℕ) → eighthOf signed d (numberAt d k) ≡ eacByte signed d (k % 4) (k / 4)
-byte-picked signed d k =
-    ap (λ (z : ℤ). natAbs (z +ℤ pos (added signed)) / 8) (whole-picked signed d k) ∙ sym (bytes-stay signed d (k % 4) (k / 4))
+pub byte_picked : (signed : Bool) (d : List ℕ) (k : ℕ) → eighth_of signed d (number_at d k) ≡ eac_byte signed d (k % 4) (k / 4)
+byte_picked signed d k =
+    ap (λ (z : ℤ). nat_abs (z +ℤ pos (added signed)) / 8) (whole_picked signed d k) ∙ sym (bytes_stay signed d (k % 4) (k / 4))
 
 -- eight eighths, and the bytes that are picked of them
-module _ (signed : Bool) (d : List ℕ) (eight : List ℤ) (e : eight ≡ build 8 (λ j. pos (eighthOf signed d j))) where
-  eight-at : (j : ℕ) → j < 8 → getD eight j (pos 0) ≡ pos (eighthOf signed d j)
-  eight-at j h = ap (λ (l : List ℤ). getD l j (pos 0)) e ∙ getD-build (λ j. pos (eighthOf signed d j)) (pos 0) 8 j h
+module _ (signed : Bool) (d : List ℕ) (eight : List ℤ) (e : eight ≡ build 8 (λ j. pos (eighth_of signed d j))) where
+  eight_at : (j : ℕ) → j < 8 → get_or eight j (pos 0) ≡ pos (eighth_of signed d j)
+  eight_at j h = ap (λ (l : List ℤ). get_or l j (pos 0)) e ∙ get_or_build (λ j. pos (eighth_of signed d j)) (pos 0) 8 j h
 
-  pub eights-are-bytes : (j : ℕ) → j < 8 → T (nonNeg (getD eight j (pos 0))) × (mag (getD eight j (pos 0)) < 256)
-  eights-are-bytes j h = rw (eight-at j h) (tt, small-eighth signed d j)
+  pub eights_are_bytes : (j : ℕ) → j < 8 → T (non_neg (get_or eight j (pos 0))) × (mag (get_or eight j (pos 0)) < 256)
+  eights_are_bytes j h = rw (eight_at j h) (tt, small_eighth signed d j)
 
-  pub bytes-of : (r : List ℕ) → r ≡ build 16 (λ k. natAbs (getD eight (numberAt d k) (pos 0))) → r ≡ build 16 (λ k. eacByte signed d (k % 4) (k / 4))
-  bytes-of r q =
-      q ∙ build-same 0 (λ k. natAbs (getD eight (numberAt d k) (pos 0))) (λ k. eacByte signed d (k % 4) (k / 4)) 16
-      (λ k h. ap natAbs (eight-at (numberAt d k) (omega arith)) ∙ byte-picked signed d k)
+  pub bytes_of : (r : List ℕ) → r ≡ build 16 (λ k. nat_abs (get_or eight (number_at d k) (pos 0))) → r ≡ build 16 (λ k. eac_byte signed d (k % 4) (k / 4))
+  bytes_of r q =
+      q ∙ build_same 0 (λ k. nat_abs (get_or eight (number_at d k) (pos 0))) (λ k. eac_byte signed d (k % 4) (k / 4)) 16
+      (λ k h. ap nat_abs (eight_at (number_at d k) (omega arith)) ∙ byte_picked signed d k)
 
 -- the byte of place k, row by row
-abbrev pub byteAt : Bool → List ℕ → ℕ → ℕ
-byteAt signed d k = eacByte signed d (k % 4) (k / 4)
+abbrev pub byte_at : Bool → List ℕ → ℕ → ℕ
+byte_at signed d k = eac_byte signed d (k % 4) (k / 4)
 
-small-byte : (signed : Bool) (d : List ℕ) (k : ℕ) → byteAt signed d k < 256
-unfolding eacByte eacValue
-small-byte signed d k =
-    omega (arith, clamp-le 2047 (centre signed (byte d 0) +ℤ pos (multiplier (bits 7 4 (byte d 1))) *ℤ alphaStep d (k % 4) (k / 4)))
+small_byte : (signed : Bool) (d : List ℕ) (k : ℕ) → byte_at signed d k < 256
+unfolding eac_byte eac_value
+small_byte signed d k =
+    omega (arith, clamp_le 2047 (centre signed (byte d 0) +ℤ pos (multiplier (bits 7 4 (byte d 1))) *ℤ alpha_step d (k % 4) (k / 4)))
 
-module _ (signed : Bool) (d bytes : List ℕ) (k : ℕ) (e : bytes ≡ build 16 (byteAt signed d)) (h : k < 16) where
-  pub byte-at : getD bytes k 0 ≡ byteAt signed d k
-  byte-at = ap (λ (l : List ℕ). getD l k 0) e ∙ getD-build (byteAt signed d) 0 16 k h
+module _ (signed : Bool) (d bytes : List ℕ) (k : ℕ) (e : bytes ≡ build 16 (byte_at signed d)) (h : k < 16) where
+  pub byte-at : get_or bytes k 0 ≡ byte_at signed d k
+  byte-at = ap (λ (l : List ℕ). get_or l k 0) e ∙ get_or_build (byte_at signed d) 0 16 k h
 
-  pub byte-small : getD bytes k 0 < 256
-  byte-small = omega (arith, byte-at, small-byte signed d k)
+  pub byte_small : get_or bytes k 0 < 256
+  byte_small = omega (arith, byte-at, small_byte signed d k)

@@ -1,18 +1,14 @@
 // The whole value of a pixel of an EAC channel, eleven bits, of what its block says: the middle, the multiplier and a step; and what is
 // made of it, a byte or sixteen bits.
-ghost use mathlib.Core.Bool.{false, cond};
-ghost use mathlib.Core.Path.{_≡_};
-ghost use Prim.Native.Nat.{_<_, _/_};
-ghost use lib.Dec.{T};
-ghost use lib.IntN.{pos, natAbs, _+ℤ_, _*ℤ_};
-ghost use lib.Signed.{mag, ltZ, nonNeg};
-ghost use Rattle·rules.specs.Channels.{signedBase, multiplier};
-ghost use Rattle·rules.specs.Whole.{least, most, between, middle, added, sixteen as sixteenOf};
-ghost use Rattle·eac·specs.specs.values.Spans.{Spans};
+ghost use Rattle.std.specs.Prelude.{◌≡◌, ◌/◌, ◌<◌, false, T, pos, ◌+ℤ◌, ◌*ℤ◌, if◌then◌else◌, int_lt, unsigned_abs};
+ghost use Rattle.std.specs.Int.Signed.{mag, non_neg};
+ghost use Rattle.rules.specs.Channels.{signed_base, multiplier};
+ghost use Rattle.rules.specs.Whole.{least, most, between, middle, added, sixteen as sixteen_of};
+ghost use Rattle.eac.specs.values.Spans.{Spans};
 
 // The signed base: a byte as two's complement, where -128 is read as -127.
 fn signed_byte(b: u8) -> i16
-    ensures { λ r. ⌜ r ≡ signedBase b ⌝ }
+    ensures { result ≡ signed_base b }
 {
     if b == 128 {
         -127
@@ -25,7 +21,7 @@ fn signed_byte(b: u8) -> i16
 
 // The value in the middle of a block's, to which steps are added: 8 * b0 + 4, or 8 times the signed base.
 pub fn middle_of(b: u8, signed: bool) -> i16
-    ensures { λ r. ⌜ (r ≡ middle signed b) × (mag r < 4096) ⌝ }
+    ensures { (result ≡ middle signed b) × (mag result < 4096) }
 {
     if signed {
         8 * signed_byte(b)
@@ -36,56 +32,57 @@ pub fn middle_of(b: u8, signed: bool) -> i16
 
 // What a step is multiplied by: 8 times the multiplier, or 1 where that is 0.
 pub fn times_of(m: u8) -> u8
-    requires { ⌜ m < 16 ⌝ }
-    ensures { λ r. ⌜ (r ≡ multiplier m) × (r < 121) ⌝ }
+    requires { m < 16 }
+    ensures { (result ≡ multiplier m) × (result < 121) }
 {
     if m == 0 { 1 } else { 8 * m }
 }
 
 // The least of the values.
 fn least_of(signed: bool) -> i16
-    ensures { λ r. ⌜ r ≡ least signed ⌝ }
+    ensures { result ≡ least signed }
 {
     if signed { -1023 } else { 0 }
 }
 
 // The most of them.
 fn most_of(signed: bool) -> i16
-    ensures { λ r. ⌜ r ≡ most signed ⌝ }
+    ensures { result ≡ most signed }
 {
     if signed { 1023 } else { 2047 }
 }
 
 // A value, or the least where it is below that.
 fn at_least(low: i16, v: i16) -> i16
-    ensures { λ r. ⌜ r ≡ cond (ltZ v low) low v ⌝ }
+    ensures { result ≡ (if int_lt v low then low else v) }
 {
     if v < low { low } else { v }
 }
 
 // A value, or the most where it is above that.
 fn at_most(high: i16, v: i16) -> i16
-    ensures { λ r. ⌜ r ≡ cond (ltZ high v) high v ⌝ }
+    ensures { result ≡ (if int_lt high v then high else v) }
 {
     if high < v { high } else { v }
 }
 
 // The whole value that a step gives, clamped: by two steps, each of which is one instruction for eight values.
 pub fn eac_whole(base: i16, m: u8, s: i16, low: i16, high: i16) -> i16
-    requires { ⌜ (mag base < 4096) × (m < 121) × (mag s < 16) × (ltZ high low ≡ false) ⌝ }
-    ensures { λ r. ⌜ r ≡ between low high (base +ℤ pos m *ℤ s) ⌝ }
+    requires { (mag base < 4096) × (m < 121) × (mag s < 16) × (int_lt high low ≡ false) }
+    ensures { result ≡ between low high (base +ℤ pos m *ℤ s) }
 {
     at_most(high, at_least(low, base + m as i16 * s))
 }
 
 // What makes a value no less than 0.
 fn added_of(signed: bool) -> u16
-    ensures { λ r. ⌜ r ≡ added signed ⌝ }
+    ensures { result ≡ added signed }
 {
     if signed { 1023 } else { 0 }
 }
 
 // The numbers in which signed and unsigned values differ.
+#[derive(Clone, Copy)]
 pub struct Span {
     pub signed: bool,
     // the least and the most of the values
@@ -98,7 +95,7 @@ pub struct Span {
 // Those of signed or of unsigned values. A reader of many blocks makes them once, before its loop: eight lanes of each are then made
 // once too.
 pub fn span_of(signed: bool) -> Span
-    ensures { λ r. ⌜ (r .signed ≡ signed) × Spans r ⌝ }
+    ensures { (result.signed ≡ signed) × Spans result }
 {
     let low = least_of(signed);
     let high = most_of(signed);
@@ -113,24 +110,24 @@ pub fn span_of(signed: bool) -> Span
 
 // A value with as much added.
 fn raised(v: i16, up: u16) -> u16
-    requires { ⌜ (mag v < 2048) × (up < 2048) × T (nonNeg (pos up +ℤ v)) ⌝ }
-    ensures { λ r. ⌜ (pos r ≡ pos up +ℤ v) × (r < 4096) ⌝ }
+    requires { (mag v < 2048) × (up < 2048) × T (non_neg (pos up +ℤ v)) }
+    ensures { (pos result ≡ pos up +ℤ v) × (result < 4096) }
 {
     (up as i16 + v) as u16
 }
 
 // The byte of a value, in the type of values.
 pub fn byte_of(v: i16, up: u16) -> i16
-    requires { ⌜ (mag v < 2048) × (up < 2048) × T (nonNeg (pos up +ℤ v)) ⌝ }
-    ensures { λ r. ⌜ r ≡ pos (natAbs (pos up +ℤ v) / 8) ⌝ }
+    requires { (mag v < 2048) × (up < 2048) × T (non_neg (pos up +ℤ v)) }
+    ensures { result ≡ pos (unsigned_abs (pos up +ℤ v) / 8) }
 {
     (raised(v, up) / 8) as i16
 }
 
 // A value as sixteen bits, a negative one in two's complement.
 pub fn sixteen(v: i16, up: u16) -> u16
-    requires { ⌜ (mag v < 2048) × (up < 2048) × T (nonNeg (pos up +ℤ v)) ⌝ }
-    ensures { λ r. ⌜ r ≡ sixteenOf v ⌝ }
+    requires { (mag v < 2048) × (up < 2048) × T (non_neg (pos up +ℤ v)) }
+    ensures { result ≡ sixteen_of v }
 {
     std::num::wrapping_sub_u16(raised(v, up), up)
 }

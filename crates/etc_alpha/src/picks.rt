@@ -1,19 +1,17 @@
 // The fields of a channel's block, and the pick of one of eight numbers for each pixel by its three-bit index.
+ghost use Rattle.std.specs.Prelude.{◌≡◌, ℕ, ◌≤◌, ◌<◌, pos, length, get_or};
+ghost use Rattle.std.specs.Int.Signed.{mag};
+ghost use Rattle.rules.specs.Notation.{build, bits};
+ghost use Rattle.rules.specs.Channels.{index_word_lem};
+ghost use Rattle.etc_alpha.specs.picks.Picks.{pick_at};
+
 use pixel::color;
 use tables::consts;
-ghost use mathlib.Core.Path.{_≡_};
-ghost use Prim.Native.Nat.{ℕ, _≤_, _<_};
-ghost use lib.IntN.{pos};
-ghost use lib.ListN.{length, getD};
-ghost use lib.Signed.{mag};
-ghost use Rattle·rules.specs.Notation.{build, bits};
-ghost use Rattle·rules.specs.Channels.{indexWord};
-ghost use Rattle·etc_alpha·specs.specs.picks.Picks.{pickAt};
 
 // Bytes 2 to 7, read big-endian: the indices, three bits to a pixel.
 fn index_word(d: &[u8]) -> u64
-    requires { ⌜ 8 ≤ length (now d) ⌝ }
-    ensures { λ r. ⌜ r ≡ indexWord (now (d .entry)) ⌝ }
+    requires { 8 ≤ length d.now }
+    ensures { result ≡ index_word_lem d.now }
 {
     let high = color::two_bytes(d[2], d[3]);
     let low = color::two_bytes(d[4], d[5]) * 0x10000 + color::two_bytes(d[6], d[7]);
@@ -22,14 +20,14 @@ fn index_word(d: &[u8]) -> u64
 
 // The multiplier: the high nibble of byte 1. EAC multiplies by it; alpha has a table of products.
 pub fn multiplier_of(b: u8) -> u8
-    ensures { λ r. ⌜ (r ≡ bits 7 4 b) × (r < 16) ⌝ }
+    ensures { (result ≡ bits 7 4 b) × (result < 16) }
 {
     b / 16
 }
 
 // The row of the table of steps: the low nibble of byte 1.
 pub fn row_of(b: u8) -> usize
-    ensures { λ r. ⌜ (r ≡ bits 3 0 b) × (r < 16) ⌝ }
+    ensures { (result ≡ bits 3 0 b) × (result < 16) }
 {
     (b % 16) as usize
 }
@@ -37,8 +35,8 @@ pub fn row_of(b: u8) -> usize
 // The number that each pixel's index picks of eight, row by row. The last pixel's index stands lowest in the word, so the loop
 // goes backwards.
 pub fn picked(d: &[u8], eight: [i16; 8]) -> [i16; 16]
-    requires { ⌜ (8 ≤ length (now d)) × ((j : ℕ) → j < 8 → mag (getD eight j (pos 0)) < 2048) ⌝ }
-    ensures { λ r. ⌜ r ≡ build 16 (pickAt (now (d .entry)) eight) ⌝ }
+    requires { (8 ≤ length d.now) × ((j : ℕ) → j < 8 → mag (get_or eight j (pos 0)) < 2048) }
+    ensures { result ≡ build 16 (pick_at d.now eight) }
 {
     let order = consts::write_order();
     let mut l = index_word(d);

@@ -1,26 +1,21 @@
 // The colour blocks of src/etc/etc1.rs and src/etc/etc2.rs. ETC1, RGB and RGBA1 are one function: they differ in how the kind is told
 // and in what the opaque bit does. It has one caller, a loop over blocks, so that all of it stands in that loop (docs/PERFORMANCE.md).
-use super::etc1;
-use super::modes;
-use super::planar;
-use super::shade;
+ghost use Rattle.std.specs.Prelude.{◌≡◌, ◌≤◌, false, length, if◌then◌else◌};
+ghost use Rattle.rules.specs.Places.{tile};
+ghost use Rattle.rules.specs.Modes.{is_planar};
+ghost use Rattle.tables.specs.consts.Tables.{signed_steps};
+ghost use Rattle.etc_colour.specs.shade.Pick.{eight};
+ghost use Rattle.etc_colour.specs.shade.Tone.{punched};
+ghost use Rattle.etc_colour.specs.etc2.Colours.{steps_where, half_bases, halves_colours, made_colours, made_pixel};
+ghost use Rattle.etc_colour.specs.etc2.Colours.{etc1_kind_lem, kind_in_lem, opaque_in_lem, colour_pixel};
+
+use super::{etc1, modes, planar, shade};
 use rules::Kind;
-ghost use mathlib.Core.Path.{_≡_};
-ghost use mathlib.Core.Bool.{false, cond};
-ghost use Prim.Native.Nat.{_≤_};
-ghost use lib.ListN.{length};
-ghost use Rattle·rules.specs.Places.{tile};
-ghost use Rattle·rules.specs.Modes.{isPlanar};
-ghost use Rattle·tables.specs.consts.Tables.{signedSteps};
-ghost use Rattle·etc_colour·specs.specs.shade.Pick.{eight};
-ghost use Rattle·etc_colour·specs.specs.shade.Tone.{punched};
-ghost use Rattle·etc_colour·specs.specs.etc2.Colours.{stepsWhere, halfBases, halvesColours, madeColours, madePixel};
-ghost use Rattle·etc_colour·specs.specs.etc2.Colours.{etc1Kind, kindIn, opaqueIn, colourPixel};
 
 // The base colours of a block of two halves.
 fn bases_of(d: &[u8], kind: Kind) -> [[u8; 3]; 3]
-    requires { ⌜ 8 ≤ length (now d) ⌝ }
-    ensures { λ r. ⌜ r ≡ halfBases kind (now (d .entry)) ⌝ }
+    requires { 8 ≤ length d.now }
+    ensures { result ≡ half_bases kind d.now }
 {
     if let Kind::Individual = kind {
         return etc1::individual_bases(d);
@@ -30,15 +25,15 @@ fn bases_of(d: &[u8], kind: Kind) -> [[u8; 3]; 3]
 
 // Where the steps of the code 0 stand in the table.
 fn first_row(opaque: bool) -> usize
-    ensures { λ r. ⌜ (r ≡ cond opaque 8 0) × (r ≤ 8) ⌝ }
+    ensures { (result ≡ (if opaque then 8 else 0)) × (result ≤ 8) }
 {
     if opaque { 8 } else { 0 }
 }
 
 // The colours of both halves. The table of steps is lent: a function that names it copies all of it.
 fn both_halves(d: &[u8], kind: Kind, opaque: bool, table: &[[i16; 4]; 16]) -> [u32; 8]
-    requires { ⌜ (8 ≤ length (now d)) × (now table ≡ signedSteps) ⌝ }
-    ensures { λ r. ⌜ r ≡ eight (halvesColours opaque kind (now (d .entry))) ⌝ }
+    requires { (8 ≤ length d.now) × (table.now ≡ signed_steps) }
+    ensures { result ≡ eight (halves_colours opaque kind d.now) }
 {
     let from = first_row(opaque);
     let first = from + (d[3] / 32 % 8) as usize;
@@ -48,8 +43,8 @@ fn both_halves(d: &[u8], kind: Kind, opaque: bool, table: &[[i16; 4]; 16]) -> [u
 
 // The eight colours of a block that is not planar.
 fn colours_of(d: &[u8], kind: Kind, opaque: bool, table: &[[i16; 4]; 16]) -> [u32; 8]
-    requires { ⌜ (8 ≤ length (now d)) × (now table ≡ signedSteps) × (isPlanar kind ≡ false) ⌝ }
-    ensures { λ r. ⌜ r ≡ eight (λ h. punched opaque (madeColours (stepsWhere opaque) kind (now (d .entry)) h)) ⌝ }
+    requires { (8 ≤ length d.now) × (table.now ≡ signed_steps) × (is_planar kind ≡ false) }
+    ensures { result ≡ eight (λ h. punched opaque (made_colours (steps_where opaque) kind d.now h)) }
 {
     if let Kind::T = kind {
         return modes::t_colours(d, opaque);
@@ -62,8 +57,8 @@ fn colours_of(d: &[u8], kind: Kind, opaque: bool, table: &[[i16; 4]; 16]) -> [u3
 
 // The sixteen pixels of a colour block of a kind, row by row.
 fn made_block(d: &[u8], kind: Kind, opaque: bool, table: &[[i16; 4]; 16]) -> [u32; 16]
-    requires { ⌜ (8 ≤ length (now d)) × (now table ≡ signedSteps) ⌝ }
-    ensures { λ r. ⌜ r ≡ tile (madePixel kind opaque) (now (d .entry)) ⌝ }
+    requires { (8 ≤ length d.now) × (table.now ≡ signed_steps) }
+    ensures { result ≡ tile (made_pixel kind opaque) d.now }
 {
     if let Kind::Planar = kind {
         return planar::planar_block(d);
@@ -73,8 +68,8 @@ fn made_block(d: &[u8], kind: Kind, opaque: bool, table: &[[i16; 4]; 16]) -> [u3
 
 // The kind of an ETC1 block, whose sums wrap: its difference bit decides.
 fn etc1_kind(d: &[u8]) -> Kind
-    requires { ⌜ 8 ≤ length (now d) ⌝ }
-    ensures { λ r. ⌜ r ≡ etc1Kind (now (d .entry)) ⌝ }
+    requires { 8 ≤ length d.now }
+    ensures { result ≡ etc1_kind_lem d.now }
 {
     if d[3] / 2 % 2 == 1 {
         return Kind::Differential;
@@ -84,8 +79,8 @@ fn etc1_kind(d: &[u8]) -> Kind
 
 // The kind of a block of ETC1, of RGBA1, whose difference bit is the opaque bit, or of RGB.
 fn kind_in(plain: bool, punch: bool, d: &[u8]) -> Kind
-    requires { ⌜ 8 ≤ length (now d) ⌝ }
-    ensures { λ r. ⌜ r ≡ kindIn plain punch (now (d .entry)) ⌝ }
+    requires { 8 ≤ length d.now }
+    ensures { result ≡ kind_in_lem plain punch d.now }
 {
     if punch {
         return kinds::kind_by_sums(d);
@@ -98,16 +93,16 @@ fn kind_in(plain: bool, punch: bool, d: &[u8]) -> Kind
 
 // Whether a block is opaque: only RGBA1 has others.
 fn opaque_in(punch: bool, d: &[u8]) -> bool
-    requires { ⌜ 8 ≤ length (now d) ⌝ }
-    ensures { λ r. ⌜ r ≡ opaqueIn punch (now (d .entry)) ⌝ }
+    requires { 8 ≤ length d.now }
+    ensures { result ≡ opaque_in_lem punch d.now }
 {
     (d[3] / 2 % 2 == 1) | !punch
 }
 
 // The sixteen pixels of a block of ETC1, of RGBA1 or of RGB, row by row.
 pub fn colour_block(plain: bool, punch: bool, d: &[u8], table: &[[i16; 4]; 16]) -> [u32; 16]
-    requires { ⌜ (8 ≤ length (now d)) × (now table ≡ signedSteps) ⌝ }
-    ensures { λ r. ⌜ r ≡ tile (colourPixel plain punch) (now (d .entry)) ⌝ }
+    requires { (8 ≤ length d.now) × (table.now ≡ signed_steps) }
+    ensures { result ≡ tile (colour_pixel plain punch) d.now }
 {
     made_block(d, kind_in(plain, punch, d), opaque_in(punch, d), table)
 }

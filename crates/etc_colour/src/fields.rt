@@ -1,17 +1,14 @@
 // The fields of T and H blocks: their base colours, the order of H's, and the number of a distance.
+ghost use Rattle.std.specs.Prelude.{◌≡◌, ◌+◌, ◌*◌, ◌<◌, [], if◌then◌else◌, slice_index_or};
+ghost use Rattle.rules.specs.Notation.{bit};
+ghost use Rattle.rules.specs.Modes.{not_less_lem};
+ghost use Rattle.etc_colour.specs.fields.Fields.{t_fields_lem, h_fields_lem, distance_at};
+
 use tables::consts;
-ghost use mathlib.Core.Path.{_≡_};
-ghost use mathlib.Core.Bool.{cond};
-ghost use mathlib.Core.List.{[]};
-ghost use Prim.Native.Nat.{_+_, _*_, _<_};
-ghost use lib.ListN.{getD};
-ghost use Rattle·rules.specs.Notation.{bit};
-ghost use Rattle·rules.specs.Modes.{notLess};
-ghost use Rattle·etc_colour·specs.specs.fields.Fields.{tFields, hFields, distanceAt};
 
 // T's base colours, from bytes 0 to 3.
 pub fn t_fields(a: u8, b: u8, c: u8, d: u8) -> [[u8; 3]; 3]
-    ensures { λ r. ⌜ r ≡ tFields a b c d ⌝ }
+    ensures { result ≡ t_fields_lem a b c d }
 {
     [
         [
@@ -26,7 +23,7 @@ pub fn t_fields(a: u8, b: u8, c: u8, d: u8) -> [[u8; 3]; 3]
 
 // H's base colours, from bytes 0 to 3.
 pub fn h_fields(a: u8, b: u8, c: u8, d: u8) -> [[u8; 3]; 3]
-    ensures { λ r. ⌜ r ≡ hFields a b c d ⌝ }
+    ensures { result ≡ h_fields_lem a b c d }
 {
     [
         [
@@ -45,8 +42,8 @@ pub fn h_fields(a: u8, b: u8, c: u8, d: u8) -> [[u8; 3]; 3]
 
 // The distance of a number below 8.
 pub fn distance(n: u8) -> u8
-    requires { ⌜ n < 8 ⌝ }
-    ensures { λ r. ⌜ (r ≡ distanceAt n) × (r < 65) ⌝ }
+    requires { n < 8 }
+    ensures { (result ≡ distance_at n) × (result < 65) }
 {
     let table = consts::distances();
     table[n as usize]
@@ -54,7 +51,7 @@ pub fn distance(n: u8) -> u8
 
 // Whether a >= b, compared red, then green, then blue; equal counts.
 fn not_less(a: [u8; 3], b: [u8; 3]) -> bool
-    ensures { λ r. ⌜ r ≡ notLess a b ⌝ }
+    ensures { result ≡ not_less_lem a b }
 {
     if a[0] != b[0] {
         return b[0] < a[0];
@@ -67,7 +64,8 @@ fn not_less(a: [u8; 3], b: [u8; 3]) -> bool
 
 // H's distance number, from its base colours and byte 3.
 pub fn h_number(c: [[u8; 3]; 3], b: u8) -> u8
-    ensures { λ r. ⌜ (r ≡ 4 * bit 2 b + 2 * bit 0 b + cond (notLess (getD c 0 []) (getD c 1 [])) 1 0) × (r < 8) ⌝ }
+    ensures { (result ≡ 4 * bit 2 b + 2 * bit 0 b + (if not_less_lem (slice_index_or c 0 []) (slice_index_or c 1 []) then 1 else 0))
+        × (result < 8) }
 {
     let number = 4 * (b / 4 % 2) + 2 * (b % 2);
     if not_less(c[0], c[1]) {

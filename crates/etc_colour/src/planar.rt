@@ -1,31 +1,30 @@
 // Planar of src/etc/etc2.rs, written once for RGB and RGBA1: three base colours of three bytes each, and the plane through them.
+ghost use Rattle.std.specs.Prelude.{◌≡◌, ◌/◌, ◌%◌, ◌<◌, ◌≤◌, length};
+ghost use Rattle.rules.specs.Places.{tile};
+ghost use Rattle.rules.specs.Modes.{six, seven, planar_bases_lem, planar_channel, planar_pixel_lem};
+ghost use Rattle.etc_colour.specs.planar.Fields.{planar_fields};
+
 use pixel::color;
-ghost use mathlib.Core.Path.{_≡_};
-ghost use Prim.Native.Nat.{_/_, _%_, _≤_, _<_};
-ghost use lib.ListN.{length};
-ghost use Rattle·rules.specs.Places.{tile};
-ghost use Rattle·rules.specs.Modes.{six, seven, planarBases, planarChannel, planarPixel};
-ghost use Rattle·etc_colour·specs.specs.planar.Fields.{planarFields};
 
 // Six bits as eight.
 fn wide6(v: u8) -> u8
-    requires { ⌜ v < 64 ⌝ }
-    ensures { λ r. ⌜ r ≡ six v ⌝ }
+    requires { v < 64 }
+    ensures { result ≡ six v }
 {
     4 * v + v / 16
 }
 
 // Seven bits as eight.
 fn wide7(v: u8) -> u8
-    requires { ⌜ v < 128 ⌝ }
-    ensures { λ r. ⌜ r ≡ seven v ⌝ }
+    requires { v < 128 }
+    ensures { result ≡ seven v }
 {
     2 * v + v / 64
 }
 
 // The first of planar's base colours, O, from bytes 0 to 3.
 fn planar_origin(a: u8, b: u8, c: u8, d: u8) -> [u8; 3]
-    ensures { λ r. ⌜ r ≡ planarFields 0 a b c d ⌝ }
+    ensures { result ≡ planar_fields 0 a b c d }
 {
     [
         wide6(a / 2 % 64),
@@ -36,7 +35,7 @@ fn planar_origin(a: u8, b: u8, c: u8, d: u8) -> [u8; 3]
 
 // The second, H, from bytes 3 to 5.
 fn planar_right(d: u8, e: u8, f: u8) -> [u8; 3]
-    ensures { λ r. ⌜ r ≡ planarFields 1 d e f 0 ⌝ }
+    ensures { result ≡ planar_fields 1 d e f 0 }
 {
     [
         wide6(2 * (d / 4 % 32) + d % 2),
@@ -47,7 +46,7 @@ fn planar_right(d: u8, e: u8, f: u8) -> [u8; 3]
 
 // The third, V, from bytes 5 to 7.
 fn planar_below(f: u8, g: u8, h: u8) -> [u8; 3]
-    ensures { λ r. ⌜ r ≡ planarFields 2 f g h 0 ⌝ }
+    ensures { result ≡ planar_fields 2 f g h 0 }
 {
     [
         wide6(8 * (f % 8) + g / 32 % 8),
@@ -58,8 +57,8 @@ fn planar_below(f: u8, g: u8, h: u8) -> [u8; 3]
 
 // Planar's base colours.
 fn planar_bases(d: &[u8]) -> [[u8; 3]; 3]
-    requires { ⌜ 8 ≤ length (now d) ⌝ }
-    ensures { λ r. ⌜ r ≡ planarBases (now (d .entry)) ⌝ }
+    requires { 8 ≤ length d.now }
+    ensures { result ≡ planar_bases_lem d.now }
 {
     [
         planar_origin(d[0], d[1], d[2], d[3]),
@@ -70,8 +69,8 @@ fn planar_bases(d: &[u8]) -> [[u8; 3]; 3]
 
 // One channel, in column x of row y. A signed type of 16 bits holds every sum on the way.
 fn channel(o: u8, h: u8, v: u8, x: u8, y: u8) -> u32
-    requires { ⌜ (x < 4) × (y < 4) ⌝ }
-    ensures { λ r. ⌜ (r ≡ planarChannel o h v x y) × (r < 256) ⌝ }
+    requires { (x < 4) × (y < 4) }
+    ensures { (result ≡ planar_channel o h v x y) × (result < 256) }
 {
     let n = x as i16 * (h as i16 - o as i16) + y as i16 * (v as i16 - o as i16) + 4 * o as i16 + 2;
     if n < 0 { 0 } else { color::clamp(n / 4) }
@@ -79,8 +78,8 @@ fn channel(o: u8, h: u8, v: u8, x: u8, y: u8) -> u32
 
 // The pixel in column x of row y.
 fn planar_pixel(c: [[u8; 3]; 3], x: u8, y: u8) -> u32
-    requires { ⌜ (x < 4) × (y < 4) ⌝ }
-    ensures { λ r. ⌜ r ≡ planarPixel c x y ⌝ }
+    requires { (x < 4) × (y < 4) }
+    ensures { result ≡ planar_pixel_lem c x y }
 {
     color::color(
         channel(c[0][0], c[1][0], c[2][0], x, y),
@@ -92,8 +91,8 @@ fn planar_pixel(c: [[u8; 3]; 3], x: u8, y: u8) -> u32
 
 // The sixteen pixels of a planar block, row by row.
 pub fn planar_block(d: &[u8]) -> [u32; 16]
-    requires { ⌜ 8 ≤ length (now d) ⌝ }
-    ensures { λ r. ⌜ r ≡ tile (λ d x y. planarPixel (planarBases d) x y) (now (d .entry)) ⌝ }
+    requires { 8 ≤ length d.now }
+    ensures { result ≡ tile (λ d x y. planar_pixel_lem (planar_bases_lem d) x y) d.entry.now }
 {
     let c = planar_bases(d);
     let mut out = [0u32; 16];

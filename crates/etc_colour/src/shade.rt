@@ -1,28 +1,25 @@
 // Colour plus step, four colours for each half of a block, and the pick of one of them for each pixel: what ETC1 and every
 // kind of ETC2 block but planar share. Colours are made first and picked then, since sixteen sums and clamps take twice as long.
+ghost use Rattle.std.specs.Prelude.{◌≡◌, ◌*◌, ◌<◌, ◌≤◌, [], ◌∷◌, length, pos, ◌+ℤ◌, slice_index, slice_index_or};
+ghost use Rattle.std.specs.Int.Signed.{mag};
+ghost use Rattle.rules.specs.Notation.{build, clamp, minus, bit};
+ghost use Rattle.etc_colour.specs.shade.Pick.{second_half_lem, number_at, taken};
+ghost use Rattle.etc_colour.specs.shade.Tone.{shaded_with, alphas_where_lem, toned, Steps};
+
 use pixel::color;
-ghost use mathlib.Core.Path.{_≡_};
-ghost use mathlib.Core.List.{[], _∷_};
-ghost use Prim.Native.Nat.{_*_, _≤_, _<_};
-ghost use lib.IntN.{pos, _+ℤ_};
-ghost use lib.ListN.{length, getD};
-ghost use lib.Signed.{mag};
-ghost use Rattle·rules.specs.Notation.{build, clamp, minus, bit};
-ghost use Rattle·etc_colour·specs.specs.shade.Pick.{secondHalf, numberAt, taken};
-ghost use Rattle·etc_colour·specs.specs.shade.Tone.{shadedWith, alphasWhere, toned, Steps};
 
 // A channel with a step, clamped to a byte. A step of -512 leaves nothing of it.
 fn stepped(channel: u8, step: i16) -> u32
-    requires { ⌜ mag step < 1024 ⌝ }
-    ensures { λ r. ⌜ (r ≡ clamp 255 (pos channel +ℤ step)) × (r < 256) × (step ≡ minus 512 → r ≡ 0) ⌝ }
+    requires { mag step < 1024 }
+    ensures { (result ≡ clamp 255 (pos channel +ℤ step)) × (result < 256) × (step ≡ minus 512 → result ≡ 0) }
 {
     color::clamp(channel as i16 + step)
 }
 
 // A base colour with a step, and an alpha.
 fn applicate_color(c: [u8; 3], step: i16, alpha: u32) -> u32
-    requires { ⌜ (mag step < 1024) × (alpha < 256) ⌝ }
-    ensures { λ r. ⌜ (r ≡ shadedWith alpha c step) × (step ≡ minus 512 → alpha ≡ 0 → r ≡ 0) ⌝ }
+    requires { (mag step < 1024) × (alpha < 256) }
+    ensures { (result ≡ shaded_with alpha c step) × (step ≡ minus 512 → alpha ≡ 0 → result ≡ 0) }
 {
     color::color(
         stepped(c[0], step),
@@ -34,7 +31,7 @@ fn applicate_color(c: [u8; 3], step: i16, alpha: u32) -> u32
 
 // The alpha of each index: of a block that is not opaque, index 2 is transparent.
 fn alphas_where(opaque: bool) -> [u32; 4]
-    ensures { λ r. ⌜ r ≡ alphasWhere opaque ⌝ }
+    ensures { result ≡ alphas_where_lem opaque }
 {
     if opaque {
         [255, 255, 255, 255]
@@ -47,8 +44,8 @@ fn alphas_where(opaque: bool) -> [u32; 4]
 // transparent. That is told by its step and its alpha and not by a choice, so that the compiler makes four colours at once. The steps are
 // lent, so that it loads four at once too: a row that is copied out of the table is taken apart.
 pub fn four_colours(bases: [[u8; 3]; 4], steps: &[i16; 4], opaque: bool) -> [u32; 4]
-    requires { ⌜ Steps opaque (now steps) ⌝ }
-    ensures { λ r. ⌜ r ≡ build 4 (λ k. toned opaque k (getD bases k []) (getD (now (steps .entry)) k (pos 0))) ⌝ }
+    requires { Steps opaque steps.now }
+    ensures { result ≡ build 4 (λ k. toned opaque k (slice_index_or bases k []) (slice_index_or steps.now k (pos 0))) }
 {
     let alphas = alphas_where(opaque);
     let mut colours = [0u32; 4];
@@ -62,22 +59,23 @@ pub fn four_colours(bases: [[u8; 3]; 4], steps: &[i16; 4], opaque: bool) -> [u32
 
 // The colours of the first half, and then those of the second.
 pub fn joined(a: [u32; 4], b: [u32; 4]) -> [u32; 8]
-    ensures { λ r. ⌜ r ≡ getD a 0 0 ∷ getD a 1 0 ∷ getD a 2 0 ∷ getD a 3 0 ∷ getD b 0 0 ∷ getD b 1 0 ∷ getD b 2 0 ∷ getD b 3 0 ∷ [] ⌝ }
+    ensures { result ≡ slice_index a 0 ∷ slice_index a 1 ∷ slice_index a 2 ∷ slice_index a 3 ∷ slice_index b 0 ∷ slice_index b 1
+        ∷ slice_index b 2 ∷ slice_index b 3 ∷ [] }
 {
     [a[0], a[1], a[2], a[3], b[0], b[1], b[2], b[3]]
 }
 
 // A number where a bit of a word is set, and 0 where it is not.
 fn where_set(word: u16, n: u16, value: u16) -> u16
-    requires { ⌜ (n < 16) × (value < 8) ⌝ }
-    ensures { λ r. ⌜ (r ≡ bit n word * value) × (r < 8) ⌝ }
+    requires { (n < 16) × (value < 8) }
+    ensures { (result ≡ bit n word * value) × (result < 8) }
 {
     if (word >> n) % 2 == 1 { value } else { 0 }
 }
 
 // The pixels i = 4x + y of the second half, a bit each.
 fn second_half(flip: bool) -> u16
-    ensures { λ r. ⌜ r ≡ secondHalf flip ⌝ }
+    ensures { result ≡ second_half_lem flip }
 {
     if flip { 0xCCCC } else { 0xFF00 }
 }
@@ -85,8 +83,8 @@ fn second_half(flip: bool) -> u16
 // Which of eight colours each pixel takes, row by row: four for its half, two for its high bit and one for its low bit. The bits of all
 // pixels are tested at once, since each turn is the same but for the bit's number.
 fn numbers(d: &[u8]) -> [u16; 16]
-    requires { ⌜ 8 ≤ length (now d) ⌝ }
-    ensures { λ r. ⌜ r ≡ build 16 (numberAt (now (d .entry))) ⌝ }
+    requires { 8 ≤ length d.now }
+    ensures { result ≡ build 16 (number_at d.now) }
 {
     let half = second_half(d[3] % 2 == 1);
     let high = color::two_bytes(d[4], d[5]) as u16;
@@ -103,8 +101,8 @@ fn numbers(d: &[u8]) -> [u16; 16]
 
 // The colour of each pixel, row by row.
 pub fn picked(d: &[u8], colours: [u32; 8]) -> [u32; 16]
-    requires { ⌜ 8 ≤ length (now d) ⌝ }
-    ensures { λ r. ⌜ r ≡ build 16 (taken (now (d .entry)) colours) ⌝ }
+    requires { 8 ≤ length d.now }
+    ensures { result ≡ build 16 (taken d.now colours) }
 {
     let number = numbers(d);
     let mut out = [0u32; 16];

@@ -1,30 +1,30 @@
 -- The key and value data, entry by entry.
 -- Assumes nothing.
-use mathlib.Core.Path.{_≡_, ap}
+use mathlib.Core.Path.{◌≡◌, ap}
 use mathlib.Core.Bool.{Bool, cond}
 use mathlib.Core.List.{List}
-use Prim.Native.Nat.{ℕ, suc, _+_, _-_, _*_, _/_, _≤_, _<_}
+use Prim.Native.Nat.{ℕ, suc, ◌+◌, ◌-◌, ◌*◌, ◌/◌, ◌≤◌, ◌<◌}
 use native.Mathlib.Omega.{arith}
 use lib.Dec.{eqb, ltb}
-use Rattle·rules.specs.FileFormats.{word32}
-use Rattle·rules.specs.Keys.{isOrientation, rowsTold, rowsIn}
+use Rattle.rules.specs.FileFormats.{word32}
+use Rattle.rules.specs.Keys.{is_orientation_lem, rows_told_lem, rows_in_lem}
 
 module _ (second order : Bool) (d : List ℕ) (stop n i at told : ℕ) where
   pub turn :
       i < n
-      → rowsIn second order d stop (n - i) at told
+      → rows_in_lem second order d stop (n - i) at told
       ≡ cond (eqb at stop) told
       (cond (ltb stop (at + 4)) 0
       (cond (ltb (stop - (at + 4)) ((word32 order d at + 3) / 4 * 4)) 0
-      (rowsIn second order d stop (n - (i + 1)) (at + 4 + (word32 order d at + 3) / 4 * 4)
-      (cond (isOrientation d (at + 4)) (rowsTold second d (at + 4) (word32 order d at)) told))))
-  unfolding rowsIn
+      (rows_in_lem second order d stop (n - (i + 1)) (at + 4 + (word32 order d at + 3) / 4 * 4)
+      (cond (is_orientation_lem d (at + 4)) (rows_told_lem second d (at + 4) (word32 order d at)) told))))
+  unfolding rows_in_lem
   turn h =
       let one : n - i ≡ suc (n - (i + 1)) = omega arith in
-      ap (λ (k : ℕ). rowsIn second order d stop k at told) one
+      ap (λ (k : ℕ). rows_in_lem second order d stop k at told) one
 
-  pub over : n ≤ i → rowsIn second order d stop (n - i) at told ≡ 0
-  unfolding rowsIn
+  pub over : n ≤ i → rows_in_lem second order d stop (n - i) at told ≡ 0
+  unfolding rows_in_lem
   over h =
       let none : n - i ≡ 0 = omega arith in
-      ap (λ (k : ℕ). rowsIn second order d stop k at told) none
+      ap (λ (k : ℕ). rows_in_lem second order d stop k at told) none

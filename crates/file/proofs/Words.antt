@@ -1,20 +1,20 @@
 -- Numbers of eight bytes, and a table of formats, row by row.
 -- Assumes nothing.
-use mathlib.Core.Path.{_≡_, _∙_, refl, ap}
+use mathlib.Core.Path.{◌≡◌, ◌∙◌, refl, ap}
 use mathlib.Core.Bool.{cond}
-use mathlib.Core.List.{List, [], _∷_}
-use Prim.Native.Nat.{ℕ, suc, _+_, _*_, _≤_, _<_}
+use mathlib.Core.List.{List, [], ◌∷◌}
+use Prim.Native.Nat.{ℕ, suc, ◌+◌, ◌*◌, ◌≤◌, ◌<◌}
 use native.Mathlib.Omega.{arith}
 use lib.Dec.{eqb}
-use lib.ListN.{length, getD, drop, length-drop}
+use lib.ListN.{length, get_or, drop, length-drop}
 use lib.Seq.{drop-cons}
-use Rattle·numbers.specs.Numbers.{little}
-use Rattle·rules.specs.FileFormats.{known}
-use Rattle·rules.specs.declared.KnownFormat.{KnownFormat}
-use Rattle·rules.specs.declared.KnownFormat.the-variants.{As, Not}
+use Rattle.numbers.specs.Numbers.{little}
+use Rattle.rules.specs.FileFormats.{known}
+use Rattle.rules.specs.declared.KnownFormat.{KnownFormat}
+use Rattle.rules.specs.declared.KnownFormat.TheVariants.{As, Not}
 
 -- one byte, and those behind it
-one : (n k : ℕ) (d : List ℕ) → little (suc n) k d ≡ getD d k 0 + 256 * little n (suc k) d
+one : (n k : ℕ) (d : List ℕ) → little (suc n) k d ≡ get_or d k 0 + 256 * little n (suc k) d
 unfolding little
 one n k d = refl
 
@@ -40,22 +40,22 @@ eight k d =
 
 -- a row of a table, and those behind it
 module _ (l : List ℕ) (i x : ℕ) where
-  row-of : ℕ → ℕ → ℕ → KnownFormat
-  row-of f srgb rest = cond (eqb x (getD l i 0)) (As (getD l f 0) (getD l srgb 0)) (known (drop rest l) x)
+  row_of : ℕ → ℕ → ℕ → KnownFormat
+  row_of f srgb rest = cond (eqb x (get_or l i 0)) (As (get_or l f 0) (get_or l srgb 0)) (known (drop rest l) x)
 
-  pub turn : i + 2 < length l → known (drop i l) x ≡ cond (eqb x (getD l i 0)) (As (getD l (i + 1) 0) (getD l (i + 2) 0)) (known (drop (i + 3) l) x)
-  unfolding known row-of
+  pub turn : i + 2 < length l → known (drop i l) x ≡ cond (eqb x (get_or l i 0)) (As (get_or l (i + 1) 0) (get_or l (i + 2) 0)) (known (drop (i + 3) l) x)
+  unfolding known row_of
   turn h =
-      let a : drop i l ≡ getD l i 0 ∷ drop (suc i) l = drop-cons l i 0 (omega arith) in
-      let b : drop (suc i) l ≡ getD l (suc i) 0 ∷ drop (suc (suc i)) l = drop-cons l (suc i) 0 (omega arith) in
-      let c : drop (suc (suc i)) l ≡ getD l (suc (suc i)) 0 ∷ drop (suc (suc (suc i))) l = drop-cons l (suc (suc i)) 0 (omega arith) in
+      let a : drop i l ≡ get_or l i 0 ∷ drop (suc i) l = drop-cons l i 0 (omega arith) in
+      let b : drop (suc i) l ≡ get_or l (suc i) 0 ∷ drop (suc (suc i)) l = drop-cons l (suc i) 0 (omega arith) in
+      let c : drop (suc (suc i)) l ≡ get_or l (suc (suc i)) 0 ∷ drop (suc (suc (suc i))) l = drop-cons l (suc (suc i)) 0 (omega arith) in
       let p : suc i ≡ i + 1 = omega arith in
       let q : suc (suc i) ≡ i + 2 = omega arith in
       let r : suc (suc (suc i)) ≡ i + 3 = omega arith in
-      ap (λ (z : List ℕ). known z x) (a ∙ ap (λ (z : List ℕ). getD l i 0 ∷ z) (b ∙ ap (λ (z : List ℕ). getD l (suc i) 0 ∷ z) c))
-      ∙ ap (λ (z : ℕ). row-of z (suc (suc i)) (suc (suc (suc i)))) p
-      ∙ ap (λ (z : ℕ). row-of (i + 1) z (suc (suc (suc i)))) q
-      ∙ ap (λ (z : ℕ). row-of (i + 1) (i + 2) z) r
+      ap (λ (z : List ℕ). known z x) (a ∙ ap (λ (z : List ℕ). get_or l i 0 ∷ z) (b ∙ ap (λ (z : List ℕ). get_or l (suc i) 0 ∷ z) c))
+      ∙ ap (λ (z : ℕ). row_of z (suc (suc i)) (suc (suc (suc i)))) p
+      ∙ ap (λ (z : ℕ). row_of (i + 1) z (suc (suc (suc i)))) q
+      ∙ ap (λ (z : ℕ). row_of (i + 1) (i + 2) z) r
 
 -- fewer than three numbers are no row
 short : (l : List ℕ) (x : ℕ) → length l ≤ 2 → known l x ≡ Not

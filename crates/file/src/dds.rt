@@ -1,112 +1,28 @@
 // The header of a DDS file. Its numbers and their places are in crates/rules/specs/Dds.antt.
+ghost use Rattle.std.specs.Prelude.{◌≡◌, ◌≤◌, length};
+ghost use Rattle.rules.specs.FileFormats.{known as known_in};
+ghost use Rattle.rules.specs.Dds.{four_cc_rows, dxgi_rows, has_four_cc, is_dx10_lem, dds_flat_lem, dx10_flat_lem, dds_as};
+ghost use Rattle.rules.specs.Dds.{four_cc_format, dx10_of, dds_of};
+
 use super::formats;
-use rules::Answer;
-use rules::FileHeader;
-use rules::KnownFormat;
-use rules::Layout;
-ghost use mathlib.Core.Path.{_≡_};
-ghost use Prim.Native.Nat.{_≤_};
-ghost use lib.ListN.{length};
-ghost use Rattle·rules.specs.FileFormats.{known as knownIn};
-ghost use Rattle·rules.specs.Dds.{fourCCRows, dxgiRows, hasFourCC, isDx10, ddsFlat, dx10Flat, ddsAs, fourCCFormat, dx10Of, ddsOf};
+use rules::{Answer, FileHeader, KnownFormat, Layout};
 
 // FourCCs and DXGI's numbers: the number, the format's, and 1 where it is sRGB.
 const FOURCC_ROWS: [usize; 33] = [
-    0x44585431,
-    9,
-    0,
-    0x44585432,
-    12,
-    0,
-    0x44585433,
-    12,
-    0,
-    0x44585434,
-    10,
-    0,
-    0x44585435,
-    10,
-    0,
-    0x41544931,
-    13,
-    0,
-    0x42433455,
-    13,
-    0,
-    0x42433453,
-    14,
-    0,
-    0x41544932,
-    15,
-    0,
-    0x42433555,
-    15,
-    0,
-    0x42433553,
-    16,
-    0,
+    0x44585431, 9, 0, 0x44585432, 12, 0, 0x44585433, 12, 0, 0x44585434, 10, 0, 0x44585435, 10, 0,
+    0x41544931, 13, 0, 0x42433455, 13, 0, 0x42433453, 14, 0, 0x41544932, 15, 0, 0x42433555, 15, 0,
+    0x42433553, 16, 0,
 ];
 
 const DXGI_ROWS: [usize; 54] = [
-    70,
-    9,
-    0,
-    71,
-    9,
-    0,
-    72,
-    9,
-    1,
-    73,
-    12,
-    0,
-    74,
-    12,
-    0,
-    75,
-    12,
-    1,
-    76,
-    10,
-    0,
-    77,
-    10,
-    0,
-    78,
-    10,
-    1,
-    79,
-    13,
-    0,
-    80,
-    13,
-    0,
-    81,
-    14,
-    0,
-    82,
-    15,
-    0,
-    83,
-    15,
-    0,
-    84,
-    16,
-    0,
-    97,
-    11,
-    0,
-    98,
-    11,
-    0,
-    99,
-    11,
+    70, 9, 0, 71, 9, 0, 72, 9, 1, 73, 12, 0, 74, 12, 0, 75, 12, 1, 76, 10, 0, 77, 10, 0, 78, 10, 1,
+    79, 13, 0, 80, 13, 0, 81, 14, 0, 82, 15, 0, 83, 15, 0, 84, 16, 0, 97, 11, 0, 98, 11, 0, 99, 11,
     1,
 ];
 
 // What DXGI's number stands for.
 fn dxgi_format(number: usize) -> KnownFormat
-    ensures { λ r. ⌜ r ≡ knownIn dxgiRows number ⌝ }
+    ensures { result ≡ known_in dxgi_rows number }
 {
     let rows = DXGI_ROWS;
     formats::known_in(&rows, number)
@@ -114,7 +30,7 @@ fn dxgi_format(number: usize) -> KnownFormat
 
 // What four letters stand for.
 fn fourcc_named(number: usize) -> KnownFormat
-    ensures { λ r. ⌜ r ≡ knownIn fourCCRows number ⌝ }
+    ensures { result ≡ known_in four_cc_rows number }
 {
     let rows = FOURCC_ROWS;
     formats::known_in(&rows, number)
@@ -122,16 +38,16 @@ fn fourcc_named(number: usize) -> KnownFormat
 
 // Whether the pixel format has a FourCC.
 fn has_fourcc(d: &[u8]) -> bool
-    requires { ⌜ 128 ≤ length (now d) ⌝ }
-    ensures { λ r. ⌜ r ≡ hasFourCC (now (d .entry)) ⌝ }
+    requires { 128 ≤ length d.now }
+    ensures { result ≡ has_four_cc d.now }
 {
     numbers::little4(d, 80) / 4 % 2 == 1
 }
 
 // The format that the FourCC names.
 fn fourcc_format(d: &[u8]) -> KnownFormat
-    requires { ⌜ 128 ≤ length (now d) ⌝ }
-    ensures { λ r. ⌜ r ≡ fourCCFormat (now (d .entry)) ⌝ }
+    requires { 128 ≤ length d.now }
+    ensures { result ≡ four_cc_format d.now }
 {
     if has_fourcc(d) {
         return fourcc_named(numbers::big4(d, 84));
@@ -141,8 +57,8 @@ fn fourcc_format(d: &[u8]) -> KnownFormat
 
 // Whether 20 more bytes follow the header.
 fn is_dx10(d: &[u8]) -> bool
-    requires { ⌜ 128 ≤ length (now d) ⌝ }
-    ensures { λ r. ⌜ r ≡ isDx10 (now (d .entry)) ⌝ }
+    requires { 128 ≤ length d.now }
+    ensures { result ≡ is_dx10_lem d.now }
 {
     let named = has_fourcc(d);
     let same = numbers::big4(d, 84) == 0x44583130;
@@ -151,8 +67,8 @@ fn is_dx10(d: &[u8]) -> bool
 
 // Whether caps2 tells neither of a cube nor of a volume.
 fn dds_flat(d: &[u8]) -> bool
-    requires { ⌜ 128 ≤ length (now d) ⌝ }
-    ensures { λ r. ⌜ r ≡ ddsFlat (now (d .entry)) ⌝ }
+    requires { 128 ≤ length d.now }
+    ensures { result ≡ dds_flat_lem d.now }
 {
     let caps = numbers::little4(d, 112);
     let cube = caps / 0x200 % 2 == 1;
@@ -162,8 +78,8 @@ fn dds_flat(d: &[u8]) -> bool
 
 // Whether the 20 bytes tell of one picture.
 fn dx10_flat(d: &[u8]) -> bool
-    requires { ⌜ 148 ≤ length (now d) ⌝ }
-    ensures { λ r. ⌜ r ≡ dx10Flat (now (d .entry)) ⌝ }
+    requires { 148 ≤ length d.now }
+    ensures { result ≡ dx10_flat_lem d.now }
 {
     let dimension = numbers::little4(d, 132);
     let misc = numbers::little4(d, 136);
@@ -177,8 +93,8 @@ fn dx10_flat(d: &[u8]) -> bool
 
 // The rest of the header, once its format is known, and where the levels start.
 fn header_as(known: KnownFormat, start: usize, d: &[u8]) -> FileHeader
-    requires { ⌜ 128 ≤ length (now d) ⌝ }
-    ensures { λ r. ⌜ r ≡ ddsAs known start (now (d .entry)) ⌝ }
+    requires { 128 ≤ length d.now }
+    ensures { result ≡ dds_as known start d.now }
 {
     match known {
         KnownFormat::Not => FileHeader::Refused(Answer::UnknownFormat),
@@ -205,8 +121,8 @@ fn header_as(known: KnownFormat, start: usize, d: &[u8]) -> FileHeader
 
 // The header with 20 more bytes.
 fn dx10_header(d: &[u8]) -> FileHeader
-    requires { ⌜ 128 ≤ length (now d) ⌝ }
-    ensures { λ r. ⌜ r ≡ dx10Of (now (d .entry)) ⌝ }
+    requires { 128 ≤ length d.now }
+    ensures { result ≡ dx10_of d.now }
 {
     if d.len() < 148 {
         return FileHeader::Refused(Answer::HeaderCut);
@@ -222,7 +138,7 @@ fn dx10_header(d: &[u8]) -> FileHeader
 
 // The header.
 pub fn header(d: &[u8]) -> FileHeader
-    ensures { λ r. ⌜ r ≡ ddsOf (now (d .entry)) ⌝ }
+    ensures { result ≡ dds_of d.now }
 {
     if d.len() < 128 {
         return FileHeader::Refused(Answer::HeaderCut);

@@ -1,15 +1,13 @@
 // What the containers share: their tables of formats, and numbers in a file's own byte order.
-use rules::Format;
-use rules::KnownFormat;
-ghost use mathlib.Core.Path.{_≡_};
-ghost use Prim.Native.Nat.{_+_, _<_, _≤_};
-ghost use lib.ListN.{length};
-ghost use Rattle·numbers.specs.Numbers.{little};
-ghost use Rattle·rules.specs.FileFormats.{formatAt, known, word32, has4 as hasFour, oneAtLeast, isFlat};
+ghost use Rattle.std.specs.Prelude.{◌≡◌, ◌+◌, ◌<◌, ◌≤◌, length};
+ghost use Rattle.numbers.specs.Numbers.{little};
+ghost use Rattle.rules.specs.FileFormats.{format_at_lem, known, word32, has4 as has_four, one_at_least_lem, is_flat_lem};
+
+use rules::{Format, KnownFormat};
 
 // The format of a number; a number that no format has is the first one's.
 pub fn format_at(n: usize) -> Format
-    ensures { λ r. ⌜ r ≡ formatAt n ⌝ }
+    ensures { result ≡ format_at_lem n }
 {
     match n {
         1 => Format::Etc2Rgb,
@@ -34,7 +32,7 @@ pub fn format_at(n: usize) -> Format
 
 // What a number stands for in a table, whose rows are the container's number, the format's and 1 where it is sRGB.
 pub fn known_in(table: &[usize], number: usize) -> KnownFormat
-    ensures { λ r. ⌜ r ≡ known (now (table .entry)) number ⌝ }
+    ensures { result ≡ known table.now number }
 {
     let mut i: usize = 0;
     while 2 < table.len() - i {
@@ -48,8 +46,8 @@ pub fn known_in(table: &[usize], number: usize) -> KnownFormat
 
 // The four bytes at a place, in a file's own order.
 pub fn word(order: bool, d: &[u8], at: usize) -> usize
-    requires { ⌜ at + 4 ≤ length (now d) ⌝ }
-    ensures { λ r. ⌜ (r ≡ word32 order (now (d .entry)) at) × (r < 0x100000000) ⌝ }
+    requires { at + 4 ≤ length d.now }
+    ensures { (result ≡ word32 order d.now at) × (result < 0x100000000) }
 {
     if order {
         numbers::big4(d, at)
@@ -60,8 +58,8 @@ pub fn word(order: bool, d: &[u8], at: usize) -> usize
 
 // Whether the four bytes at a place are there, and are these.
 pub fn has4(d: &[u8], at: usize, number: usize) -> bool
-    requires { ⌜ at < 0x8000000000000000 ⌝ }
-    ensures { λ r. ⌜ r ≡ hasFour (now (d .entry)) at number ⌝ }
+    requires { at < 0x8000000000000000 }
+    ensures { result ≡ has_four d.now at number }
 {
     if d.len() < at + 4 {
         return false;
@@ -71,7 +69,7 @@ pub fn has4(d: &[u8], at: usize, number: usize) -> bool
 
 // A number of levels: 0 tells of one.
 pub fn one_at_least(n: usize) -> usize
-    ensures { λ r. ⌜ r ≡ oneAtLeast n ⌝ }
+    ensures { result ≡ one_at_least_lem n }
 {
     if n == 0 {
         return 1;
@@ -81,7 +79,7 @@ pub fn one_at_least(n: usize) -> usize
 
 // Whether a picture is neither a volume, nor an array, nor a cube.
 pub fn is_flat(depth: usize, layers: usize, faces: usize) -> bool
-    ensures { λ r. ⌜ r ≡ isFlat depth layers faces ⌝ }
+    ensures { result ≡ is_flat_lem depth layers faces }
 {
     if 1 < depth {
         return false;
@@ -94,8 +92,8 @@ pub fn is_flat(depth: usize, layers: usize, faces: usize) -> bool
 
 // The eight bytes at a place, the least first.
 pub fn little8(d: &[u8], at: usize) -> usize
-    requires { ⌜ at + 8 ≤ length (now d) ⌝ }
-    ensures { λ r. ⌜ r ≡ little 8 at (now (d .entry)) ⌝ }
+    requires { at + 8 ≤ length d.now }
+    ensures { result ≡ little 8 at d.now }
 {
     numbers::little4(d, at) + 0x100000000 * numbers::little4(d, at + 4)
 }

@@ -1,15 +1,13 @@
 // Which row comes first, by the key and value data of KTX 1 and KTX 2. crates/rules/specs/Keys.antt says what is told.
+ghost use Rattle.std.specs.Prelude.{cond, ◌≡◌, ◌<◌, ◌≤◌, length};
+ghost use Rattle.rules.specs.Keys.{is_orientation_lem, rows_by, rows_told_lem, rows_in_lem, orientation_of};
+
 use super::formats;
-ghost use mathlib.Core.Bool.{cond};
-ghost use mathlib.Core.Path.{_≡_};
-ghost use Prim.Native.Nat.{_<_, _≤_};
-ghost use lib.ListN.{length};
-ghost use Rattle·rules.specs.Keys.{isOrientation, rowsBy, rowsTold, rowsIn, orientationOf};
 
 // Whether the key of an entry at a byte is the one that tells.
 fn is_orientation(d: &[u8], at: usize) -> bool
-    requires { ⌜ at < 0x10000000000 ⌝ }
-    ensures { λ r. ⌜ r ≡ isOrientation (now (d .entry)) at ⌝ }
+    requires { at < 0x10000000000 }
+    ensures { result ≡ is_orientation_lem d.now at }
 {
     let small = formats::has4(d, at, 0x4B54586F);
     let large = formats::has4(d, at, 0x4B54584F);
@@ -21,8 +19,8 @@ fn is_orientation(d: &[u8], at: usize) -> bool
 
 // What four bytes say, which are the one or the other.
 fn rows_by(d: &[u8], at: usize, down: usize, up: usize) -> usize
-    requires { ⌜ at < 0x20000000000 ⌝ }
-    ensures { λ r. ⌜ r ≡ rowsBy (now (d .entry)) at down up ⌝ }
+    requires { at < 0x20000000000 }
+    ensures { result ≡ rows_by d.now at down up }
 {
     if formats::has4(d, at, down) {
         return 1;
@@ -35,8 +33,8 @@ fn rows_by(d: &[u8], at: usize, down: usize, up: usize) -> usize
 
 // What the value behind that key says.
 fn rows_told(second: bool, d: &[u8], at: usize, size: usize) -> usize
-    requires { ⌜ at < 0x10000000000 ⌝ }
-    ensures { λ r. ⌜ r ≡ rowsTold second (now (d .entry)) at size ⌝ }
+    requires { at < 0x10000000000 }
+    ensures { result ≡ rows_told_lem second d.now at size }
 {
     if second {
         if size < 17 {
@@ -52,8 +50,8 @@ fn rows_told(second: bool, d: &[u8], at: usize, size: usize) -> usize
 
 // What an entry says, or what the entries before it said.
 fn entry_told(second: bool, d: &[u8], at: usize, size: usize, told: usize) -> usize
-    requires { ⌜ at < 0x10000000000 ⌝ }
-    ensures { λ r. ⌜ r ≡ cond (isOrientation (now (d .entry)) at) (rowsTold second (now (d .entry)) at size) told ⌝ }
+    requires { at < 0x10000000000 }
+    ensures { result ≡ cond (is_orientation_lem d.now at) (rows_told_lem second d.now at size) told }
 {
     if is_orientation(d, at) {
         return rows_told(second, d, at, size);
@@ -63,8 +61,8 @@ fn entry_told(second: bool, d: &[u8], at: usize, size: usize, told: usize) -> us
 
 // What the entries from one byte up to another say.
 fn rows_in(second: bool, order: bool, d: &[u8], start: usize, stop: usize) -> usize
-    requires { ⌜ (start ≤ stop) × (stop ≤ length (now d)) × (stop < 0x400000000) ⌝ }
-    ensures { λ r. ⌜ r ≡ rowsIn second order (now (d .entry)) stop (length (now (d .entry))) start 0 ⌝ }
+    requires { (start ≤ stop) × (stop ≤ length d.now) × (stop < 0x400000000) }
+    ensures { result ≡ rows_in_lem second order d.now stop (length d.now) start 0 }
 {
     let mut at = start;
     let mut told: usize = 0;
@@ -91,8 +89,8 @@ fn rows_in(second: bool, order: bool, d: &[u8], start: usize, stop: usize) -> us
 // Which row comes first, by so many bytes of key and value data from a start on: 1 the top one, 2 the bottom one, 0 where they tell
 // nothing.
 pub fn orientation(second: bool, order: bool, d: &[u8], start: usize, size: usize) -> usize
-    requires { ⌜ (start < 0x100000000) × (size < 0x100000000) ⌝ }
-    ensures { λ r. ⌜ r ≡ orientationOf second order (now (d .entry)) start size ⌝ }
+    requires { (start < 0x100000000) × (size < 0x100000000) }
+    ensures { result ≡ orientation_of second order d.now start size }
 {
     if d.len() < start {
         return 0;

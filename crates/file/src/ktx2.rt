@@ -1,95 +1,21 @@
 // The header of a KTX 2 file. Its numbers and their places are in crates/rules/specs/Ktx2.antt.
-use super::formats;
-use super::keys;
-use rules::Answer;
-use rules::FileHeader;
-use rules::KnownFormat;
-use rules::Layout;
-ghost use mathlib.Core.Path.{_≡_};
-ghost use Prim.Native.Nat.{_≤_};
-ghost use lib.ListN.{length};
-ghost use Rattle·rules.specs.FileFormats.{known as knownIn};
-ghost use Rattle·rules.specs.Ktx2.{isKtx2, vkRows, ktx2As, ktx2Of};
+ghost use Rattle.std.specs.Prelude.{◌≡◌, ◌≤◌, length};
+ghost use Rattle.rules.specs.FileFormats.{known as known_in};
+ghost use Rattle.rules.specs.Ktx2.{is_ktx2_lem, vk_rows, ktx2_as, ktx2_of};
+
+use super::{formats, keys};
+use rules::{Answer, FileHeader, KnownFormat, Layout};
 
 // Vulkan's numbers: the number, the format's, and 1 where it is sRGB.
 const ROWS: [usize; 72] = [
-    131,
-    8,
-    0,
-    132,
-    8,
-    1,
-    133,
-    9,
-    0,
-    134,
-    9,
-    1,
-    135,
-    12,
-    0,
-    136,
-    12,
-    1,
-    137,
-    10,
-    0,
-    138,
-    10,
-    1,
-    139,
-    13,
-    0,
-    140,
-    14,
-    0,
-    141,
-    15,
-    0,
-    142,
-    16,
-    0,
-    145,
-    11,
-    0,
-    146,
-    11,
-    1,
-    147,
-    1,
-    0,
-    148,
-    1,
-    1,
-    149,
-    2,
-    0,
-    150,
-    2,
-    1,
-    151,
-    3,
-    0,
-    152,
-    3,
-    1,
-    153,
-    4,
-    0,
-    154,
-    5,
-    0,
-    155,
-    6,
-    0,
-    156,
-    7,
-    0,
+    131, 8, 0, 132, 8, 1, 133, 9, 0, 134, 9, 1, 135, 12, 0, 136, 12, 1, 137, 10, 0, 138, 10, 1,
+    139, 13, 0, 140, 14, 0, 141, 15, 0, 142, 16, 0, 145, 11, 0, 146, 11, 1, 147, 1, 0, 148, 1, 1,
+    149, 2, 0, 150, 2, 1, 151, 3, 0, 152, 3, 1, 153, 4, 0, 154, 5, 0, 155, 6, 0, 156, 7, 0,
 ];
 
 // What Vulkan's number stands for.
 fn vk_format(number: usize) -> KnownFormat
-    ensures { λ r. ⌜ r ≡ knownIn vkRows number ⌝ }
+    ensures { result ≡ known_in vk_rows number }
 {
     let rows = ROWS;
     formats::known_in(&rows, number)
@@ -97,7 +23,7 @@ fn vk_format(number: usize) -> KnownFormat
 
 // Whether a file begins as KTX 2 does.
 pub fn is_ktx2(d: &[u8]) -> bool
-    ensures { λ r. ⌜ r ≡ isKtx2 (now (d .entry)) ⌝ }
+    ensures { result ≡ is_ktx2_lem d.now }
 {
     let first = formats::has4(d, 0, 0xAB4B5458);
     let second = formats::has4(d, 4, 0x203230BB);
@@ -107,8 +33,8 @@ pub fn is_ktx2(d: &[u8]) -> bool
 
 // The rest of the header, once its format is known.
 fn header_as(known: KnownFormat, d: &[u8]) -> FileHeader
-    requires { ⌜ 80 ≤ length (now d) ⌝ }
-    ensures { λ r. ⌜ r ≡ ktx2As known (now (d .entry)) ⌝ }
+    requires { 80 ≤ length d.now }
+    ensures { result ≡ ktx2_as known d.now }
 {
     match known {
         KnownFormat::Not => FileHeader::Refused(Answer::UnknownFormat),
@@ -138,7 +64,7 @@ fn header_as(known: KnownFormat, d: &[u8]) -> FileHeader
 
 // The header.
 pub fn header(d: &[u8]) -> FileHeader
-    ensures { λ r. ⌜ r ≡ ktx2Of (now (d .entry)) ⌝ }
+    ensures { result ≡ ktx2_of d.now }
 {
     if d.len() < 80 {
         return FileHeader::Refused(Answer::HeaderCut);

@@ -1,11 +1,11 @@
 // Files for callers from C: the numbers of a file or of a level go into an array that they lend, with answer 0 alone.
-use rules::FoundLevel;
-use rules::Opened;
-ghost use Rattle·file·specs.specs.lent.Lent.{FileTold, LevelTold};
+ghost use Rattle.file.specs.lent.Lent.{FileTold, LevelTold};
+
+use rules::{FoundLevel, Opened};
 
 // Opens a file.
 pub fn open_file(bytes: &[u8], out: &mut [usize; 9]) -> u32
-    ensures { λ r. ⌜ FileTold (now (bytes .entry)) (now (out .entry)) r (now (out .exit)) ⌝ }
+    ensures { FileTold bytes.now out.old result out.new }
 {
     let told = super::open_file(bytes);
     match told {
@@ -29,7 +29,7 @@ pub fn open_file(bytes: &[u8], out: &mut [usize; 9]) -> u32
 
 // Level n of a file.
 pub fn file_level(bytes: &[u8], n: usize, out: &mut [usize; 4]) -> u32
-    ensures { λ r. ⌜ LevelTold (now (bytes .entry)) n (now (out .entry)) r (now (out .exit)) ⌝ }
+    ensures { LevelTold bytes.now n out.old result out.new }
 {
     let told = super::file_level(bytes, n);
     match told {

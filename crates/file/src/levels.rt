@@ -1,29 +1,20 @@
 // The levels of a file: whether they all lie in it as it tells, and where one of them does.
+ghost use Rattle.std.specs.Prelude.{◌||◌, ◌≡◌, ◌+◌, ◌-◌, ◌/◌, ◌<◌, ◌≤◌, eqb, length};
+ghost use Rattle.rules.specs.Answers.{limit};
+ghost use Rattle.rules.specs.FileLevels.{bytes_for_lem, halved as half_of, inside_of, after_size_lem, in_index_lem, fit_of_lem};
+ghost use Rattle.rules.specs.FileLevels.{level_at_lem, next_spot_lem};
+ghost use Rattle.rules.specs.FileLevels.{lesser as lesser_of, chosen as chosen_of, levels_of, too_many_lem, larger as larger_of};
+ghost use Rattle.rules.specs.FileLevels.{held_of, opened_by, found_by};
+
 use super::formats;
-use rules::Answer;
-use rules::FileFacts;
-use rules::FileLevel;
-use rules::Fit;
-use rules::FoundLevel;
-use rules::HeldLevels;
-use rules::Layout;
-use rules::Opened;
-use rules::Picture;
-use rules::Spot;
-ghost use mathlib.Core.Bool.{_||_};
-ghost use mathlib.Core.Path.{_≡_};
-ghost use Prim.Native.Nat.{_+_, _-_, _/_, _<_, _≤_};
-ghost use lib.Dec.{eqb};
-ghost use lib.ListN.{length};
-ghost use Rattle·rules.specs.Answers.{limit};
-ghost use Rattle·rules.specs.FileLevels.{bytesFor, halved as halfOf, insideOf, afterSize, inIndex, fitOf, levelAt, nextSpot};
-ghost use Rattle·rules.specs.FileLevels.{lesser as lesserOf, chosen as chosenOf, levelsOf, tooMany, larger as largerOf};
-ghost use Rattle·rules.specs.FileLevels.{heldOf, openedBy, foundBy};
+use rules::{
+    Answer, FileFacts, FileLevel, Fit, FoundLevel, HeldLevels, Layout, Opened, Picture, Spot,
+};
 
 // The bytes of the blocks of a picture.
 fn bytes_for(f: usize, width: usize, height: usize) -> usize
-    requires { ⌜ (width ≤ limit) × (height ≤ limit) ⌝ }
-    ensures { λ r. ⌜ (r ≡ bytesFor f width height) × (r ≤ 0x100000000) ⌝ }
+    requires { (width ≤ limit) × (height ≤ limit) }
+    ensures { (result ≡ bytes_for_lem f width height) × (result ≤ 0x100000000) }
 {
     let pic = Picture {
         width: width,
@@ -35,7 +26,7 @@ fn bytes_for(f: usize, width: usize, height: usize) -> usize
 
 // Half a side, and 1 at the least.
 fn halved(side: usize) -> usize
-    ensures { λ r. ⌜ (r ≡ halfOf side) × (r ≤ 1 + side / 2) ⌝ }
+    ensures { (result ≡ half_of side) × (result ≤ 1 + side / 2) }
 {
     if side < 2 {
         return 1;
@@ -45,7 +36,7 @@ fn halved(side: usize) -> usize
 
 // Whether so many bytes from a start on lie in the file.
 fn inside(bytes: &[u8], start: usize, need: usize) -> Fit
-    ensures { λ r. ⌜ r ≡ insideOf (now (bytes .entry)) start need ⌝ }
+    ensures { result ≡ inside_of bytes.now start need }
 {
     if bytes.len() < start {
         return Fit::Refused(Answer::LevelsMissing);
@@ -58,7 +49,7 @@ fn inside(bytes: &[u8], start: usize, need: usize) -> Fit
 
 // A level of KTX 1, which has its size before it.
 fn after_size(order: bool, bytes: &[u8], at: usize, need: usize) -> Fit
-    ensures { λ r. ⌜ r ≡ afterSize order (now (bytes .entry)) at need ⌝ }
+    ensures { result ≡ after_size_lem order bytes.now at need }
 {
     if bytes.len() < at {
         return Fit::Refused(Answer::LevelsMissing);
@@ -74,8 +65,8 @@ fn after_size(order: bool, bytes: &[u8], at: usize, need: usize) -> Fit
 
 // A level of KTX 2, which has an entry in the index.
 fn in_index(bytes: &[u8], n: usize, need: usize) -> Fit
-    requires { ⌜ n < 256 ⌝ }
-    ensures { λ r. ⌜ r ≡ inIndex (now (bytes .entry)) n need ⌝ }
+    requires { n < 256 }
+    ensures { result ≡ in_index_lem bytes.now n need }
 {
     if bytes.len() < 104 + 24 * n {
         return Fit::Refused(Answer::LevelsMissing);
@@ -88,8 +79,8 @@ fn in_index(bytes: &[u8], n: usize, need: usize) -> Fit
 
 // Level n, by its container.
 fn fit_of(l: Layout, bytes: &[u8], n: usize, s: Spot) -> Fit
-    requires { ⌜ (n < 256) × (s .width ≤ limit) × (s .height ≤ limit) ⌝ }
-    ensures { λ r. ⌜ r ≡ fitOf l (now (bytes .entry)) n s ⌝ }
+    requires { (n < 256) × (s.width ≤ limit) × (s.height ≤ limit) }
+    ensures { result ≡ fit_of_lem l bytes.now n s }
 {
     let need = bytes_for(l.format, s.width, s.height);
     if l.container == 2 {
@@ -103,8 +94,8 @@ fn fit_of(l: Layout, bytes: &[u8], n: usize, s: Spot) -> Fit
 
 // The level whose blocks start at a byte.
 fn level_at(l: Layout, s: Spot, start: usize) -> FileLevel
-    requires { ⌜ (s .width ≤ limit) × (s .height ≤ limit) ⌝ }
-    ensures { λ r. ⌜ r ≡ levelAt l s start ⌝ }
+    requires { (s.width ≤ limit) × (s.height ≤ limit) }
+    ensures { result ≡ level_at_lem l s start }
 {
     let length = bytes_for(l.format, s.width, s.height);
     FileLevel {
@@ -117,8 +108,8 @@ fn level_at(l: Layout, s: Spot, start: usize) -> FileLevel
 
 // The next level, which begins where the blocks of this one end.
 fn next_spot(l: Layout, s: Spot, start: usize) -> Spot
-    requires { ⌜ (s .width ≤ limit) × (s .height ≤ limit) × (start + bytesFor (l .format) (s .width) (s .height) < 0x10000000000000000) ⌝ }
-    ensures { λ r. ⌜ (r ≡ nextSpot l s start) × (r .width ≤ limit) × (r .height ≤ limit) ⌝ }
+    requires { (s.width ≤ limit) × (s.height ≤ limit) × (start + bytes_for_lem l.format s.width s.height < 0x10000000000000000) }
+    ensures { (result ≡ next_spot_lem l s start) × (result.width ≤ limit) × (result.height ≤ limit) }
 {
     let at = start + bytes_for(l.format, s.width, s.height);
     Spot {
@@ -130,8 +121,8 @@ fn next_spot(l: Layout, s: Spot, start: usize) -> Spot
 
 // The bytes that are left over: those behind a level, where they are fewer.
 fn left_behind(left: usize, bytes: &[u8], level: FileLevel) -> usize
-    requires { ⌜ level .start + level .length ≤ length (now bytes) ⌝ }
-    ensures { λ r. ⌜ r ≡ lesserOf left (length (now (bytes .entry)) - (level .start + level .length)) ⌝ }
+    requires { level.start + level.length ≤ length bytes.now }
+    ensures { result ≡ lesser_of left (length bytes.now - (level.start + level.length)) }
 {
     let behind = bytes.len() - (level.start + level.length);
     if left < behind {
@@ -142,7 +133,7 @@ fn left_behind(left: usize, bytes: &[u8], level: FileLevel) -> usize
 
 // The level that is asked for, where it is this one.
 fn chosen(n: usize, k: usize, level: FileLevel, other: FileLevel) -> FileLevel
-    ensures { λ r. ⌜ r ≡ chosenOf n k level other ⌝ }
+    ensures { result ≡ chosen_of n k level other }
 {
     if n == k {
         return level;
@@ -152,8 +143,8 @@ fn chosen(n: usize, k: usize, level: FileLevel, other: FileLevel) -> FileLevel
 
 // All levels, and level n where it is among them.
 fn levels(bytes: &[u8], l: Layout, n: usize) -> HeldLevels
-    requires { ⌜ (l .width ≤ limit) × (l .height ≤ limit) × (l .levels < 256) ⌝ }
-    ensures { λ r. ⌜ r ≡ levelsOf l (now (bytes .entry)) n ⌝ }
+    requires { (l.width ≤ limit) × (l.height ≤ limit) × (l.levels < 256) }
+    ensures { result ≡ levels_of l bytes.now n }
 {
     let mut s = Spot {
         width: l.width,
@@ -188,7 +179,7 @@ fn levels(bytes: &[u8], l: Layout, n: usize) -> HeldLevels
 
 // Whether so many levels cannot follow one whose larger side is this.
 fn too_many(larger: usize, more: usize) -> bool
-    ensures { λ r. ⌜ r ≡ tooMany larger more ⌝ }
+    ensures { result ≡ too_many_lem larger more }
 {
     let mut side = larger;
     let mut i: usize = 0;
@@ -204,7 +195,7 @@ fn too_many(larger: usize, more: usize) -> bool
 
 // The larger of two numbers.
 fn larger(a: usize, b: usize) -> usize
-    ensures { λ r. ⌜ r ≡ largerOf a b ⌝ }
+    ensures { result ≡ larger_of a b }
 {
     if a < b {
         return b;
@@ -214,7 +205,7 @@ fn larger(a: usize, b: usize) -> usize
 
 // Whether one of two sides is 0.
 fn is_empty(width: usize, height: usize) -> bool
-    ensures { λ r. ⌜ r ≡ (eqb width 0 || eqb height 0) ⌝ }
+    ensures { result ≡ (eqb width 0 || eqb height 0) }
 {
     let narrow = width == 0;
     let low = height == 0;
@@ -223,7 +214,7 @@ fn is_empty(width: usize, height: usize) -> bool
 
 // One less, and nothing of nothing.
 fn less(n: usize) -> usize
-    ensures { λ r. ⌜ r ≡ n - 1 ⌝ }
+    ensures { result ≡ n - 1 }
 {
     if n == 0 {
         return 0;
@@ -233,7 +224,7 @@ fn less(n: usize) -> usize
 
 // What a header tells, held to the file, and level n where there is one.
 pub fn held(l: Layout, bytes: &[u8], n: usize) -> HeldLevels
-    ensures { λ r. ⌜ r ≡ heldOf l (now (bytes .entry)) n ⌝ }
+    ensures { result ≡ held_of l bytes.now n }
 {
     let pic = Picture {
         width: l.width,
@@ -257,7 +248,7 @@ pub fn held(l: Layout, bytes: &[u8], n: usize) -> HeldLevels
 
 // A file is opened, with what its header tells and the bytes that are left over.
 pub fn opened(l: Layout, held: HeldLevels) -> Opened
-    ensures { λ r. ⌜ r ≡ openedBy l held ⌝ }
+    ensures { result ≡ opened_by l held }
 {
     match held {
         HeldLevels::Levels(left, _) => Opened::File(FileFacts {
@@ -277,7 +268,7 @@ pub fn opened(l: Layout, held: HeldLevels) -> Opened
 
 // Level n is found where the file is opened and has so many.
 pub fn found(l: Layout, n: usize, held: HeldLevels) -> FoundLevel
-    ensures { λ r. ⌜ r ≡ foundBy l n held ⌝ }
+    ensures { result ≡ found_by l n held }
 {
     match held {
         HeldLevels::Levels(_, level) => {

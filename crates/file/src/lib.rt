@@ -1,4 +1,6 @@
 // Opening texture files: what a file holds, and where its levels are. crates/rules/specs/Files.antt says what is answered, for all bytes.
+#![tactic(auto)]
+
 mod dds;
 pub mod formats;
 mod keys;
@@ -9,16 +11,14 @@ mod levels;
 mod pkm;
 mod sheets;
 
-use rules::Answer;
-use rules::FileHeader;
-use rules::FoundLevel;
-use rules::Opened;
-ghost use mathlib.Core.Path.{_≡_};
-ghost use Rattle·rules.specs.Files.{headerOf, OpensFile, FindsLevel};
+ghost use Rattle.std.specs.Prelude.{◌≡◌};
+ghost use Rattle.rules.specs.Files.{header_of, OpensFile, FindsLevel};
+
+use rules::{Answer, FileHeader, FoundLevel, Opened};
 
 // What the header of a file tells, by its container.
 fn header(bytes: &[u8]) -> FileHeader
-    ensures { λ r. ⌜ r ≡ headerOf (now (bytes .entry)) ⌝ }
+    ensures { result ≡ header_of bytes.now }
 {
     if formats::has4(bytes, 0, 0x504B4D20) {
         return pkm::header(bytes);
@@ -40,7 +40,7 @@ fn header(bytes: &[u8]) -> FileHeader
 
 // Opens a file: what it holds, or why it is refused.
 pub fn open_file(bytes: &[u8]) -> Opened
-    ensures { λ r. ⌜ OpensFile (now (bytes .entry)) r ⌝ }
+    ensures { OpensFile bytes.now result }
 {
     let told = header(bytes);
     match told {
@@ -51,7 +51,7 @@ pub fn open_file(bytes: &[u8]) -> Opened
 
 // Level n of a file: its size and where its blocks are, or why there is none.
 pub fn file_level(bytes: &[u8], n: usize) -> FoundLevel
-    ensures { λ r. ⌜ FindsLevel (now (bytes .entry)) n r ⌝ }
+    ensures { FindsLevel bytes.now n result }
 {
     let told = header(bytes);
     match told {

@@ -1,66 +1,31 @@
 // The header of a PKM file. Its bytes and their places are in crates/rules/specs/Pkm.antt.
+ghost use Rattle.std.specs.Prelude.{◌≡◌, ◌≤◌, ◌<◌, length};
+ghost use Rattle.rules.specs.FileFormats.{known};
+ghost use Rattle.rules.specs.Pkm.{pkm_rows1, pkm_rows2, padded as padded_to, pkm_as, pkm_of};
+
 use super::formats;
-use rules::Answer;
-use rules::FileHeader;
-use rules::KnownFormat;
-use rules::Layout;
-ghost use mathlib.Core.Path.{_≡_};
-ghost use Prim.Native.Nat.{_≤_, _<_};
-ghost use lib.ListN.{length};
-ghost use Rattle·rules.specs.FileFormats.{known};
-ghost use Rattle·rules.specs.Pkm.{pkmRows1, pkmRows2, padded as paddedTo, pkmAs, pkmOf};
+use rules::{Answer, FileHeader, KnownFormat, Layout};
 
 // The types of version 1.0 and 2.0: the type, the format's number, and 1 where it is sRGB.
 const ROWS_1: [usize; 3] = [0, 0, 0];
 
 const ROWS_2: [usize; 33] = [
-    0,
-    0,
-    0,
-    1,
-    1,
-    0,
-    3,
-    3,
-    0,
-    4,
-    2,
-    0,
-    5,
-    4,
-    0,
-    6,
-    6,
-    0,
-    7,
-    5,
-    0,
-    8,
-    7,
-    0,
-    9,
-    1,
-    1,
-    10,
-    3,
-    1,
-    11,
-    2,
-    1,
+    0, 0, 0, 1, 1, 0, 3, 3, 0, 4, 2, 0, 5, 4, 0, 6, 6, 0, 7, 5, 0, 8, 7, 0, 9, 1, 1, 10, 3, 1, 11,
+    2, 1,
 ];
 
 // A side, made up to whole blocks.
 fn padded(side: usize) -> usize
-    requires { ⌜ side < 0x10000 ⌝ }
-    ensures { λ r. ⌜ r ≡ paddedTo side ⌝ }
+    requires { side < 0x10000 }
+    ensures { result ≡ padded_to side }
 {
     (side + 3) / 4 * 4
 }
 
 // The rest of the header, once its format is known.
 fn header_as(known: KnownFormat, d: &[u8]) -> FileHeader
-    requires { ⌜ 16 ≤ length (now d) ⌝ }
-    ensures { λ r. ⌜ r ≡ pkmAs known (now (d .entry)) ⌝ }
+    requires { 16 ≤ length d.now }
+    ensures { result ≡ pkm_as known d.now }
 {
     match known {
         KnownFormat::Not => FileHeader::Refused(Answer::UnknownFormat),
@@ -88,7 +53,7 @@ fn header_as(known: KnownFormat, d: &[u8]) -> FileHeader
 
 // What a type of version 1.0 stands for.
 fn type_1(number: usize) -> KnownFormat
-    ensures { λ r. ⌜ r ≡ known pkmRows1 number ⌝ }
+    ensures { result ≡ known pkm_rows1 number }
 {
     let rows = ROWS_1;
     formats::known_in(&rows, number)
@@ -96,7 +61,7 @@ fn type_1(number: usize) -> KnownFormat
 
 // What a type of version 2.0 stands for.
 fn type_2(number: usize) -> KnownFormat
-    ensures { λ r. ⌜ r ≡ known pkmRows2 number ⌝ }
+    ensures { result ≡ known pkm_rows2 number }
 {
     let rows = ROWS_2;
     formats::known_in(&rows, number)
@@ -104,7 +69,7 @@ fn type_2(number: usize) -> KnownFormat
 
 // The header.
 pub fn header(d: &[u8]) -> FileHeader
-    ensures { λ r. ⌜ r ≡ pkmOf (now (d .entry)) ⌝ }
+    ensures { result ≡ pkm_of d.now }
 {
     if d.len() < 16 {
         return FileHeader::Refused(Answer::HeaderCut);

@@ -1,15 +1,15 @@
 // Sheets as files, by the walk that their reader makes.
+ghost use Rattle.std.specs.Prelude.{◌≡◌};
+ghost use Rattle.rules.specs.SheetFile.{is_sheet_lem, sheet_header};
+
 use super::formats;
-use rules::FileHeader;
-use rules::Layout;
+use rules::{FileHeader, Layout};
 use sheet::find;
 use sheet::first::Found;
-ghost use mathlib.Core.Path.{_≡_};
-ghost use Rattle·rules.specs.SheetFile.{isSheet, sheetHeader};
 
 // Whether a file begins as a sheet does.
 pub fn is_sheet(d: &[u8]) -> bool
-    ensures { λ r. ⌜ r ≡ isSheet (now (d .entry)) ⌝ }
+    ensures { result ≡ is_sheet_lem d.now }
 {
     let first = formats::has4(d, 0, 0x09000000);
     let second = formats::has4(d, 2, 0x00000100);
@@ -18,7 +18,7 @@ pub fn is_sheet(d: &[u8]) -> bool
 
 // What a sheet holds, or why it is refused.
 pub fn header(d: &[u8]) -> FileHeader
-    ensures { λ r. ⌜ r ≡ sheetHeader (now (d .entry)) ⌝ }
+    ensures { result ≡ sheet_header d.now }
 {
     let found = find::find(d);
     match found {

@@ -1,18 +1,16 @@
 // The scan for a block that an older viewer must not show, said once for both viewers: the first such block of some bytes.
-use rules::Answer;
-use rules::Format;
-use rules::Kind;
-ghost use mathlib.Core.Path.{_≡_};
-ghost use mathlib.Core.Bool.{cond};
-ghost use mathlib.Core.List.{[], _∷_};
-ghost use Prim.Native.Nat.{_*_, _≤_};
-ghost use lib.ListN.{length};
-ghost use Rattle·rules.specs.Answers.{said};
-ghost use Rattle·rules.specs.Guards.{notOpaque};
-ghost use Rattle·laws.specs.Kinds.{strange};
-ghost use Rattle·guard·specs.specs.Viewers.{guardOf, scannedFrom};
+#![tactic(auto)]
+
+ghost use Rattle.std.specs.Prelude.{◌≡◌, cond, [], ◌∷◌, ◌*◌, ◌≤◌, length};
+ghost use Rattle.rules.specs.Answers.{said};
+ghost use Rattle.rules.specs.Guards.{not_opaque};
+ghost use Rattle.laws.specs.Kinds.{strange};
+ghost use Rattle.guard.specs.Viewers.{guard_of, scanned_from};
+
+use rules::{Answer, Format, Kind};
 
 // The older viewers: one that knows ETC1 alone, and one that knows ETC2 RGB, but nothing transparent.
+#[derive(Clone, Copy)]
 pub enum Viewer {
     Etc1,
     Opaque,
@@ -20,7 +18,7 @@ pub enum Viewer {
 
 // The rule that a viewer has for a block.
 pub fn own(viewer: Viewer) -> Format
-    ensures { λ r. ⌜ r ≡ guardOf viewer .own ⌝ }
+    ensures { result ≡ (guard_of viewer).own }
 {
     match viewer {
         Viewer::Etc1 => Format::Etc1,
@@ -30,7 +28,7 @@ pub fn own(viewer: Viewer) -> Format
 
 // The newer rule, by which the block is shown right.
 pub fn shown(viewer: Viewer) -> Format
-    ensures { λ r. ⌜ r ≡ guardOf viewer .shown ⌝ }
+    ensures { result ≡ (guard_of viewer).shown }
 {
     match viewer {
         Viewer::Etc1 => Format::Etc2Rgb,
@@ -40,7 +38,7 @@ pub fn shown(viewer: Viewer) -> Format
 
 // In range goes on; otherwise the refusal of ETC1 with the block's number.
 fn in_range(kind: Kind, block: usize) -> Answer
-    ensures { λ r. ⌜ said r ≡ cond (strange kind) (4 ∷ block ∷ []) (0 ∷ []) ⌝ }
+    ensures { said result ≡ cond (strange kind) (4 ∷ block ∷ []) (0 ∷ []) }
 {
     let (Kind::Individual | Kind::Differential) = kind else {
         return Answer::OutOfRange(block);
@@ -50,8 +48,8 @@ fn in_range(kind: Kind, block: usize) -> Answer
 
 // Opaque goes on; otherwise the refusal of an opaque-only viewer with the block's number.
 fn opaque(d: &[u8], block: usize) -> Answer
-    requires { ⌜ 8 ≤ length (now d) ⌝ }
-    ensures { λ r. ⌜ said r ≡ cond (notOpaque (now (d .entry))) (11 ∷ block ∷ []) (0 ∷ []) ⌝ }
+    requires { 8 ≤ length d.now }
+    ensures { said result ≡ cond (not_opaque d.now) (11 ∷ block ∷ []) (0 ∷ []) }
 {
     if d[3] / 2 % 2 != 1 {
         return Answer::NotOpaque(block);
@@ -61,8 +59,8 @@ fn opaque(d: &[u8], block: usize) -> Answer
 
 // What a viewer says of a block that has these bytes and this number.
 pub fn judged(viewer: Viewer, d: &[u8], block: usize) -> Answer
-    requires { ⌜ 8 ≤ length (now d) ⌝ }
-    ensures { λ r. ⌜ said r ≡ cond (guardOf viewer .bad (now (d .entry))) (guardOf viewer .number ∷ block ∷ []) (0 ∷ []) ⌝ }
+    requires { 8 ≤ length d.now }
+    ensures { said result ≡ cond ((guard_of viewer).bad d.now) ((guard_of viewer).number ∷ block ∷ []) (0 ∷ []) }
 {
     match viewer {
         Viewer::Etc1 => in_range(kinds::kind_of(d), block),
@@ -72,8 +70,8 @@ pub fn judged(viewer: Viewer, d: &[u8], block: usize) -> Answer
 
 // What is to be said of n blocks, of which the first has the number from: the refusal of the first that a viewer must not show.
 pub fn refusal(viewer: Viewer, data: &[u8], from: usize, n: usize) -> Answer
-    requires { ⌜ (n * 8 ≤ length (now «data»)) × (from ≤ 0x1000000) ⌝ }
-    ensures { λ r. ⌜ said r ≡ scannedFrom (guardOf viewer) from n (now («data» .entry)) ⌝ }
+    requires { (n * 8 ≤ length «data».now) × (from ≤ 0x1000000) }
+    ensures { said result ≡ scanned_from (guard_of viewer) from n «data».now }
 {
     let mut b: usize = 0;
     while b < n {

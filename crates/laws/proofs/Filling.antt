@@ -1,18 +1,18 @@
 -- The invariant of a loop that fills an array, one store a turn, and its three steps: where it begins, what a turn keeps,
 -- and what it ends with. Place k is stored at turn `turn k`, which is k itself where the places go in order.
 -- Assumes nothing.
-use mathlib.Core.Path.{_≡_, _∙_}
+use mathlib.Core.Path.{◌≡◌, ◌∙◌}
 use mathlib.Core.List.{List}
-use Prim.Native.Nat.{ℕ, _+_, _<_, _≤_}
+use Prim.Native.Nat.{ℕ, ◌+◌, ◌<◌, ◌≤◌}
 use native.Mathlib.Omega.{arith}
-use lib.ListN.{length, getD, set, length-set}
-use Rattle·rules.specs.Notation.{build}
-use Rattle·laws·proofs.proofs.Filled.{fills-by, is-build}
+use lib.ListN.{length, get_or, set, length-set}
+use Rattle.rules.specs.Notation.{build}
+use Rattle.laws.proofs.Filled.{fills_by, is_build}
 
 pub record Filling {A : Type 0} (turn : ℕ → ℕ) (f : ℕ → A) (z : A) (n i : ℕ) (l : List A) : Type 0 where
   pub turns : i ≤ n
   pub size : length l ≡ n
-  pub passed : (k : ℕ) → k < n → turn k < i → getD l k z ≡ f k
+  pub passed : (k : ℕ) → k < n → turn k < i → get_or l k z ≡ f k
 
 module _ {A : Type 0} (turn : ℕ → ℕ) (f : ℕ → A) (z : A) (n : ℕ) where
   pub begun : (l : List A) → length l ≡ n → Filling turn f z n 0 l
@@ -23,20 +23,20 @@ module _ {A : Type 0} (turn : ℕ → ℕ) (f : ℕ → A) (z : A) (n : ℕ) whe
   stored l i o v p h b u e =
       record {
         turns = omega arith;
-        size = length-set l o v ∙ p .size;
-        passed = fills-by f z turn n l i o v (omega (arith, p .size)) u (p .passed) e;
+        size = length-set l o v ∙ p.size;
+        passed = fills_by f z turn n l i o v (omega (arith, p.size)) u p.passed e;
       }
 
   pub filled : (l : List A) (i : ℕ) → Filling turn f z n i l → ((k : ℕ) → k < n → turn k < i) → l ≡ build n f
-  filled l i p h = is-build f z n l (p .size) (λ k b. p .passed k b (h k b))
+  filled l i p h = is_build f z n l p.size (λ k b. p.passed k b (h k b))
 
 -- the same in order
-abbrev pub inOrder : ℕ → ℕ
-inOrder k = k
+abbrev pub in_order_lem : ℕ → ℕ
+in_order_lem k = k
 
-module _ {A : Type 0} (f : ℕ → A) (z : A) (n : ℕ) (l : List A) (i : ℕ) (p : Filling inOrder f z n i l) where
-  pub stored-next : (v : A) → i < n → v ≡ f i → Filling inOrder f z n (i + 1) (set l i v)
-  stored-next v h e = stored inOrder f z n l i i v p h h (λ k b t. t) e
+module _ {A : Type 0} (f : ℕ → A) (z : A) (n : ℕ) (l : List A) (i : ℕ) (p : Filling in_order_lem f z n i l) where
+  pub stored_next : (v : A) → i < n → v ≡ f i → Filling in_order_lem f z n (i + 1) (set l i v)
+  stored_next v h e = stored in_order_lem f z n l i i v p h h (λ k b t. t) e
 
-  pub filled-all : n ≤ i → l ≡ build n f
-  filled-all h = filled inOrder f z n l i p (λ k b. omega arith)
+  pub filled_all : n ≤ i → l ≡ build n f
+  filled_all h = filled in_order_lem f z n l i p (λ k b. omega arith)

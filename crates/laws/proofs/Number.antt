@@ -1,22 +1,22 @@
 -- Laws of the number that bytes make: bytes skipped, two bytes that hold a field, and fields read one after the other.
 -- Assumes nothing.
-use mathlib.Core.Path.{_≡_, _∙_, refl, sym, ap}
-use mathlib.Core.List.{List, [], _∷_}
-use Prim.Native.Nat.{ℕ, zero, suc, _+_, _-_, _*_, _/_, _%_, _^_, _<_, _≤_}
-use native.Mathlib.Nat.{mul-comm, mul-assoc, one-mul, add-comm, zero-add, suc-add, div-one, zero-div}
+use mathlib.Core.Path.{◌≡◌, ◌∙◌, refl, sym, ap}
+use mathlib.Core.List.{List, [], ◌∷◌}
+use Prim.Native.Nat.{ℕ, zero, suc, ◌+◌, ◌-◌, ◌*◌, ◌/◌, ◌%◌, ◌^◌, ◌<◌, ◌≤◌}
+use native.Mathlib.Nat.{mul_comm, mul_assoc, one-mul, add_comm, zero-add, suc-add, div-one, zero-div}
 use native.Mathlib.Omega.{arith}
 use lib.Dec.{lit<}
-use lib.ListN.{length, getD, drop}
-use lib.Seq.{getD-drop}
+use lib.ListN.{length, get_or, drop}
+use lib.Seq.{get_or-drop}
 use lib.Pow.{shr-shr, mod-pow-add, pow-add, low, high}
-use Rattle·numbers.specs.Numbers.{little}
-use Rattle·numbers.proofs.Little as little-laws
-use Rattle·rules.specs.Bits.{number, fieldAt}
-use Rattle·laws·proofs.proofs.Order.{low-field}
+use Rattle.numbers.specs.Numbers.{little}
+use Rattle.numbers.proofs.Little as little-laws
+use Rattle.rules.specs.Bits.{number, field_at}
+use Rattle.laws.proofs.Order.{low_field}
 
 -- every element is a byte
 abbrev pub Bytes : List ℕ → Type 0
-Bytes d = (k : ℕ) → getD d k 0 < 256
+Bytes d = (k : ℕ) → get_or d k 0 < 256
 
 -- no bytes, and one byte more
 none : number [] ≡ 0
@@ -40,30 +40,30 @@ skipped (suc k) (x ∷ d) b =
     ∙ skipped k d (λ j. b (suc j))
 
 -- the first two bytes, and the rest
-pub pair : (d : List ℕ) → number d ≡ number (drop 2 d) * 65536 + (getD d 1 0 * 256 + getD d 0 0)
+pub pair : (d : List ℕ) → number d ≡ number (drop 2 d) * 65536 + (get_or d 1 0 * 256 + get_or d 0 0)
 pair [] = omega (arith, none)
 pair (x ∷ []) = omega (arith, none, cons x [])
 pair (x ∷ (y ∷ d)) = omega (arith, cons x (y ∷ d), cons y d)
 
 -- n bits at place p lie in the two bytes from p / 8 on
-pub in-two : (d : List ℕ) → Bytes d → (p n : ℕ) → n ≤ 8 → fieldAt d p n ≡ (getD d (p / 8 + 1) 0 * 256 + getD d (p / 8) 0) / 2 ^ (p % 8) % 2 ^ n
-in-two d b p n h =
+pub in_two : (d : List ℕ) → Bytes d → (p n : ℕ) → n ≤ 8 → field_at d p n ≡ (get_or d (p / 8 + 1) 0 * 256 + get_or d (p / 8) 0) / 2 ^ (p % 8) % 2 ^ n
+in_two d b p n h =
     let q = p / 8 in
     let r = p % 8 in
     let e : 8 * q + r ≡ p = omega arith in
     let r8 : r < 8 = omega arith in
-    let z : getD (drop q d) 1 0 ≡ getD d (q + 1) 0 = getD-drop q d 1 0 in
-    let y : getD (drop q d) 0 0 ≡ getD d q 0 = getD-drop q d 0 0 ∙ ap (λ (m : ℕ). getD d m 0) (omega arith) in
-    let w = getD d (q + 1) 0 * 256 + getD d q 0 in
+    let z : get_or (drop q d) 1 0 ≡ get_or d (q + 1) 0 = get_or-drop q d 1 0 in
+    let y : get_or (drop q d) 0 0 ≡ get_or d q 0 = get_or-drop q d 0 0 ∙ ap (λ (m : ℕ). get_or d m 0) (omega arith) in
+    let w = get_or d (q + 1) 0 * 256 + get_or d q 0 in
     let s : number (drop q d) ≡ number (drop 2 (drop q d)) * 65536 + w = pair (drop q d) ∙ rw (z, y) in
     ap (λ (m : ℕ). number d / 2 ^ m % 2 ^ n) (sym e)
     ∙ ap (λ (m : ℕ). m % 2 ^ n) (sym (shr-shr (number d) (8 * q) r))
     ∙ ap (λ (m : ℕ). m / 2 ^ r % 2 ^ n) (skipped q d b ∙ s)
-    ∙ low-field 16 (number (drop 2 (drop q d))) w r n (omega (arith, b q, b (q + 1))) (omega arith)
+    ∙ low_field 16 (number (drop 2 (drop q d))) w r n (omega (arith, b q, b (q + 1))) (omega arith)
 
 -- a field of m bits and then one of n are one field of n + m bits
-pub joined : (d : List ℕ) (p m n : ℕ) → fieldAt d p (n + m) ≡ fieldAt d (p + m) n * 2 ^ m + fieldAt d p m
-joined d p m n = mod-pow-add (number d / 2 ^ p) n m ∙ ap (λ (x : ℕ). x % 2 ^ n * 2 ^ m + fieldAt d p m) (shr-shr (number d) p m)
+pub joined : (d : List ℕ) (p m n : ℕ) → field_at d p (n + m) ≡ field_at d (p + m) n * 2 ^ m + field_at d p m
+joined d p m n = mod-pow-add (number d / 2 ^ p) n m ∙ ap (λ (x : ℕ). x % 2 ^ n * 2 ^ m + field_at d p m) (shr-shr (number d) p m)
 
 -- the first n bytes, and those behind them
 split : (n m k : ℕ) (d : List ℕ) → little (n + m) k d ≡ little n k d + 2 ^ (8 * n) * little m (n + k) d
@@ -75,7 +75,7 @@ split (suc n) m k d =
     let p : 8 * suc n ≡ 8 + 8 * n = omega arith in
     let q : 2 ^ (8 * suc n) ≡ 256 * 2 ^ (8 * n) = ap (λ (z : ℕ). 2 ^ z) p ∙ pow-add 2 8 (8 * n) in
     let r : 2 ^ (8 * suc n) * little m (suc n + k) d ≡ 256 * (2 ^ (8 * n) * little m (n + suc k) d) =
-    ap (λ (z : ℕ). z * little m (suc n + k) d) q ∙ mul-assoc 256 (2 ^ (8 * n)) (little m (suc n + k) d) ∙ ap (λ (z : ℕ). 256 * (2 ^ (8 * n) * z)) (sym f) in
+    ap (λ (z : ℕ). z * little m (suc n + k) d) q ∙ mul_assoc 256 (2 ^ (8 * n)) (little m (suc n + k) d) ∙ ap (λ (z : ℕ). 256 * (2 ^ (8 * n) * z)) (sym f) in
     omega (arith, e, split n m (suc k) d, r)
 
 -- n bytes are below 2 ^ (8 * n)
@@ -88,10 +88,10 @@ small (suc n) k d b =
     omega (arith, b k, small n (suc k) d b, q)
 
 -- so the first n bytes are the lowest bits of them all
-pub first-bytes : (n : ℕ) (d : List ℕ) → Bytes d → n ≤ length d → fieldAt d 0 (8 * n) ≡ little n 0 d
+pub first_bytes : (n : ℕ) (d : List ℕ) → Bytes d → n ≤ length d → field_at d 0 (8 * n) ≡ little n 0 d
 unfolding number
-first-bytes n d b h =
+first_bytes n d b h =
     let e : length d ≡ n + (length d - n) = omega arith in
-    ap (λ (m : ℕ). m % 2 ^ (8 * n)) (div-one (little (length d) 0 d) ∙ ap (λ (m : ℕ). little m 0 d) e ∙ split n (length d - n) 0 d ∙ add-comm (little n 0 d) _
-    ∙ ap (λ (m : ℕ). m + little n 0 d) (mul-comm (2 ^ (8 * n)) (little (length d - n) (n + 0) d)))
+    ap (λ (m : ℕ). m % 2 ^ (8 * n)) (div-one (little (length d) 0 d) ∙ ap (λ (m : ℕ). little m 0 d) e ∙ split n (length d - n) 0 d ∙ add_comm (little n 0 d) _
+    ∙ ap (λ (m : ℕ). m + little n 0 d) (mul_comm (2 ^ (8 * n)) (little (length d - n) (n + 0) d)))
     ∙ low (little (length d - n) (n + 0) d) (8 * n) (small n 0 d b)

@@ -1,20 +1,20 @@
 -- The fields of an index word, and the place of a pixel.
 -- Assumes nothing.
-use mathlib.Core.Path.{_≡_, _∙_, sym, ap}
-use Prim.Native.Nat.{ℕ, _+_, _-_, _*_, _/_, _%_, _^_, _<_, _≤_}
+use mathlib.Core.Path.{◌≡◌, ◌∙◌, sym, ap}
+use Prim.Native.Nat.{ℕ, ◌+◌, ◌-◌, ◌*◌, ◌/◌, ◌%◌, ◌^◌, ◌<◌, ◌≤◌}
 use native.Mathlib.Nat.{mul-add, mul-one}
 use native.Mathlib.Omega.{arith}
 use lib.Dec.{eqb, eqb→eq}
 use lib.Pow.{shr-shr, field, mod-mod-pow, low}
-use Rattle·laws·proofs.proofs.Every.{below}
+use Rattle.laws.proofs.Every.{below}
 
 -- a word that loses b bits each turn
 pub shifted : (n b i : ℕ) → n / 2 ^ (b * i) / 2 ^ b ≡ n / 2 ^ (b * (i + 1))
 shifted n b i = shr-shr n (b * i) b ∙ ap (λ (m : ℕ). n / 2 ^ m) (sym (mul-add b i 1 ∙ ap (λ (m : ℕ). b * i + m) (mul-one b)))
 
 -- b bits from bit i on, of the low n bits of a word
-pub low-field : (n h l i b : ℕ) → l < 2 ^ n → i + b ≤ n → (h * 2 ^ n + l) / 2 ^ i % 2 ^ b ≡ l / 2 ^ i % 2 ^ b
-low-field n h l i b p q =
+pub low_field : (n h l i b : ℕ) → l < 2 ^ n → i + b ≤ n → (h * 2 ^ n + l) / 2 ^ i % 2 ^ b ≡ l / 2 ^ i % 2 ^ b
+low_field n h l i b p q =
     let w = h * 2 ^ n + l in
     let s : n - i ≡ (n - i - b) + b = omega arith in
     let t : (n - i) + i ≡ n = omega arith in
@@ -28,5 +28,5 @@ low-field n h l i b p q =
 abbrev pub place : ℕ → ℕ
 place k = 4 * (k % 4) + k / 4
 
-pub place-only : (i k : ℕ) → k < 16 → place k ≡ i → k ≡ place i
-place-only i k h e = sym (eqb→eq _ _ (below (λ k. eqb (place (place k)) k) 16 tt k h)) ∙ ap place e
+pub place_only : (i k : ℕ) → k < 16 → place k ≡ i → k ≡ place i
+place_only i k h e = sym (eqb→eq _ _ (below (λ k. eqb (place (place k)) k) 16 tt k h)) ∙ ap place e

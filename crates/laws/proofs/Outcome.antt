@@ -1,12 +1,12 @@
 -- What a reader owes when it refuses, and when it is done.
 -- Assumes nothing.
-use mathlib.Core.Path.{_≡_, _∙_, sym, ap}
+use mathlib.Core.Path.{◌≡◌, ◌∙◌, sym, ap}
 use mathlib.Core.Bool.{Bool, false, cond}
 use mathlib.Core.List.{List}
 use Prim.Native.Nat.{ℕ}
-use Rattle·rules.specs.Answers.{said, accepts, Outcome}
-use Rattle·rules.specs.declared.Answer.{Answer}
-use Rattle·rules.specs.declared.Answer.the-variants.{Done}
+use Rattle.rules.specs.Answers.{said, accepts, Outcome}
+use Rattle.rules.specs.declared.Answer.{Answer}
+use Rattle.rules.specs.declared.Answer.TheVariants.{Done}
 
 module _ (verdict after old : List ℕ) where
   -- a refusal changes nothing

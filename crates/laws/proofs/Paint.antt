@@ -1,19 +1,19 @@
 -- Painting a list, element by element and part by part.
 -- Assumes nothing.
-use mathlib.Core.Path.{_≡_, _∙_, refl, sym, ap}
-use mathlib.Core.List.{List, _++_}
-use mathlib.Core.Logic.{_⊎_, ⊎-elim}
-use Prim.Native.Nat.{ℕ, _+_, _-_, _<_, _≤_}
+use mathlib.Core.Path.{◌≡◌, ◌∙◌, refl, sym, ap}
+use mathlib.Core.List.{List, ◌++◌}
+use mathlib.Core.Logic.{◌⊎◌, ⊎_elim}
+use Prim.Native.Nat.{ℕ, ◌+◌, ◌-◌, ◌<◌, ◌≤◌}
 use native.Mathlib.Omega.{arith}
-use lib.ListN.{length, getD, set, take, drop, length-set, length-take, length-drop, length-append, List·getD-append}
-use lib.Seq.{getD-set-same, getD-set-other, getD-take, getD-drop, getD-append-add}
+use lib.ListN.{length, get_or, set, take, drop, length-set, length-take, length-drop, length-append, get_or-append}
+use lib.Seq.{get_or-set_same, get_or-set_other, get_or-take, get_or-drop, get_or-append-add}
 use mathlib.Core.Bool.{Bool, true, false, cond}
-use native.Mathlib.Decide.{decLt}
+use native.Mathlib.Decide.{dec_lt}
 use lib.Dec.{T}
-use lib.Seq.{ext-getD}
-use Rattle·rules.specs.Places.{painted}
-use Rattle·laws·specs.specs.Painted.{Painted}
-use Rattle·laws·proofs.proofs.Filled.{is-build, length-build, getD-build}
+use lib.Seq.{ext_get_or}
+use Rattle.rules.specs.Places.{painted}
+use Rattle.laws.specs.Painted.{Painted}
+use Rattle.laws.proofs.Filled.{is_build, length_build, get_or_build}
 
 -- nothing is painted yet
 pub none : (P : ℕ → Type 0) (v : ℕ → ℕ) (l : List ℕ) → ((k : ℕ) → P k → ⊥) → Painted P v l l
@@ -22,7 +22,7 @@ none P v l n = record { hit = λ k p. absurd (n k p); miss = λ k p. refl; same 
 -- the same elements, said otherwise
 pub said : (P Q : ℕ → Type 0) (v u : ℕ → ℕ) (old new : List ℕ) → Painted P v old new → ((k : ℕ) → Q k → P k) → ((k : ℕ) → P k → Q k) → ((k : ℕ) → Q k → v k ≡ u k) → Painted Q u old new
 said P Q v u old new p to from e =
-    record { hit = λ k q. p .hit k (to k q) ∙ e k q; miss = λ k n. p .miss k (λ z. n (from k z)); same = p .same }
+    record { hit = λ k q. p.hit k (to k q) ∙ e k q; miss = λ k n. p.miss k (λ z. n (from k z)); same = p.same }
 
 -- one element more
 pub one : (P Q : ℕ → Type 0) (v : ℕ → ℕ) (old new : List ℕ) (j a : ℕ) → Painted P v old new → j < length new → Q j → a ≡ v j → ((k : ℕ) → P k → Q k)
@@ -31,11 +31,11 @@ one P Q v old new j a p h q e up down =
     record {
       hit =
           λ k z.
-          ⊎-elim (λ w. getD-set-other new j k a 0 (w .1) ∙ p .hit k (w .0))
-          (λ w. ap (λ (m : ℕ). getD (set new j a) m 0) w ∙ getD-set-same new j a 0 h ∙ e ∙ ap v (sym w))
+          ⊎_elim (λ w. get_or-set_other new j k a 0 w.1 ∙ p.hit k w.0)
+          (λ w. ap (λ (m : ℕ). get_or (set new j a) m 0) w ∙ get_or-set_same new j a 0 h ∙ e ∙ ap v (sym w))
           (down k z);
-      miss = λ k n. getD-set-other new j k a 0 (λ w. n (rw w q)) ∙ p .miss k (λ z. n (up k z));
-      same = length-set new j a ∙ p .same;
+      miss = λ k n. get_or-set_other new j k a 0 (λ w. n (rw w q)) ∙ p.miss k (λ z. n (up k z));
+      same = length-set new j a ∙ p.same;
     }
 
 -- one part, and then another
@@ -43,9 +43,9 @@ pub also : (P Q R : ℕ → Type 0) (v : ℕ → ℕ) (old mid new : List ℕ) �
     → ((k : ℕ) → Q k → R k) → ((k : ℕ) → R k → (P k × (Q k → ⊥)) ⊎ Q k) → Painted R v old new
 also P Q R v old mid new p q f g h =
     record {
-      hit = λ k r. ⊎-elim (λ w. q .miss k (w .1) ∙ p .hit k (w .0)) (λ w. q .hit k w) (h k r);
-      miss = λ k n. q .miss k (λ z. n (g k z)) ∙ p .miss k (λ z. n (f k z));
-      same = q .same ∙ p .same;
+      hit = λ k r. ⊎_elim (λ w. q.miss k w.1 ∙ p.hit k w.0) (λ w. q.hit k w) (h k r);
+      miss = λ k n. q.miss k (λ z. n (g k z)) ∙ p.miss k (λ z. n (f k z));
+      same = q.same ∙ p.same;
     }
 
 -- a part of a list, of n elements from a on, that was lent and is put back
@@ -56,28 +56,28 @@ module _ (a n : ℕ) (old part : List ℕ) (h : a + n ≤ length old) (e : lengt
   head : length (take a old) ≡ a
   head = simp length-take (omega arith)
 
-  at-left : (k : ℕ) → k < a → getD back k 0 ≡ getD old k 0
+  at_left : (k : ℕ) → k < a → get_or back k 0 ≡ get_or old k 0
   unfolding back
-  at-left k l = List·getD-append (take a old) _ 0 k (omega (arith, head)) ∙ getD-take a old k 0 l
+  at_left k l = get_or-append (take a old) _ 0 k (omega (arith, head)) ∙ get_or-take a old k 0 l
 
-  from-a : (i : ℕ) → getD back (a + i) 0 ≡ getD (part ++ drop n (drop a old)) i 0
+  from_a : (i : ℕ) → get_or back (a + i) 0 ≡ get_or (part ++ drop n (drop a old)) i 0
   unfolding back
-  from-a i = ap (λ (m : ℕ). getD back (m + i) 0) (sym head) ∙ getD-append-add (take a old) _ i 0
+  from_a i = ap (λ (m : ℕ). get_or back (m + i) 0) (sym head) ∙ get_or-append-add (take a old) _ i 0
 
-  at-part : (i : ℕ) → i < n → getD back (a + i) 0 ≡ getD part i 0
-  at-part i l = from-a i ∙ List·getD-append part _ 0 i (omega arith)
+  at_part : (i : ℕ) → i < n → get_or back (a + i) 0 ≡ get_or part i 0
+  at_part i l = from_a i ∙ get_or-append part _ 0 i (omega arith)
 
-  at-right : (j : ℕ) → getD back (a + (n + j)) 0 ≡ getD old (a + (n + j)) 0
-  at-right j =
-      from-a (n + j)
-      ∙ ap (λ (m : ℕ). getD (part ++ drop n (drop a old)) (m + j) 0) (sym e)
-      ∙ getD-append-add part _ j 0
-      ∙ getD-drop n (drop a old) j 0
-      ∙ getD-drop a old (n + j) 0
+  at_right : (j : ℕ) → get_or back (a + (n + j)) 0 ≡ get_or old (a + (n + j)) 0
+  at_right j =
+      from_a (n + j)
+      ∙ ap (λ (m : ℕ). get_or (part ++ drop n (drop a old)) (m + j) 0) (sym e)
+      ∙ get_or-append-add part _ j 0
+      ∙ get_or-drop n (drop a old) j 0
+      ∙ get_or-drop a old (n + j) 0
 
-  same-back : length back ≡ length old
+  same_back : length back ≡ length old
   unfolding back
-  same-back = simp (length-append, length-take, length-drop) (omega arith)
+  same_back = simp (length-append, length-take, length-drop) (omega arith)
 
 -- what is painted in the part is painted in the list
 pub lent : (P : ℕ → Type 0) (v : ℕ → ℕ) (a n : ℕ) (old part : List ℕ) → a + n ≤ length old → Painted P v (take n (drop a old)) part
@@ -85,66 +85,66 @@ pub lent : (P : ℕ → Type 0) (v : ℕ → ℕ) (a n : ℕ) (old part : List �
 unfolding back
 lent P v a n old part h p =
     record {
-      hit = λ k z. ap (λ (m : ℕ). getD (back a n old part h e) m 0) (again k (z .0)) ∙ at-part a n old part h e (k - a) (omega (arith, z .0, z .1)) ∙ p .hit (k - a) (z .2);
-      miss = λ k z. elim (decLt k a) [
-        | yes l ↦ at-left a n old part h e k l
-        | no l ↦ elim (decLt k (a + n)) [
-          | yes r ↦ in-part k (omega (arith, l)) r (λ q. z (omega (arith, l), r, q))
+      hit = λ k z. ap (λ (m : ℕ). get_or (back a n old part h e) m 0) (again k z.0) ∙ at_part a n old part h e (k - a) (omega (arith, z.0, z.1)) ∙ p.hit (k - a) z.2;
+      miss = λ k z. elim (dec_lt k a) [
+        | yes l ↦ at_left a n old part h e k l
+        | no l ↦ elim (dec_lt k (a + n)) [
+          | yes r ↦ in_part k (omega (arith, l)) r (λ q. z (omega (arith, l), r, q))
           | no r ↦ behind k (omega (arith, r))
         ]
       ];
-      same = same-back a n old part h e;
+      same = same_back a n old part h e;
     }
   where
     e : length part ≡ n
-    e = p .same ∙ simp (length-take, length-drop) (omega arith)
+    e = p.same ∙ simp (length-take, length-drop) (omega arith)
 
     again : (k : ℕ) → a ≤ k → k ≡ a + (k - a)
     again k l = omega arith
 
-    in-part : (k : ℕ) → a ≤ k → k < a + n → (P (k - a) → ⊥) → getD (back a n old part h e) k 0 ≡ getD old k 0
-    in-part k l r q =
-        ap (λ (m : ℕ). getD (back a n old part h e) m 0) (again k l)
-        ∙ at-part a n old part h e (k - a) (omega arith)
-        ∙ p .miss (k - a) q
-        ∙ getD-take n (drop a old) (k - a) 0 (omega arith)
-        ∙ getD-drop a old (k - a) 0
-        ∙ ap (λ (m : ℕ). getD old m 0) (sym (again k l))
+    in_part : (k : ℕ) → a ≤ k → k < a + n → (P (k - a) → ⊥) → get_or (back a n old part h e) k 0 ≡ get_or old k 0
+    in_part k l r q =
+        ap (λ (m : ℕ). get_or (back a n old part h e) m 0) (again k l)
+        ∙ at_part a n old part h e (k - a) (omega arith)
+        ∙ p.miss (k - a) q
+        ∙ get_or-take n (drop a old) (k - a) 0 (omega arith)
+        ∙ get_or-drop a old (k - a) 0
+        ∙ ap (λ (m : ℕ). get_or old m 0) (sym (again k l))
 
-    behind : (k : ℕ) → a + n ≤ k → getD (back a n old part h e) k 0 ≡ getD old k 0
+    behind : (k : ℕ) → a + n ≤ k → get_or (back a n old part h e) k 0 ≡ get_or old k 0
     behind k l =
         let s : k ≡ a + (n + (k - a - n)) = omega arith in
-        ap (λ (m : ℕ). getD (back a n old part h e) m 0) s
-        ∙ at-right a n old part h e (k - a - n)
-        ∙ ap (λ (m : ℕ). getD old m 0) (sym s)
+        ap (λ (m : ℕ). get_or (back a n old part h e) m 0) s
+        ∙ at_right a n old part h e (k - a - n)
+        ∙ ap (λ (m : ℕ). get_or old m 0) (sym s)
 
 -- what is painted is the list that the rules say, where a test tells the elements that are painted
 chosen : (t : Bool) (P : Type 0) (a x y : ℕ) → (T t → P) → (P → T t) → (P → a ≡ x) → ((P → ⊥) → a ≡ y) → a ≡ cond t x y
 chosen true P a x y to from h m = h (to tt)
 chosen false P a x y to from h m = m (λ p. absurd (from p))
 
-pub is-painted : (P : ℕ → Type 0) (t : ℕ → Bool) (v : ℕ → ℕ) (old new : List ℕ) → ((k : ℕ) → T (t k) → P k) → ((k : ℕ) → P k → T (t k)) → Painted P v old new → new ≡ painted t v old
+pub is_painted : (P : ℕ → Type 0) (t : ℕ → Bool) (v : ℕ → ℕ) (old new : List ℕ) → ((k : ℕ) → T (t k) → P k) → ((k : ℕ) → P k → T (t k)) → Painted P v old new → new ≡ painted t v old
 unfolding painted
-is-painted P t v old new to from p =
-    is-build (λ k. cond (t k) (v k) (getD old k 0)) 0 (length old) new (p .same)
-    (λ k h. chosen (t k) (P k) (getD new k 0) (v k) (getD old k 0) (to k) (from k) (p .hit k) (p .miss k))
+is_painted P t v old new to from p =
+    is_build (λ k. cond (t k) (v k) (get_or old k 0)) 0 (length old) new p.same
+    (λ k h. chosen (t k) (P k) (get_or new k 0) (v k) (get_or old k 0) (to k) (from k) (p.hit k) (p.miss k))
 
 -- and what that list holds
-pub length-painted : (t : ℕ → Bool) (v : ℕ → ℕ) (old : List ℕ) → length (painted t v old) ≡ length old
+pub length_painted : (t : ℕ → Bool) (v : ℕ → ℕ) (old : List ℕ) → length (painted t v old) ≡ length old
 unfolding painted
-length-painted t v old = length-build (λ k. cond (t k) (v k) (getD old k 0)) 0 (length old)
+length_painted t v old = length_build (λ k. cond (t k) (v k) (get_or old k 0)) 0 (length old)
 
-pub getD-painted : (t : ℕ → Bool) (v : ℕ → ℕ) (old : List ℕ) (k : ℕ) → k < length old → getD (painted t v old) k 0 ≡ cond (t k) (v k) (getD old k 0)
+pub get_d_painted : (t : ℕ → Bool) (v : ℕ → ℕ) (old : List ℕ) (k : ℕ) → k < length old → get_or (painted t v old) k 0 ≡ cond (t k) (v k) (get_or old k 0)
 unfolding painted
-getD-painted t v old k h = getD-build (λ k. cond (t k) (v k) (getD old k 0)) 0 (length old) k h
+get_d_painted t v old k h = get_or_build (λ k. cond (t k) (v k) (get_or old k 0)) 0 (length old) k h
 
 -- painting with other values is the same where they agree on what is painted
-pub painted-same : (t : ℕ → Bool) (v u : ℕ → ℕ) (old : List ℕ) → ((k : ℕ) → T (t k) → v k ≡ u k) → painted t v old ≡ painted t u old
-painted-same t v u old e =
-    ext-getD 0 (painted t v old) (painted t u old) (length-painted t v old ∙ sym (length-painted t u old))
+pub painted_same : (t : ℕ → Bool) (v u : ℕ → ℕ) (old : List ℕ) → ((k : ℕ) → T (t k) → v k ≡ u k) → painted t v old ≡ painted t u old
+painted_same t v u old e =
+    ext_get_or 0 (painted t v old) (painted t u old) (length_painted t v old ∙ sym (length_painted t u old))
     (λ k h.
-    let b : k < length old = omega (arith, length-painted t v old) in
-    getD-painted t v old k b ∙ agree (t k) (v k) (u k) (getD old k 0) (e k) ∙ sym (getD-painted t u old k b))
+    let b : k < length old = omega (arith, length_painted t v old) in
+    get_d_painted t v old k b ∙ agree (t k) (v k) (u k) (get_or old k 0) (e k) ∙ sym (get_d_painted t u old k b))
   where
     agree : (b : Bool) (x y z : ℕ) → (T b → x ≡ y) → cond b x z ≡ cond b y z
     agree true x y z h = h tt

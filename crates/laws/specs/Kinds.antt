@@ -1,8 +1,8 @@
 -- The kinds that ETC1 does not know.
 -- Assumes nothing.
-use mathlib.Core.Bool.{Bool, true, false}
-use Rattle·rules.specs.declared.Kind.{Kind}
-use Rattle·rules.specs.declared.Kind.the-variants.{Individual, Differential, T, H, Planar}
+use Rattle.std.specs.Prelude.{Bool, true, false}
+use Rattle.rules.specs.declared.Kind.{Kind}
+use Rattle.rules.specs.declared.Kind.TheVariants.{Individual, Differential, T, H, Planar}
 
 abbrev pub strange : Kind → Bool
 strange Individual = false

@@ -1,11 +1,9 @@
 -- The place of a block among the tests of a census: the number of the one test that it meets.
 -- Assumes nothing.
-use mathlib.Core.Bool.{Bool, true, false, not, _&&_}
-use mathlib.Core.List.{List, [], _∷_}
-use Prim.Native.Nat.{ℕ, zero, suc, _+_}
-use Rattle·rules.specs.declared.Kind.{Kind}
-use Rattle·rules.specs.declared.Kind.the-variants.{Individual, Differential, T, H, Planar}
-use Rattle·rules.specs.Census.{Test, more, individualBlock, differentialBlock, tBlock, hBlock, planarBlock, rgba1Tests}
+use Rattle.std.specs.Prelude.{Bool, true, false, not, ◌&&◌, List, [], ◌∷◌, ℕ, zero, suc, ◌+◌}
+use Rattle.rules.specs.declared.Kind.{Kind}
+use Rattle.rules.specs.declared.Kind.TheVariants.{Individual, Differential, T, H, Planar}
+use Rattle.rules.specs.Census.{Test, more, individual_block, differential_block, t_block, h_block, planar_block_lem, rgba1_tests}
 
 -- which of some tests a block meets
 abbrev pub met : List Test → List ℕ → List Bool
@@ -37,8 +35,8 @@ abbrev pub never : Test
 never d = false
 
 abbrev pub eight : Bool → List Test
-eight true = rgba1Tests
-eight false = individualBlock ∷ differentialBlock ∷ tBlock ∷ hBlock ∷ planarBlock ∷ never ∷ never ∷ never ∷ []
+eight true = rgba1_tests
+eight false = individual_block ∷ differential_block ∷ t_block ∷ h_block ∷ planar_block_lem ∷ never ∷ never ∷ never ∷ []
 
 -- the place of a kind among the four that RGBA1 has; none is individual
 abbrev pub fourth : Kind → ℕ

@@ -1,1 +1,2 @@
 // Laws of the rules, and of the lists and numbers that they speak of: what every crate above leans on. It has no functions.
+#![tactic(auto)]

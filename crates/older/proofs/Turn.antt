@@ -1,53 +1,53 @@
 -- One more place compared; what is compared; and that nothing is found where two rules agree.
 -- Assumes nothing.
-use mathlib.Core.Path.{_≡_, _∙_, refl, sym}
-use mathlib.Core.Bool.{Bool, true, false, cond, _&&_}
-use Prim.Native.Nat.{ℕ, zero, suc, _+_, _<_, _≤_, max}
+use mathlib.Core.Path.{◌≡◌, ◌∙◌, refl, sym}
+use mathlib.Core.Bool.{Bool, true, false, cond, ◌&&◌}
+use Prim.Native.Nat.{ℕ, zero, suc, ◌+◌, ◌<◌, ◌≤◌, max}
 use native.Mathlib.Numerals.{add-one}
 use native.Mathlib.Omega.{arith}
 use borrow.Author.Tests.{eq-eqb}
-use Rattle·rules.specs.Pixel.{alphaOf}
-use Rattle·rules.specs.Answers.{firstOf}
-use Rattle·rules.specs.Census.{more, countOf}
-use Rattle·rules.specs.Counting.{mostOf}
-use Rattle·rules.specs.Checking.{apart, farthest}
-use Rattle·laws.proofs.First.{first, only, first-alike}
-use Rattle·laws.proofs.Counts.{same-below, nowhere}
-use Rattle·rules.specs.Older.{wrong, colourOff, alphaOff}
-use Rattle·older·specs.specs.Compared.{Compared, Finds}
-use Rattle·older·specs.specs.declared.Found.{Found}
+use Rattle.rules.specs.Pixel.{alpha_of}
+use Rattle.rules.specs.Answers.{first_of}
+use Rattle.rules.specs.Census.{more, count_of}
+use Rattle.rules.specs.Counting.{most_of}
+use Rattle.rules.specs.Checking.{apart, farthest}
+use Rattle.laws.proofs.First.{first, only, first_alike}
+use Rattle.laws.proofs.Counts.{same_below, nowhere}
+use Rattle.rules.specs.Older.{wrong, colour_off_lem, alpha_off_lem}
+use Rattle.older.specs.Compared.{Compared, Finds}
+use Rattle.older.specs.declared.Found.{Found}
 
 -- a count is at most the number of places
-pub more-most : (t : Bool) (n k : ℕ) → n ≤ k → more t n ≤ k + 1
-more-most true n k h = omega arith
-more-most false n k h = omega arith
+pub more_most : (t : Bool) (n k : ℕ) → n ≤ k → more t n ≤ k + 1
+more_most true n k h = omega arith
+more_most false n k h = omega arith
 
 module _ (shown : ℕ → Bool) (old new : ℕ → ℕ) where
   pub begin : Compared shown old new 0 0 0 0
-  unfolding countOf mostOf
+  unfolding count_of most_of
   begin = record { few = omega arith; counted = refl; farthest = refl; clearest = refl }
 
   pub turn : (k n c a : ℕ) (w : Bool) (n' c' a' : ℕ) → Compared shown old new k n c a
       → w ≡ wrong shown old new k
       → n' ≡ more w n
       → c' ≡ max (cond w (farthest (old k) (new k)) 0) c
-      → a' ≡ max (cond w (apart (alphaOf (old k)) (alphaOf (new k))) 0) a
+      → a' ≡ max (cond w (apart (alpha_of (old k)) (alpha_of (new k))) 0) a
       → Compared shown old new (k + 1) n' c' a'
-  unfolding countOf mostOf
+  unfolding count_of most_of
   turn k n c a w n' c' a' p e en ec ea =
       rw (add-one k)
       (record {
-        few = let h = more-most w n k (p .few) in omega (arith, h, en);
-        counted = rw (en, e, p .counted);
-        farthest = rw (ec, e, p .farthest);
-        clearest = rw (ea, e, p .clearest);
+        few = let h = more_most w n k p.few in omega (arith, h, en);
+        counted = rw (en, e, p.counted);
+        farthest = rw (ec, e, p.farthest);
+        clearest = rw (ea, e, p.clearest);
       })
 
 -- what is compared is what stands at each place
-most-alike : (f g : ℕ → ℕ) (n : ℕ) → ((k : ℕ) → k < n → f k ≡ g k) → mostOf f n ≡ mostOf g n
-unfolding mostOf
-most-alike f g zero h = refl
-most-alike f g (suc n) h = rw (h n (omega arith), most-alike f g n (λ k l. h k (omega arith)))
+most_alike : (f g : ℕ → ℕ) (n : ℕ) → ((k : ℕ) → k < n → f k ≡ g k) → most_of f n ≡ most_of g n
+unfolding most_of
+most_alike f g zero h = refl
+most_alike f g (suc n) h = rw (h n (omega arith), most_alike f g n (λ k l. h k (omega arith)))
 
 module _ (shown shown' : ℕ → Bool) (old old' new new' : ℕ → ℕ)
     (s : (k : ℕ) → k < 16 → shown k ≡ shown' k) (o : (k : ℕ) → k < 16 → old k ≡ old' k) (w : (k : ℕ) → k < 16 → new k ≡ new' k) where
@@ -56,12 +56,12 @@ module _ (shown shown' : ℕ → Bool) (old old' new new' : ℕ → ℕ)
       record {
         all =
             record {
-              few = q .all .few;
-              counted = q .all .counted ∙ same-below (wrong shown old new) (wrong shown' old' new') 16 (λ k l. rw (s k l, o k l, w k l));
-              farthest = q .all .farthest ∙ most-alike (colourOff shown old new) (colourOff shown' old' new') 16 (λ k l. rw (s k l, o k l, w k l));
-              clearest = q .all .clearest ∙ most-alike (alphaOff shown old new) (alphaOff shown' old' new') 16 (λ k l. rw (s k l, o k l, w k l));
+              few = q.all.few;
+              counted = q.all.counted ∙ same_below (wrong shown old new) (wrong shown' old' new') 16 (λ k l. rw (s k l, o k l, w k l));
+              farthest = q.all.farthest ∙ most_alike (colour_off_lem shown old new) (colour_off_lem shown' old' new') 16 (λ k l. rw (s k l, o k l, w k l));
+              clearest = q.all.clearest ∙ most_alike (alpha_off_lem shown old new) (alpha_off_lem shown' old' new') 16 (λ k l. rw (s k l, o k l, w k l));
             };
-        first = q .first ∙ first-alike (wrong shown old new) (wrong shown' old' new') 16 (λ k l. rw (s k l, o k l, w k l));
+        first = q.first ∙ first_alike (wrong shown old new) (wrong shown' old' new') 16 (λ k l. rw (s k l, o k l, w k l));
       }
 
 -- where two rules agree, nothing is wrong
@@ -69,8 +69,8 @@ neither : (t : Bool) → (t && false) ≡ false
 neither true = refl
 neither false = refl
 
-zeros : (n : ℕ) → mostOf (λ k. 0) n ≡ 0
-unfolding mostOf
+zeros : (n : ℕ) → most_of (λ k. 0) n ≡ 0
+unfolding most_of
 zeros zero = refl
 zeros (suc n) = rw (zeros n)
 
@@ -85,11 +85,11 @@ module _ (shown : ℕ → Bool) (old new : ℕ → ℕ) (same : (k : ℕ) → ol
             record {
               few = omega arith;
               counted = sym (nowhere (wrong shown old new) 16 (λ k l. right k));
-              farthest = sym (most-alike (colourOff shown old new) (λ k. 0) 16 (λ k l. rw (right k)) ∙ zeros 16);
-              clearest = sym (most-alike (alphaOff shown old new) (λ k. 0) 16 (λ k l. rw (right k)) ∙ zeros 16);
+              farthest = sym (most_alike (colour_off_lem shown old new) (λ k. 0) 16 (λ k l. rw (right k)) ∙ zeros 16);
+              clearest = sym (most_alike (alpha_off_lem shown old new) (λ k. 0) 16 (λ k l. rw (right k)) ∙ zeros 16);
             };
         first =
-            only (wrong shown old new) 16 16 (firstOf (wrong shown old new) 16)
+            only (wrong shown old new) 16 16 (first_of (wrong shown old new) 16)
             (record { within = omega arith; found = λ l. absurd (omega (arith, l)); none = λ k l. right k })
             (first (wrong shown old new) 16);
       }

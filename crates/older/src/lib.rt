@@ -1,25 +1,22 @@
 // What an older viewer shows wrong, in numbers: how many pixels and blocks, the first of them, and by how much. Nothing is painted.
+#![tactic(auto)]
+
+ghost use Rattle.std.specs.Prelude.{◌≡◌, cond, not, ◌&&◌, ℕ, suc, ◌*◌, ◌<◌, ◌≤◌, ltb, eqb, length, get_or};
+ghost use Rattle.rules.specs.Pixel.{alpha_of};
+ghost use Rattle.rules.specs.Places.{blocks};
+ghost use Rattle.rules.specs.Answers.{limit, first_of};
+ghost use Rattle.rules.specs.Census.{more};
+ghost use Rattle.rules.specs.Checking.{apart, farthest};
+ghost use Rattle.guard.specs.Viewers.{guard_of};
+ghost use Rattle.rules.specs.Older.{wrong, CountsOlder};
+ghost use Rattle.older.specs.Compared.{Finds, FindsIn, clipped, Counted, Joined};
+
 use bake::distance;
 use guard::Viewer;
-use rules::Answer;
-use rules::Older;
-use rules::OlderCounts;
-use rules::Picture;
-ghost use mathlib.Core.Path.{_≡_};
-ghost use mathlib.Core.Bool.{cond, not, _&&_};
-ghost use Prim.Native.Nat.{ℕ, suc, _*_, _<_, _≤_};
-ghost use lib.Dec.{ltb, eqb};
-ghost use lib.ListN.{length, getD};
-ghost use Rattle·rules.specs.Pixel.{alphaOf};
-ghost use Rattle·rules.specs.Places.{blocks};
-ghost use Rattle·rules.specs.Answers.{limit, firstOf};
-ghost use Rattle·rules.specs.Census.{more};
-ghost use Rattle·rules.specs.Checking.{apart, farthest};
-ghost use Rattle·guard.specs.Viewers.{guardOf};
-ghost use Rattle·rules.specs.Older.{wrong, CountsOlder};
-ghost use Rattle·older·specs.specs.Compared.{Finds, FindsIn, clipped, Counted, Joined};
+use rules::{Answer, Older, OlderCounts, Picture};
 
 // The same of one block: how many pixels, the first of them or 16, and the differences.
+#[derive(Clone, Copy)]
 struct Found {
     pixels: u32,
     place: usize,
@@ -29,22 +26,22 @@ struct Found {
 
 // Whether a pixel is shown, and not alike.
 fn is_wrong(shown: bool, p: u32, q: u32) -> bool
-    ensures { λ r. ⌜ r ≡ (shown && not (eqb p q)) ⌝ }
+    ensures { result ≡ (shown && not (eqb p q)) }
 {
     shown & (p != q)
 }
 
 // One more where a test holds.
 fn one_more(n: u32, holds: bool) -> u32
-    requires { ⌜ n ≤ 16 ⌝ }
-    ensures { λ r. ⌜ r ≡ more holds n ⌝ }
+    requires { n ≤ 16 }
+    ensures { result ≡ more holds n }
 {
     if holds { n + 1 } else { n }
 }
 
 // How far the colour of a wrong pixel is off; any other is off by 0.
 fn colour_off(wrong: bool, p: u32, q: u32) -> u32
-    ensures { λ r. ⌜ r ≡ cond wrong (farthest p q) 0 ⌝ }
+    ensures { result ≡ cond wrong (farthest p q) 0 }
 {
     if wrong {
         return distance::farthest(p, q);
@@ -54,7 +51,7 @@ fn colour_off(wrong: bool, p: u32, q: u32) -> u32
 
 // And its alpha.
 fn alpha_off(wrong: bool, p: u32, q: u32) -> u32
-    ensures { λ r. ⌜ r ≡ cond wrong (apart (alphaOf p) (alphaOf q)) 0 ⌝ }
+    ensures { result ≡ cond wrong (apart (alpha_of p) (alpha_of q)) 0 }
 {
     if wrong {
         return distance::alphas(p, q);
@@ -64,7 +61,7 @@ fn alpha_off(wrong: bool, p: u32, q: u32) -> u32
 
 // Whether place k lies in the columns and rows that are left of the picture.
 fn is_shown(k: usize, columns: usize, rows: usize) -> bool
-    ensures { λ r. ⌜ r ≡ clipped columns rows k ⌝ }
+    ensures { result ≡ clipped columns rows k }
 {
     let beside = k % 4 < columns;
     let below = k / 4 < rows;
@@ -73,8 +70,8 @@ fn is_shown(k: usize, columns: usize, rows: usize) -> bool
 
 // The first place of a block that two rules show differently, or 16, as far as its columns and rows are shown.
 fn first_wrong(old: &[u32; 16], new: &[u32; 16], columns: usize, rows: usize) -> usize
-    ensures { λ r. ⌜ r ≡ firstOf (wrong (clipped columns rows) (λ (k : ℕ). getD (now (old .entry)) k 0)
-        (λ (k : ℕ). getD (now (new .entry)) k 0)) 16 ⌝ }
+    ensures { result ≡ first_of (wrong (clipped columns rows) (λ (k : ℕ). get_or old.now k 0)
+        (λ (k : ℕ). get_or new.now k 0)) 16 }
 {
     let mut k: usize = 0;
     while k < 16 {
@@ -89,7 +86,7 @@ fn first_wrong(old: &[u32; 16], new: &[u32; 16], columns: usize, rows: usize) ->
 // Compares what two rules show of a block, as far as its columns and rows are shown. The first place has a loop of its own, which mostly
 // ends at once: without it LLVM compares four places at a time.
 fn compare(old: [u32; 16], new: [u32; 16], columns: usize, rows: usize) -> Found
-    ensures { λ r. ⌜ Finds (clipped columns rows) (λ (k : ℕ). getD old k 0) (λ (k : ℕ). getD new k 0) r ⌝ }
+    ensures { Finds (clipped columns rows) (λ (k : ℕ). get_or old k 0) (λ (k : ℕ). get_or new k 0) result }
 {
     let first = first_wrong(&old, &new, columns, rows);
     let mut pixels: u32 = 0;
@@ -115,8 +112,8 @@ fn compare(old: [u32; 16], new: [u32; 16], columns: usize, rows: usize) -> Found
 
 // Compares block b of a picture under both rules.
 fn compare_at(viewer: Viewer, data: &[u8], pic: Picture, b: usize) -> Found
-    requires { ⌜ (b < blocks pic) × (blocks pic * 8 ≤ length (now «data»)) × (pic .width ≤ limit) × (pic .height ≤ limit) ⌝ }
-    ensures { λ r. ⌜ FindsIn (guardOf viewer) pic (now («data» .entry)) b r ⌝ }
+    requires { (b < blocks pic) × (blocks pic * 8 ≤ length «data».now) × (pic.width ≤ limit) × (pic.height ≤ limit) }
+    ensures { FindsIn (guard_of viewer) pic «data».now b result }
 {
     let old = blocks::block_at(guard::own(viewer), data, b);
     let new = blocks::block_at(guard::shown(viewer), data, b);
@@ -126,8 +123,8 @@ fn compare_at(viewer: Viewer, data: &[u8], pic: Picture, b: usize) -> Found
 
 // What is wrong in block b of a picture. The two rules agree on a block that the guard lets pass: it is not read.
 fn in_block(viewer: Viewer, data: &[u8], pic: Picture, b: usize) -> Found
-    requires { ⌜ (b < blocks pic) × (blocks pic * 8 ≤ length (now «data»)) × (pic .width ≤ limit) × (pic .height ≤ limit) ⌝ }
-    ensures { λ r. ⌜ FindsIn (guardOf viewer) pic (now («data» .entry)) b r ⌝ }
+    requires { (b < blocks pic) × (blocks pic * 8 ≤ length «data».now) × (pic.width ≤ limit) × (pic.height ≤ limit) }
+    ensures { FindsIn (guard_of viewer) pic «data».now b result }
 {
     let at = b * 8;
     let end = at + 8;
@@ -145,16 +142,16 @@ fn in_block(viewer: Viewer, data: &[u8], pic: Picture, b: usize) -> Found
 
 // One more block where it has a wrong pixel.
 fn block_more(n: usize, some: bool) -> usize
-    requires { ⌜ n ≤ 0x10000000 ⌝ }
-    ensures { λ r. ⌜ r ≡ more some n ⌝ }
+    requires { n ≤ 0x10000000 }
+    ensures { result ≡ more some n }
 {
     if some { n + 1 } else { n }
 }
 
 // The first block of those up to b, where the first of those before b is known.
 fn first_up_to(first: usize, b: usize, some: bool) -> usize
-    requires { ⌜ b ≤ 0x10000000 ⌝ }
-    ensures { λ r. ⌜ r ≡ cond (ltb first b) first (cond some b (suc b)) ⌝ }
+    requires { b ≤ 0x10000000 }
+    ensures { result ≡ cond (ltb first b) first (cond some b (suc b)) }
 {
     if first < b {
         return first;
@@ -164,15 +161,15 @@ fn first_up_to(first: usize, b: usize, some: bool) -> usize
 
 // The first of two numbers where a test holds, and else the second.
 fn either(holds: bool, a: usize, b: usize) -> usize
-    ensures { λ r. ⌜ r ≡ cond holds a b ⌝ }
+    ensures { result ≡ cond holds a b }
 {
     if holds { a } else { b }
 }
 
 // The counts of the blocks before block b, with those of block b.
 fn join(c: OlderCounts, b: usize, f: Found) -> OlderCounts
-    requires { ⌜ (c .pixels ≤ b * 16) × (c .blocks ≤ b) × (f .pixels ≤ 16) × (b ≤ 0x10000000) ⌝ }
-    ensures { λ r. ⌜ Joined c b f r ⌝ }
+    requires { (c.pixels ≤ b * 16) × (c.blocks ≤ b) × (f.pixels ≤ 16) × (b ≤ 0x10000000) }
+    ensures { Joined c b f result }
 {
     let some = f.place < 16;
     let found = c.block < b;
@@ -188,9 +185,9 @@ fn join(c: OlderCounts, b: usize, f: Found) -> OlderCounts
 
 // Counts what is wrong in the first n blocks of a picture.
 fn tally(viewer: Viewer, data: &[u8], pic: Picture, n: usize) -> OlderCounts
-    requires { ⌜ (n ≡ blocks pic) × (blocks pic * 8 ≤ length (now «data»)) × (n ≤ 0x10000000)
-        × (pic .width ≤ limit) × (pic .height ≤ limit) ⌝ }
-    ensures { λ r. ⌜ Counted (guardOf viewer) pic (now («data» .entry)) n r ⌝ }
+    requires { (n ≡ blocks pic) × (blocks pic * 8 ≤ length «data».now) × (n ≤ 0x10000000)
+        × (pic.width ≤ limit) × (pic.height ≤ limit) }
+    ensures { Counted (guard_of viewer) pic «data».now n result }
 {
     let mut c = OlderCounts {
         pixels: 0,
@@ -210,7 +207,7 @@ fn tally(viewer: Viewer, data: &[u8], pic: Picture, n: usize) -> OlderCounts
 
 // Counts what an older viewer shows wrong of a picture, for all inputs.
 pub fn count(viewer: Viewer, data: &[u8], pic: Picture) -> Older
-    ensures { λ r. ⌜ CountsOlder (guardOf viewer) (now («data» .entry)) pic r ⌝ }
+    ensures { CountsOlder (guard_of viewer) «data».now pic result }
 {
     if checks::too_large(65536, pic) {
         return Older::TooLarge;

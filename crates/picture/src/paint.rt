@@ -1,17 +1,17 @@
 // The blocks of a picture painted one after another, each in its place: those of a row that are whole in one run, and each that the
 // picture's edge clips by itself. After `block_decoder!` of src/macros.rs.
+ghost use Rattle.std.specs.Prelude.{ℕ, ◌+◌, ◌-◌, ◌*◌, ◌<◌, ◌≤◌, length};
+ghost use Rattle.rules.specs.Places.{across, blocks};
+ghost use Rattle.rules.specs.Answers.{limit};
+ghost use Rattle.rules.specs.Formats.{size_of, shows_of};
+ghost use Rattle.pixel.specs.place.Tile.{Room};
+ghost use Rattle.blocks.specs.Run.{Stands, PaintsRow, PaintsRun};
+
 use pixel::place;
-use rules::Format;
-use rules::Picture;
-ghost use Prim.Native.Nat.{ℕ, _+_, _-_, _*_, _<_, _≤_};
-ghost use lib.ListN.{length};
-ghost use Rattle·rules.specs.Places.{across, blocks};
-ghost use Rattle·rules.specs.Answers.{limit};
-ghost use Rattle·rules.specs.Formats.{sizeOf, showsOf};
-ghost use Rattle·pixel.specs.place.Tile.{Room};
-ghost use Rattle·blocks.specs.Run.{Stands, PaintsRow, PaintsRun};
+use rules::{Format, Picture};
 
 // The column and the row in which a block stands.
+#[derive(Clone, Copy)]
 struct Spot {
     bx: usize,
     by: usize,
@@ -19,8 +19,8 @@ struct Spot {
 
 // Where the block stands that follows n others, beginning with the one at the spot, in rows of so many blocks.
 fn after(spot: Spot, n: usize, row: usize) -> Spot
-    requires { ⌜ (spot .bx + n ≤ row) × (row ≤ 0x10000) × (spot .by < 0x10000) ⌝ }
-    ensures { λ r. ⌜ ((b : ℕ) → Stands row b (spot .bx) (spot .by) → Stands row (b + n) (r .bx) (r .by)) ⌝ }
+    requires { (spot.bx + n ≤ row) × (row ≤ 0x10000) × (spot.by < 0x10000) }
+    ensures { (b : ℕ) → Stands row b spot.bx spot.by → Stands row (b + n) result.bx result.by }
 {
     let right = spot.bx + n;
     if right < row {
@@ -38,8 +38,8 @@ fn after(spot: Spot, n: usize, row: usize) -> Spot
 
 // How many of the blocks that are left, the one at the spot and those beside it, the picture has whole.
 fn whole(spot: Spot, left: usize, pic: Picture) -> usize
-    requires { ⌜ spot .by < 0x10000 ⌝ }
-    ensures { λ r. ⌜ (r ≤ left) × (0 < r → ((spot .bx + r) * 4 ≤ pic .width) × (spot .by * 4 + 4 ≤ pic .height)) ⌝ }
+    requires { spot.by < 0x10000 }
+    ensures { (result ≤ left) × (0 < result → ((spot.bx + result) * 4 ≤ pic.width) × (spot.by * 4 + 4 ≤ pic.height)) }
 {
     if pic.height < spot.by * 4 + 4 {
         return 0;
@@ -62,10 +62,10 @@ fn paint_some(
     pic: Picture,
     image: &mut [u32],
 ) -> usize
-    requires { ⌜ (0 < left) × (left * sizeOf f ≤ length (now «data»)) × (pic .width ≤ limit) × Room pic (length (now image)) ⌝ }
-    requires { ⌜ (spot .bx < across (pic .width)) × (spot .by < 0x10000) ⌝ }
-    ensures { λ r. ⌜ (0 < r) × (r ≤ left) × (spot .bx + r ≤ across (pic .width))
-        × PaintsRow (showsOf f) (sizeOf f) (now («data» .entry)) pic (spot .bx) (spot .by) r (now (image .entry)) (now (image .exit)) ⌝ }
+    requires left_nonzero { (0 < left) × (left * size_of f ≤ length «data».now) × (pic.width ≤ limit) × Room pic (length image.old) }
+    requires bx_bound { (spot.bx < across pic.width) × (spot.by < 0x10000) }
+    ensures { (0 < result) × (result ≤ left) × (spot.bx + result ≤ across pic.width)
+        × PaintsRow (shows_of f) (size_of f) «data».now pic spot.bx spot.by result image.old image.new }
 {
     let n = whole(spot, left, pic);
     if n == 0 {
@@ -80,9 +80,9 @@ fn paint_some(
 // Paints the blocks from number first to last - 1, of which the data begins with the first: every pixel of them, and no other
 // element.
 pub fn paint(f: Format, data: &[u8], pic: Picture, first: usize, last: usize, image: &mut [u32])
-    requires { ⌜ (pic .width ≤ limit) × (pic .height ≤ limit) × (first ≤ last) × (last ≤ blocks pic) ⌝ }
-    requires { ⌜ Room pic (length (now image)) × ((last - first) * sizeOf f ≤ length (now «data»)) ⌝ }
-    ensures { λ _. ⌜ PaintsRun f (now («data» .entry)) pic first last (now (image .entry)) (now (image .exit)) ⌝ }
+    requires width_le_limit { (pic.width ≤ limit) × (pic.height ≤ limit) × (first ≤ last) × (last ≤ blocks pic) }
+    requires room { Room pic (length image.old) × ((last - first) * size_of f ≤ length «data».now) }
+    ensures { PaintsRun f «data».now pic first last image.old image.new }
 {
     let row = checks::across(pic.width);
     if row == 0 {

@@ -1,16 +1,14 @@
 // Blocks whose bytes are kept ones followed by new ones, painted in their places: the block that is in both, and those after it.
+ghost use Rattle.std.specs.Prelude.{◌++◌, ◌+◌, ◌-◌, ◌*◌, ◌<◌, ◌≤◌, length, take};
+ghost use Rattle.rules.specs.Places.{blocks};
+ghost use Rattle.rules.specs.Answers.{limit};
+ghost use Rattle.rules.specs.Formats.{size_of};
+ghost use Rattle.pixel.specs.place.Tile.{Room};
+ghost use Rattle.blocks.specs.Run.{PaintsRun};
+
 use super::kept;
 use picture::paint;
-use rules::Format;
-use rules::Picture;
-ghost use mathlib.Core.List.{_++_};
-ghost use Prim.Native.Nat.{_+_, _-_, _*_, _<_, _≤_};
-ghost use lib.ListN.{length, take};
-ghost use Rattle·rules.specs.Places.{blocks};
-ghost use Rattle·rules.specs.Answers.{limit};
-ghost use Rattle·rules.specs.Formats.{sizeOf};
-ghost use Rattle·pixel.specs.place.Tile.{Room};
-ghost use Rattle·blocks.specs.Run.{PaintsRun};
+use rules::{Format, Picture};
 
 // Paints the blocks from number first to last - 1, whose bytes are the kept ones followed by the new ones: every pixel of them, and no
 // other element.
@@ -24,9 +22,10 @@ pub fn paint_joined(
     last: usize,
     image: &mut [u32],
 )
-    requires { ⌜ (pic .width ≤ limit) × (pic .height ≤ limit) × (first ≤ last) × (last ≤ blocks pic) × Room pic (length (now image)) ⌝ }
-    requires { ⌜ (held < sizeOf f) × ((last - first) * sizeOf f ≤ held + length (now bytes)) ⌝ }
-    ensures { λ _. ⌜ PaintsRun f (take held kept ++ now (bytes .entry)) pic first last (now (image .entry)) (now (image .exit)) ⌝ }
+    requires width_le_limit { (pic.width ≤ limit) × (pic.height ≤ limit) × (first ≤ last) × (last ≤ blocks pic)
+        × Room pic (length image.old) }
+    requires held_bound { (held < size_of f) × ((last - first) * size_of f ≤ held + length bytes.now) }
+    ensures { PaintsRun f (take held kept ++ bytes.now) pic first last image.old image.new }
 {
     if first == last {
         return;

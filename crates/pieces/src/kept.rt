@@ -1,15 +1,12 @@
 // The kept bytes of a picture that arrives in pieces, followed by the new ones: one list, of which no copy is made.
-ghost use mathlib.Core.Path.{_≡_};
-ghost use mathlib.Core.List.{_++_};
-ghost use Prim.Native.Nat.{_+_, _≤_};
-ghost use lib.ListN.{length, take};
-ghost use Rattle·rules.specs.Notation.{build, byte};
-ghost use Rattle·rules.specs.Pieces.{padded};
+ghost use Rattle.std.specs.Prelude.{◌≡◌, ◌++◌, ◌+◌, ◌≤◌, length, take};
+ghost use Rattle.rules.specs.Notation.{build, byte};
+ghost use Rattle.rules.specs.Pieces.{padded};
 
 // Byte i of them, and 0 past their end.
 fn byte_at(kept: [u8; 15], held: usize, bytes: &[u8], i: usize) -> u8
-    requires { ⌜ held ≤ 15 ⌝ }
-    ensures { λ r. ⌜ r ≡ byte (take held kept ++ now (bytes .entry)) i ⌝ }
+    requires { held ≤ 15 }
+    ensures { result ≡ byte (take held kept ++ bytes.now) i }
 {
     if i < held {
         return kept[i];
@@ -23,8 +20,8 @@ fn byte_at(kept: [u8; 15], held: usize, bytes: &[u8], i: usize) -> u8
 
 // The first sixteen of them: the block that began with the kept ones.
 pub fn first_block(kept: [u8; 15], held: usize, bytes: &[u8]) -> [u8; 16]
-    requires { ⌜ held ≤ 15 ⌝ }
-    ensures { λ r. ⌜ r ≡ build 16 (byte (take held kept ++ now (bytes .entry))) ⌝ }
+    requires { held ≤ 15 }
+    ensures { result ≡ build 16 (byte (take held kept ++ bytes.now)) }
 {
     let mut out: [u8; 16] = [0; 16];
     let mut i: usize = 0;
@@ -37,8 +34,8 @@ pub fn first_block(kept: [u8; 15], held: usize, bytes: &[u8]) -> [u8; 16]
 
 // The n of them from number at on, with zeros behind: what is kept for the next piece.
 pub fn rest_of(kept: [u8; 15], held: usize, bytes: &[u8], at: usize, n: usize) -> [u8; 15]
-    requires { ⌜ (held ≤ 15) × (n ≤ 15) × (at + n ≤ held + length (now bytes)) ⌝ }
-    ensures { λ r. ⌜ r ≡ padded (take held kept ++ now (bytes .entry)) at n ⌝ }
+    requires { (held ≤ 15) × (n ≤ 15) × (at + n ≤ held + length bytes.now) }
+    ensures { result ≡ padded (take held kept ++ bytes.now) at n }
 {
     let mut out: [u8; 15] = [0; 15];
     let mut i: usize = 0;

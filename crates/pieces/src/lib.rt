@@ -1,33 +1,29 @@
 // A picture whose bytes arrive in pieces of any length: each block is painted as soon as it is whole, and between two pieces at most
 // 15 bytes are kept. The state goes in by value and comes back. Every value of it is a state, so a forged one is answered like any
 // other, and nothing is asked of the caller.
+#![tactic(auto)]
+
 mod joined;
 pub mod kept;
 
-use rules::Answer;
-use rules::Format;
-use rules::Picture;
-use rules::Progress;
-use rules::Started;
-use rules::Taken;
-ghost use mathlib.Core.Path.{_≡_};
-ghost use Prim.Native.Nat.{_≤_, min};
-ghost use lib.ListN.{length};
-ghost use Rattle·rules.specs.Answers.{said, limit, verdict};
-ghost use Rattle·rules.specs.Pieces.{startChecks, Starts, Takes, Ends};
-ghost use Rattle·pixel.specs.place.Tile.{Room};
-ghost use Rattle·pieces·specs.specs.Took.{Took};
+ghost use Rattle.std.specs.Prelude.{◌≡◌, ◌≤◌, min, length};
+ghost use Rattle.rules.specs.Answers.{said, limit, verdict};
+ghost use Rattle.rules.specs.Pieces.{start_checks, Starts, Takes, Ends};
+ghost use Rattle.pixel.specs.place.Tile.{Room};
+ghost use Rattle.pieces.specs.Took.{Took};
+
+use rules::{Answer, Format, Picture, Progress, Started, Taken};
 
 // The checks of starting and of each piece: 1, 12, 3. Blocks of no bytes need no data.
 fn check(pic: Picture, elements: usize) -> Answer
-    ensures { λ r. ⌜ said r ≡ verdict (startChecks pic elements) ⌝ }
+    ensures { said result ≡ verdict (start_checks pic elements) }
 {
     checks::verify(0, pic, 0, elements)
 }
 
 // Starts to read a picture: no byte is taken.
 pub fn start(f: Format, pic: Picture, image: &[u32]) -> Started
-    ensures { λ r. ⌜ Starts f pic (length (now (image .entry))) r ⌝ }
+    ensures { Starts f pic (length image.now) result }
 {
     let answer = check(pic, image.len());
     let kept: [u8; 15] = [0; 15];
@@ -45,15 +41,15 @@ pub fn start(f: Format, pic: Picture, image: &[u32]) -> Started
 
 // The lesser of two numbers.
 fn least(a: usize, b: usize) -> usize
-    ensures { λ r. ⌜ r ≡ min a b ⌝ }
+    ensures { result ≡ min a b }
 {
     if a < b { a } else { b }
 }
 
 // Takes a piece into a picture that has passed the checks.
 fn take_piece(p: Progress, bytes: &[u8], image: &mut [u32]) -> Taken
-    requires { ⌜ (p .picture .width ≤ limit) × (p .picture .height ≤ limit) × Room (p .picture) (length (now image)) ⌝ }
-    ensures { λ r. ⌜ Took p (now (bytes .entry)) (now (image .entry)) r (now (image .exit)) ⌝ }
+    requires { (p.picture.width ≤ limit) × (p.picture.height ≤ limit) × Room p.picture (length image.old) }
+    ensures { Took p bytes.now image.old result image.new }
 {
     let f = p.format;
     let pic = p.picture;
@@ -86,7 +82,7 @@ fn take_piece(p: Progress, bytes: &[u8], image: &mut [u32]) -> Taken
 
 // Takes a piece: paints the blocks that it completes, and keeps what is left of it. A piece that is refused changes nothing.
 pub fn piece(p: Progress, bytes: &[u8], image: &mut [u32]) -> Taken
-    ensures { λ r. ⌜ Takes p (now (bytes .entry)) (now (image .entry)) r (now (image .exit)) ⌝ }
+    ensures { Takes p bytes.now image.old result image.new }
 {
     let pic = p.picture;
     let answer = check(pic, image.len());
@@ -103,7 +99,7 @@ pub fn piece(p: Progress, bytes: &[u8], image: &mut [u32]) -> Taken
 
 // Ends: done where every block is painted, and short of data where not. No picture needs more elements than 65,536 times 65,536.
 pub fn end(p: Progress) -> Answer
-    ensures { λ r. ⌜ Ends p r ⌝ }
+    ensures { Ends p result }
 {
     let f = p.format;
     let pic = p.picture;

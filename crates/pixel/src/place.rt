@@ -1,12 +1,11 @@
 // Sixteen pixels put in their places: a tile of a picture, clipped at its right and lower edge. A tile is written row by row, each
 // row through its piece of the image. After `copy_block_buffer` of src/color.rs.
+ghost use Rattle.std.specs.Prelude.{◌≡◌, ℕ, ◌+◌, ◌*◌, ◌<◌, ◌≤◌, length, get_or};
+ghost use Rattle.laws.specs.Painted.{Painted};
+ghost use Rattle.pixel.specs.place.Tile.{InPiece, InTile, Room, number_in, shown as shown_of, in_row};
+
 use super::fill;
 use rules::Picture;
-ghost use mathlib.Core.Path.{_≡_};
-ghost use Prim.Native.Nat.{ℕ, _+_, _*_, _<_, _≤_};
-ghost use lib.ListN.{length, getD};
-ghost use Rattle·laws.specs.Painted.{Painted};
-ghost use Rattle·pixel·specs.specs.place.Tile.{InPiece, InTile, Room, numberIn, shown as shownOf, inRow};
 
 // Paints row i of a tile in column bx of tiles as row y of the picture: its n pixels, which are one piece of the image.
 fn place_row(
@@ -18,8 +17,8 @@ fn place_row(
     pic: Picture,
     image: &mut [u32],
 )
-    requires { ⌜ (i < 4) × (y < pic .height) × (bx * 4 < pic .width) × (n ≡ shownOf (pic .width) bx) × Room pic (length (now image)) ⌝ }
-    ensures { λ _. ⌜ Painted (InPiece pic bx y) (inRow pic tile i) (now (image .entry)) (now (image .exit)) ⌝ }
+    requires { (i < 4) × (y < pic.height) × (bx * 4 < pic.width) × (n ≡ shown_of pic.width bx) × Room pic (length image.old) }
+    ensures { Painted (InPiece pic bx y) (in_row pic tile i) image.old image.new }
 {
     let at = y * pic.pitch + bx * 4;
     let end = at + n;
@@ -28,8 +27,8 @@ fn place_row(
 
 // How many columns (or rows) of tile b a picture has that is so wide (or high).
 fn shown(side: usize, b: usize) -> usize
-    requires { ⌜ b < 0x10000 ⌝ }
-    ensures { λ r. ⌜ r ≡ shownOf side b ⌝ }
+    requires { b < 0x10000 }
+    ensures { result ≡ shown_of side b }
 {
     let at = b * 4;
     if at + 4 <= side {
@@ -51,9 +50,9 @@ fn place_rows(
     pic: Picture,
     image: &mut [u32],
 )
-    requires { ⌜ (bx * 4 < pic .width) × Room pic (length (now image)) ⌝ }
-    requires { ⌜ (n ≡ shownOf (pic .width) bx) × (m ≡ shownOf (pic .height) by) ⌝ }
-    ensures { λ _. ⌜ Painted (InTile pic bx by) (λ (k : ℕ). getD tile (numberIn pic k) 0) (now (image .entry)) (now (image .exit)) ⌝ }
+    requires bx_bound { (bx * 4 < pic.width) × Room pic (length image.old) }
+    requires n_value { (n ≡ shown_of pic.width bx) × (m ≡ shown_of pic.height by) }
+    ensures { Painted (InTile pic bx by) (λ (k : ℕ). get_or tile (number_in pic k) 0) image.old image.new }
 {
     let mut i: usize = 0;
     while i < m {
@@ -64,16 +63,16 @@ fn place_rows(
 
 // Paints a tile that the picture has whole.
 pub fn place_whole(tile: [u32; 16], bx: usize, by: usize, pic: Picture, image: &mut [u32])
-    requires { ⌜ (bx * 4 + 4 ≤ pic .width) × (by * 4 + 4 ≤ pic .height) × Room pic (length (now image)) ⌝ }
-    ensures { λ _. ⌜ Painted (InTile pic bx by) (λ (k : ℕ). getD tile (numberIn pic k) 0) (now (image .entry)) (now (image .exit)) ⌝ }
+    requires { (bx * 4 + 4 ≤ pic.width) × (by * 4 + 4 ≤ pic.height) × Room pic (length image.old) }
+    ensures { Painted (InTile pic bx by) (λ (k : ℕ). get_or tile (number_in pic k) 0) image.old image.new }
 {
     place_rows(tile, bx, by, 4, 4, pic, image);
 }
 
 // Paints the tile in column bx and row by of tiles: every pixel of it that the picture has, and no other element.
 pub fn place(tile: [u32; 16], bx: usize, by: usize, pic: Picture, image: &mut [u32])
-    requires { ⌜ (bx < 0x10000) × (by < 0x10000) × Room pic (length (now image)) ⌝ }
-    ensures { λ _. ⌜ Painted (InTile pic bx by) (λ (k : ℕ). getD tile (numberIn pic k) 0) (now (image .entry)) (now (image .exit)) ⌝ }
+    requires { (bx < 0x10000) × (by < 0x10000) × Room pic (length image.old) }
+    ensures { Painted (InTile pic bx by) (λ (k : ℕ). get_or tile (number_in pic k) 0) image.old image.new }
 {
     if pic.width <= bx * 4 {
         return;

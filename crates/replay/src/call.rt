@@ -1,19 +1,12 @@
 // What a case's number calls, by the table of oracle/PROTOCOL.md. A new function is one number there, one arm here.
-use super::call_baking;
-use super::call_bits;
-use super::call_blocks;
-use super::call_census;
-use super::call_degrees;
-use super::call_files;
-use super::call_pictures;
-use super::call_pieces;
-use super::call_pitched;
-use super::call_sheets;
-use super::case::Case;
-use super::case::Said;
+ghost use Rattle.std.specs.Prelude.{◌≤◌, length};
+
+use super::case::{Case, Said};
+use super::{
+    call_baking, call_bits, call_blocks, call_census, call_degrees, call_files, call_pictures,
+    call_pieces, call_pitched, call_sheets,
+};
 use rules::Answer;
-ghost use lib.ListN.{length};
-ghost use Prim.Native.Nat.{_≤_};
 
 // The number of an answer, and the block that a refusal names, and otherwise 0; a picture has fewer than 2^32.
 pub fn told(answer: Answer) -> Said {
@@ -33,7 +26,7 @@ pub fn unknown() -> Said {
 
 // Calls what a case names, on exactly its bytes and elements.
 pub fn call_on(c: Case, data: &[u8], image: &mut [u32]) -> Said
-    requires { ⌜ (c .n ≤ length (now «data»)) × (c .m ≤ length (now image)) ⌝ }
+    requires { (c.n ≤ length «data».now) × (c.m ≤ length image.old) }
 {
     let n = c.n;
     let m = c.m;

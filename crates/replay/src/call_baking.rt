@@ -1,11 +1,9 @@
 // The checker and the baker of ETC1 blocks.
-use super::call;
+ghost use Rattle.std.specs.Prelude.{◌≤◌, length};
+
 use super::case::Said;
-use super::elements;
-use super::words;
+use super::{call, elements, words};
 use rules::Baking;
-ghost use lib.ListN.{length};
-ghost use Prim.Native.Nat.{_≤_};
 
 fn told(answer: Baking) -> Said {
     Said {
@@ -33,7 +31,7 @@ pub fn bake(flip: usize, data: &[u8], image: &mut [u32]) -> Said {
 }
 
 fn elements_of(n: usize) -> usize
-    ensures { λ r. ⌜ r ≤ 17 ⌝ }
+    ensures { result ≤ 17 }
 {
     if n < 6 {
         return 0;
@@ -45,7 +43,7 @@ fn elements_of(n: usize) -> usize
 }
 
 fn bake_in(flip: usize, data: &[u8], tile: &[u32], room: &mut [u8], image: &mut [u32]) -> Said
-    requires { ⌜ 6 ≤ length (now «data») ⌝ }
+    requires { 6 ≤ length «data».now }
 {
     let n = image.len();
     if room.len() < n {

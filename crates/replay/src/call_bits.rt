@@ -1,11 +1,8 @@
 // The bit reader, and the BC7 block that is read through it.
-use super::call;
 use super::case::Said;
-use super::elements;
-use bc7_held::Sixteen;
-use bc7_held::bits;
-use rules::Answer;
-use rules::Bits;
+use super::{call, elements};
+use bc7_held::{Sixteen, bits};
+use rules::{Answer, Bits};
 
 // Some bits at a place: they and the place behind them, in two elements, are the first three elements.
 pub fn read(place: usize, n: usize, data: &[u8], image: &mut [u32]) -> Said {
@@ -47,10 +44,6 @@ fn painted(pixels: &[u32; 16], image: &mut [u32]) -> Answer {
     if image.len() < 16 {
         return Answer::ShortImage;
     }
-    let mut i: usize = 0;
-    while i < 16 {
-        image[i] = pixels[i];
-        i += 1;
-    }
+    image[..16].copy_from_slice(pixels);
     Answer::Done
 }

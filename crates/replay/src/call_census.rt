@@ -1,9 +1,6 @@
 // The censuses and the counts for older viewers, with their counts as the first elements of the lent image.
 use super::elements;
-use rules::Answer;
-use rules::Older;
-use rules::RgbCensus;
-use rules::Rgba1Census;
+use rules::{Answer, Older, RgbCensus, Rgba1Census};
 
 pub fn rgb(data: &[u8], width: usize, height: usize, image: &mut [u32]) -> Answer {
     match readers::census_etc2_rgb(data, width, height) {

@@ -1,23 +1,13 @@
 // The reader of degrees. The data is the legend's three values, the measurement and the pixel, as words; a and b are the digits
 // that the legend and the picture name, and c is the legend's kind. A reading's three values are the first elements.
-use super::call;
-use super::case::Case;
-use super::case::Said;
-use super::elements;
-use super::words;
-use rules::Answer;
-use rules::Legend;
-use rules::Reading;
-use rules::Reply;
+use super::case::{Case, Said};
+use super::{call, elements, words};
+use rules::{Answer, Legend, Reading, Reply};
+use std::num;
 
-// The float of a bit pattern. What is no number is one by its sums, since Rattle leaves the float of such a pattern open.
+// The float of a bit pattern. A pattern that is no number gives one by its sums, which says nothing of its digits.
 fn float_of(bits: u32) -> f32 {
-    let top = bits % 0x80000000 / 0x800000 == 255;
-    let digits = bits % 0x800000 != 0;
-    if top & digits {
-        return 0.0 / 0.0;
-    }
-    f32::from_bits(bits)
+    num::f32_from_bits_with_nan(bits)
 }
 
 // The bits of a float; all of them where it is no number.

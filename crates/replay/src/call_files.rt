@@ -1,8 +1,6 @@
 // Texture files: the facts of one, and the place of a level, as the first elements of the lent image.
 use super::elements;
-use rules::Answer;
-use rules::FoundLevel;
-use rules::Opened;
+use rules::{Answer, FoundLevel, Opened};
 
 pub fn open(data: &[u8], image: &mut [u32]) -> Answer {
     match readers::open_file(data) {

@@ -1,16 +1,13 @@
 // A picture whose bytes arrive in pieces. The answer's number is that of the end, and its second number stands for what starting
 // and each piece answered, and for the image after it.
-use super::call;
-use super::case::Case;
-use super::case::Said;
-use super::elements;
-use rules::Answer;
-use rules::Format;
-use rules::Picture;
-use rules::Progress;
-ghost use Prim.Native.Nat.{_≤_};
+ghost use Rattle.std.specs.Prelude.{◌≤◌};
+
+use super::case::{Case, Said};
+use super::{call, elements};
+use rules::{Answer, Format, Picture, Progress};
 
 // How far a picture has come: the next byte's number, and what stands for all that was answered.
+#[derive(Clone, Copy)]
 struct Course {
     progress: Progress,
     at: usize,
@@ -52,11 +49,11 @@ fn rgtc(k: usize) -> Format {
 }
 
 fn sum(a: usize, b: usize) -> usize {
-    std::num::wrapping_add_usize(a, b)
+    a.wrapping_add(b)
 }
 
 fn least(a: usize, b: usize) -> usize
-    ensures { λ r. ⌜ (r ≤ a) × (r ≤ b) ⌝ }
+    ensures { (result ≤ a) × (result ≤ b) }
 {
     if a < b { a } else { b }
 }
@@ -140,11 +137,9 @@ pub fn scattered(k: usize, c: Case, data: &[u8], image: &mut [u32]) -> Said {
     }
     let mut course = begin(k, c, image);
     let mut v = moved(c.b);
-    let mut left = least(c.c, 64);
-    while left > 0 {
+    for _ in 0..least(c.c, 64) {
         course = follow(course, length_of(v), data, image);
         v = moved(v);
-        left -= 1;
     }
     ended(follow(course, data.len(), data, image))
 }

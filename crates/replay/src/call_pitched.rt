@@ -1,7 +1,6 @@
 // The picture readers that take a pitch, in the order of their twins in call_pictures.rt.
 use super::call_whole;
-use rules::Answer;
-use rules::Picture;
+use rules::{Answer, Picture};
 
 pub fn read(
     k: usize,

@@ -1,10 +1,7 @@
 // Sheets: the head in the first three elements, and a sheet that is written, one byte an element.
-use super::call;
-use super::case::Case;
-use super::case::Said;
-use super::elements;
-use rules::Answer;
-use rules::Sheet;
+use super::case::{Case, Said};
+use super::{call, elements};
+use rules::{Answer, Sheet};
 
 pub fn head(data: &[u8], image: &mut [u32]) -> Answer {
     match readers::sheet_head(data) {

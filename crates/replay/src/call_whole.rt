@@ -1,6 +1,5 @@
 // The readers of EAC's whole values, with and without a pitch: an element has one value in its low sixteen bits.
-use rules::Answer;
-use rules::Picture;
+use rules::{Answer, Picture};
 
 pub fn read(k: usize, data: &[u8], width: usize, height: usize, image: &mut [u32]) -> Answer {
     let pic = Picture {
@@ -40,10 +39,8 @@ fn narrowed(image: &[u32], values: &mut [u16]) {
     if values.len() < image.len() {
         return;
     }
-    let mut i = 0;
-    while i < image.len() {
-        values[i] = (image[i] % 0x10000) as u16;
-        i += 1;
+    for (value, element) in values.iter_mut().zip(image) {
+        *value = (element % 0x10000) as u16;
     }
 }
 
@@ -56,10 +53,8 @@ fn widened(values: &[u16], image: &mut [u32]) {
     if values.len() < image.len() {
         return;
     }
-    let mut i = 0;
-    while i < image.len() {
-        image[i] = wide(values[i]);
-        i += 1;
+    for (element, value) in image.iter_mut().zip(values) {
+        *element = wide(*value);
     }
 }
 

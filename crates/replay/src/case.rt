@@ -1,10 +1,21 @@
-// One case of oracle/PROTOCOL.md: taken from standard input, and answered.
-use super::call;
-use super::stdio;
-use super::words;
-ghost use Prim.Native.Nat.{_<_, _≤_};
+// One case of oracle/PROTOCOL.md: taken from the input, and answered.
+ghost use Rattle.std.specs.Prelude.{◌<◌, ◌≤◌};
+
+use super::{call, stdio, words};
+use std::io;
+use std::io::Read;
+
+// What a case is taken into: its data, the bytes of its image, which are those of the answer afterwards, and the words of the
+// image. They are lent to each case, since making room for them anew takes longer than a block.
+#[derive(Drop)]
+pub struct Room {
+    pub data: [u8; 262144],
+    pub shown: [u8; 262144],
+    pub image: [u32; 65600],
+}
 
 // What is called, its numbers, and how many bytes and elements it is lent.
+#[derive(Clone, Copy)]
 pub struct Case {
     pub number: usize,
     pub a: usize,
@@ -17,6 +28,7 @@ pub struct Case {
 }
 
 // What a call answers: its number, and the block that it names or another number of the function's own.
+#[derive(Clone, Copy)]
 pub struct Said {
     pub number: u32,
     pub extra: u32,
@@ -24,34 +36,34 @@ pub struct Said {
 
 // The k-th number of a head, of eight bytes.
 fn field(head: &[u8; 64], k: usize) -> usize
-    requires { ⌜ k < 8 ⌝ }
+    requires { k < 8 }
 {
     let at = k * 8;
     numbers::little4(head, at) + numbers::little4(head, at + 4) * 0x100000000
 }
 
 pub fn at_most(most: usize, n: usize) -> usize
-    ensures { λ r. ⌜ r ≤ most ⌝ }
+    ensures { result ≤ most }
 {
     if most < n { most } else { n }
 }
 
 // How many bytes of data the head of a case asks for, or the most that there is room for.
 fn data_length(head: &[u8; 64]) -> usize
-    ensures { λ r. ⌜ r ≤ 262144 ⌝ }
+    ensures { result ≤ 262144 }
 {
     at_most(262144, field(head, 6))
 }
 
 // How many elements.
 pub fn elements(head: &[u8; 64]) -> usize
-    ensures { λ r. ⌜ r ≤ 65536 ⌝ }
+    ensures { result ≤ 65536 }
 {
     at_most(65536, field(head, 7))
 }
 
 fn of_head(head: &[u8; 64]) -> Case
-    ensures { λ r. ⌜ (r .n ≤ 262144) × (r .m ≤ 65536) ⌝ }
+    ensures { (result.n ≤ 262144) × (result.m ≤ 65536) }
 {
     Case {
         number: field(head, 0),
@@ -66,32 +78,26 @@ fn of_head(head: &[u8; 64]) -> Case
 }
 
 // Takes a case: its head, its data, and the bytes of its image. False where the input has none, or one that is too long.
-pub fn taken(head: &mut [u8; 64], data: &mut [u8; 262144], shown: &mut [u8; 262144]) -> bool {
-    if !stdio::taken(head, 64) {
-        return false;
+pub fn taken<R: Read>(input: &mut R, head: &mut [u8; 64], room: &mut Room) -> io::Result<bool> {
+    if !stdio::taken(input, head, 64)? {
+        return Ok(false);
     }
-    if !stdio::taken(data, field(head, 6)) {
-        return false;
+    if !stdio::taken(input, &mut room.data, field(head, 6))? {
+        return Ok(false);
     }
     if 65536 < field(head, 7) {
-        return false;
+        return Ok(false);
     }
-    stdio::taken(shown, elements(head) * 4)
+    stdio::taken(input, &mut room.shown, elements(head) * 4)
 }
 
-// Answers the case that was taken: the eight bytes of the answer, and the image afterwards in place of the one before. The
-// words of the image are lent, since making room for them anew takes longer than a block.
-pub fn answered(
-    head: &[u8; 64],
-    data: &[u8; 262144],
-    shown: &mut [u8; 262144],
-    image: &mut [u32; 65600],
-) -> [u8; 8] {
+// Answers the case that was taken: the eight bytes of the answer, and the image afterwards in place of the one before.
+pub fn answered(head: &[u8; 64], room: &mut Room) -> [u8; 8] {
     let c = of_head(head);
     let m = c.m;
-    words::unpack(shown, m, image);
-    let said = call::call_on(c, data, image);
-    words::pack(image, m, shown);
+    words::unpack(&room.shown, m, &mut room.image);
+    let said = call::call_on(c, &room.data, &mut room.image);
+    words::pack(&room.image, m, &mut room.shown);
     spelled(said)
 }
 

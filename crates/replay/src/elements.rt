@@ -10,10 +10,8 @@ pub fn put(values: &[usize], image: &mut [u32]) -> Answer {
     if image.len() < values.len() {
         return Answer::ShortImage;
     }
-    let mut i = 0;
-    while i < values.len() {
-        image[i] = (values[i] % 0x100000000) as u32;
-        i += 1;
+    for (element, value) in image.iter_mut().zip(values) {
+        *element = (value % 0x100000000) as u32;
     }
     Answer::Done
 }
@@ -23,10 +21,8 @@ pub fn to_bytes(image: &[u32], room: &mut [u8]) {
     if room.len() < image.len() {
         return;
     }
-    let mut i = 0;
-    while i < image.len() {
-        room[i] = (image[i] % 256) as u8;
-        i += 1;
+    for (byte, element) in room.iter_mut().zip(image) {
+        *byte = (element % 256) as u8;
     }
 }
 
@@ -39,10 +35,8 @@ pub fn from_bytes(room: &[u8], image: &mut [u32]) {
     if room.len() < image.len() {
         return;
     }
-    let mut i = 0;
-    while i < image.len() {
-        image[i] = wide_byte(room[i]);
-        i += 1;
+    for (element, byte) in image.iter_mut().zip(room) {
+        *element = wide_byte(*byte);
     }
 }
 
@@ -52,10 +46,8 @@ pub fn digest(image: &[u32], m: usize, before: u64) -> u64 {
     if image.len() < m {
         return sum;
     }
-    let mut i: usize = 0;
-    while i < m {
-        sum = mixed(sum, wide(image[i]));
-        i += 1;
+    for element in &image[..m] {
+        sum = mixed(sum, wide(*element));
     }
     sum
 }

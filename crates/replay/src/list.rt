@@ -1,135 +1,136 @@
 // The stored list, that oracle/record makes: 1,024 bytes of text that say how and when it was made, then groups. A group is
 // 44 bytes of name, the number of its cases and its form, each in four bytes; then its cases, whole or as rows (rows.rt). A whole
 // case is followed by the answer that is due.
-use super::case;
-use super::rows;
-use super::stdio;
-use super::words;
-use libc::STDOUT_FILENO;
-ghost use Prim.Native.Nat.{_≤_};
+ghost use Rattle.std.specs.Prelude.{◌≤◌, length};
 
-// Writes a line for each group, and before it one for each of its cases whose answer is not the one that is due.
-pub fn replay(
-    data: &mut [u8; 262144],
-    shown: &mut [u8; 262144],
-    image: &mut [u32; 65600],
+use super::case::Room;
+use super::{case, rows, stdio, words};
+use std::io;
+use std::io::{Read, Write};
+
+// Writes a line for each group, and before it one for each of its cases whose answer is not the one that is due. The list is
+// counted by a number that no run uses up, since a proved loop has to end and nothing says that the input does.
+pub fn replay<R: Read, W: Write>(
+    input: &mut R,
+    output: &mut W,
+    room: &mut Room,
     due: &mut [u8; 262144],
-) {
-    stdio::taken(due, 1024);
-    let mut turns = u64::MAX;
-    while turns > 0 && group(data, shown, image, due) {
-        turns -= 1;
+) -> io::Result<()> {
+    stdio::taken(input, due, 1024)?;
+    for _ in 0..u64::MAX {
+        if !group(input, output, room, due)? {
+            break;
+        }
     }
+    Ok(())
 }
 
 // One group. False where the list ends, or has a number of cases that no list has.
-fn group(
-    data: &mut [u8; 262144],
-    shown: &mut [u8; 262144],
-    image: &mut [u32; 65600],
+fn group<R: Read, W: Write>(
+    input: &mut R,
+    output: &mut W,
+    room: &mut Room,
     due: &mut [u8; 262144],
-) -> bool {
+) -> io::Result<bool> {
     let mut name = [0u8; 52];
-    if !stdio::taken(&mut name, 52) {
-        return false;
+    if !stdio::taken(input, &mut name, 52)? {
+        return Ok(false);
     }
     let count = words::word_at(&name, 44);
     if count > 99999 {
-        return false;
+        return Ok(false);
     }
-    let differ = differing(count, words::word_at(&name, 48), data, shown, image, due);
-    stdio::given(&name, 44);
-    report(count, differ);
-    true
+    let form = words::word_at(&name, 48);
+    let differ = differing(input, output, count, form, room, due)?;
+    stdio::given(output, &name, 44)?;
+    report(output, count, differ)?;
+    Ok(true)
 }
 
 // How many of the next cases differ; each is named.
-fn differing(
+fn differing<R: Read, W: Write>(
+    input: &mut R,
+    output: &mut W,
     count: u32,
     form: u32,
-    data: &mut [u8; 262144],
-    shown: &mut [u8; 262144],
-    image: &mut [u32; 65600],
+    room: &mut Room,
     due: &mut [u8; 262144],
-) -> u32 {
-    let mut differ: u32 = 0;
-    let mut i: u32 = 0;
-    while i < count {
-        if !is_held(form, data, shown, image, due) {
-            name_case(i);
+) -> io::Result<u32> {
+    let mut differ = 0u32;
+    for i in 0..count {
+        if !is_held(input, form, room, due)? {
+            name_case(output, i)?;
             differ += 1;
         }
-        i += 1;
     }
-    differ
+    Ok(differ)
 }
 
-fn is_held(
+fn is_held<R: Read>(
+    input: &mut R,
     form: u32,
-    data: &mut [u8; 262144],
-    shown: &mut [u8; 262144],
-    image: &mut [u32; 65600],
+    room: &mut Room,
     due: &mut [u8; 262144],
-) -> bool {
+) -> io::Result<bool> {
     if form == 0 {
-        return is_whole_held(data, shown, image, due);
+        return is_whole_held(input, room, due);
     }
-    rows::is_held(form, data, image)
+    rows::is_held(input, form, room)
 }
 
 // Takes a case and the answer that is due, and compares. False too where the list is cut short.
-fn is_whole_held(
-    data: &mut [u8; 262144],
-    shown: &mut [u8; 262144],
-    image: &mut [u32; 65600],
+fn is_whole_held<R: Read>(
+    input: &mut R,
+    room: &mut Room,
     due: &mut [u8; 262144],
-) -> bool {
+) -> io::Result<bool> {
     let mut head = [0u8; 64];
-    if !case::taken(&mut head, data, shown) {
-        return false;
+    if !case::taken(input, &mut head, room)? {
+        return Ok(false);
     }
-    let said = case::answered(&head, data, shown, image);
-    let is_right = is_said(&said);
-    is_shown(shown, due, case::elements(&head) * 4) && is_right
+    let said = case::answered(&head, room);
+    let is_right = is_said(input, &said)?;
+    let is_image_right = is_shown(input, &room.shown, due, case::elements(&head) * 4)?;
+    Ok(is_image_right && is_right)
 }
 
 // Whether the next eight bytes of the list are these.
-fn is_said(said: &[u8; 8]) -> bool {
+fn is_said<R: Read>(input: &mut R, said: &[u8; 8]) -> io::Result<bool> {
     let mut due = [0u8; 8];
-    if !stdio::taken(&mut due, 8) {
-        return false;
+    if !stdio::taken(input, &mut due, 8)? {
+        return Ok(false);
     }
-    check::same(said, &due)
+    Ok(*said == due)
 }
 
 // Whether the next n bytes of the list are the first n of these.
-fn is_shown(shown: &[u8; 262144], due: &mut [u8; 262144], n: usize) -> bool {
+fn is_shown<R: Read>(
+    input: &mut R,
+    shown: &[u8; 262144],
+    due: &mut [u8; 262144],
+    n: usize,
+) -> io::Result<bool> {
     if 262144 < n {
-        return false;
+        return Ok(false);
     }
-    if !stdio::taken(due, n) {
-        return false;
+    if !stdio::taken(input, due, n)? {
+        return Ok(false);
     }
-    is_same(shown, due, n)
+    Ok(is_same(shown, due, n))
 }
 
 // Whether the first n bytes are the same.
 fn is_same(a: &[u8], b: &[u8], n: usize) -> bool
-    requires { do ⌜ n ≤ (← ⟦a.len()⟧) ⌝ }
-    requires { do ⌜ n ≤ (← ⟦b.len()⟧) ⌝ }
+    requires n_in_bounds { n ≤ length a.now }
+    requires n_in_bounds_2 { n ≤ length b.now }
 {
-    check::same(&a[..n], &b[..n])
+    &a[..n] == &b[..n]
 }
 
-fn name_case(i: u32) {
-    io::write_all(STDOUT_FILENO, b"  case ");
-    io::print_decimal(STDOUT_FILENO, i as u64);
-    io::write_all(STDOUT_FILENO, b" differs\n");
+fn name_case<W: Write>(output: &mut W, i: u32) -> io::Result<()> {
+    writeln!(output, "  case {i} differs")
 }
 
-fn report(count: u32, differ: u32) {
-    io::print_decimal(STDOUT_FILENO, count as u64);
-    io::write_all(STDOUT_FILENO, b" cases, ");
-    io::print_decimal(STDOUT_FILENO, differ as u64);
-    io::write_all(STDOUT_FILENO, b" differ\n");
+fn report<W: Write>(output: &mut W, count: u32, differ: u32) -> io::Result<()> {
+    writeln!(output, "{count} cases, {differ} differ")
 }

@@ -1,5 +1,7 @@
 // Calls every public function by the cases of oracle/PROTOCOL.md, and writes what it answers. With any argument it replays a stored
 // list instead: it compares each answer with the one that the list has for it, and says what differs.
+#![tactic(auto)]
+
 mod call;
 mod call_baking;
 mod call_bits;
@@ -19,35 +21,46 @@ mod rows;
 mod stdio;
 mod words;
 
-fn main() {
-    let mut data = [0u8; 262144];
-    let mut shown = [0u8; 262144];
-    let mut image = [0u32; 65600];
-    if os::arg_count() > 1 {
+use case::Room;
+use std::io::{Read, Write};
+use std::{env, io};
+
+fn main(rt: HostRuntime) -> io::Result<()> {
+    let mut input = rt.stdin();
+    let mut output = rt.stdout();
+    let mut room = Room {
+        data: [0; 262144],
+        shown: [0; 262144],
+        image: [0; 65600],
+    };
+    if env::args(&rt)?.len() > 1 {
         let mut due = [0u8; 262144];
-        list::replay(&mut data, &mut shown, &mut image, &mut due);
-    } else {
-        answer_all(&mut data, &mut shown, &mut image);
+        return list::replay(&mut input, &mut output, &mut room, &mut due);
     }
+    answer_all(&mut input, &mut output, &mut room)
 }
 
-// A proved loop has to end, and nothing says that the input does: it counts down from a number that no run uses up.
-fn answer_all(data: &mut [u8; 262144], shown: &mut [u8; 262144], image: &mut [u32; 65600]) {
-    let mut turns = u64::MAX;
-    while turns > 0 && answer_one(data, shown, image) {
-        turns -= 1;
+// A proved loop has to end, and nothing says that the input does: it counts up to a number that no run reaches.
+fn answer_all<R: Read, W: Write>(input: &mut R, output: &mut W, room: &mut Room) -> io::Result<()> {
+    for _ in 0..u64::MAX {
+        if !answer_one(input, output, room)? {
+            break;
+        }
     }
+    Ok(())
 }
 
-// False where the input has no further case, or an answer cannot be written.
-fn answer_one(data: &mut [u8; 262144], shown: &mut [u8; 262144], image: &mut [u32; 65600]) -> bool {
+// False where the input has no further case. The answer is written at once, since the next case may wait for it.
+fn answer_one<R: Read, W: Write>(
+    input: &mut R,
+    output: &mut W,
+    room: &mut Room,
+) -> io::Result<bool> {
     let mut head = [0u8; 64];
-    if !case::taken(&mut head, data, shown) {
-        return false;
+    if !case::taken(input, &mut head, room)? {
+        return Ok(false);
     }
-    let said = case::answered(&head, data, shown, image);
-    if !stdio::given(&said, 8) {
-        return false;
-    }
-    stdio::given(shown, case::elements(&head) * 4)
+    let said = case::answered(&head, room);
+    stdio::given(output, &said, 8)?;
+    stdio::given(output, &room.shown, case::elements(&head) * 4)
 }

@@ -2,26 +2,35 @@
 // second number and the image that is due. A row is twelve numbers, each of one byte in form 1 and of four bytes in another (number,
 // a, b, c, width, height, bytes, elements, seed, 1 where no block has its difference bit, the answer's number, 0), and the digest in
 // four bytes.
-use super::call;
-use super::case;
-use super::case::Case;
-use super::elements;
-use super::stdio;
-ghost use Prim.Native.Nat.{_<_, _≤_};
+ghost use Rattle.std.specs.Prelude.{◌<◌, ◌≤◌};
+
+use super::case::{Case, Room};
+use super::{call, case, elements, stdio};
+use std::io;
+use std::io::Read;
 
 // Takes a row, and compares. False too where the list is cut short.
-pub fn is_held(form: u32, data: &mut [u8; 262144], image: &mut [u32; 65600]) -> bool {
+pub fn is_held<R: Read>(input: &mut R, form: u32, room: &mut Room) -> io::Result<bool> {
     let mut row = [0u8; 52];
-    if !stdio::taken(&mut row, size_of(form)) {
-        return false;
+    if !stdio::taken(input, &mut row, size_of(form))? {
+        return Ok(false);
     }
-    let c = of_row(&row, form);
-    fill(data, c.n, field(&row, form, 8), field(&row, form, 9) == 1);
-    clear(image, c.m);
-    let said = call::call_on(c, data, image);
-    let sum = elements::digest(image, c.m, said.extra as u64);
-    (elements::wide(said.number) == field(&row, form, 10))
-        & (sum as usize == digest_due(&row, form))
+    Ok(is_due(&row, form, room))
+}
+
+// Whether the row's call answers what the row says.
+fn is_due(row: &[u8; 52], form: u32, room: &mut Room) -> bool {
+    let c = of_row(row, form);
+    fill(
+        &mut room.data,
+        c.n,
+        field(row, form, 8),
+        field(row, form, 9) == 1,
+    );
+    clear(&mut room.image, c.m);
+    let said = call::call_on(c, &room.data, &mut room.image);
+    let sum = elements::digest(&room.image, c.m, said.extra as u64);
+    (elements::wide(said.number) == field(row, form, 10)) & (sum as usize == digest_due(row, form))
 }
 
 // The bytes of a row.
@@ -31,7 +40,7 @@ fn size_of(form: u32) -> usize {
 
 // The k-th number of a row.
 fn field(row: &[u8; 52], form: u32, k: usize) -> usize
-    requires { ⌜ k < 12 ⌝ }
+    requires { k < 12 }
 {
     if form == 1 {
         return numbers::wide(row[k]);
@@ -47,7 +56,7 @@ fn digest_due(row: &[u8; 52], form: u32) -> usize {
 }
 
 fn of_row(row: &[u8; 52], form: u32) -> Case
-    ensures { λ r. ⌜ (r .n ≤ 262144) × (r .m ≤ 65600) ⌝ }
+    ensures { (result.n ≤ 262144) × (result.m ≤ 65600) }
 {
     Case {
         number: field(row, form, 0),
@@ -81,11 +90,9 @@ fn fill(data: &mut [u8], n: usize, seed: usize, plain: bool) {
         return;
     }
     let mut v = seed;
-    let mut i: usize = 0;
-    while i < n {
-        data[i] = byte_of(v, plain);
+    for byte in &mut data[..n] {
+        *byte = byte_of(v, plain);
         v = next(v);
-        i += 1;
     }
 }
 
@@ -93,9 +100,5 @@ fn clear(image: &mut [u32], m: usize) {
     if image.len() < m {
         return;
     }
-    let mut i: usize = 0;
-    while i < m {
-        image[i] = 0x11111111;
-        i += 1;
-    }
+    image[..m].fill(0x11111111);
 }

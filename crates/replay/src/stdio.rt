@@ -1,20 +1,31 @@
-// Bytes from standard input and to standard output.
-use libc::STDIN_FILENO;
-use libc::STDOUT_FILENO;
+// Bytes from the program's input and to its output. An end of the input is no error, since lists and cases end there.
+use std::io;
+use std::io::{ErrorKind, Read, Write};
 
 // Fills the first n bytes. False where the input ends before, or there is no room.
-pub fn taken(part: &mut [u8], n: usize) -> bool {
+pub fn taken<R: Read>(input: &mut R, part: &mut [u8], n: usize) -> io::Result<bool> {
     if part.len() < n {
-        return false;
+        return Ok(false);
     }
-    let got = io::read_full(STDIN_FILENO, &mut part[..n]);
-    got == n
+    match input.read_exact(&mut part[..n]) {
+        Ok(()) => Ok(true),
+        Err(error) => after_end(error),
+    }
 }
 
-// Writes the first n bytes. False where that fails, or there are fewer.
-pub fn given(part: &[u8], n: usize) -> bool {
-    if part.len() < n {
-        return false;
+// False where the input has ended; any other error is handed on.
+fn after_end(error: io::Error) -> io::Result<bool> {
+    if error.kind() == ErrorKind::UnexpectedEof {
+        return Ok(false);
     }
-    io::write_all(STDOUT_FILENO, &part[..n])
+    Err(error)
+}
+
+// Writes the first n bytes. False where there are fewer.
+pub fn given<W: Write>(output: &mut W, part: &[u8], n: usize) -> io::Result<bool> {
+    if part.len() < n {
+        return Ok(false);
+    }
+    output.write_all(&part[..n])?;
+    Ok(true)
 }

@@ -1,18 +1,18 @@
 -- What reads of some bits answer and where the place is after them, counted by hand from M-108's words, as rows of one list: one test
 -- that antt computes over the definitions that the bit reader promises.
 -- Assumes nothing.
-use mathlib.Core.Bool.{Bool, true, _&&_}
-use mathlib.Core.List.{List, [], _∷_}
+use mathlib.Core.Bool.{Bool, true, ◌&&◌}
+use mathlib.Core.List.{List, [], ◌∷◌}
 use Prim.Native.Nat.{ℕ}
 use lib.Dec.{T, eqb}
-use Rattle·numbers.specs.Numbers.{little}
-use Rattle·rules·specs.specs.Bits.{number, refuses, bitsSaid, readVerdict, placeAfter}
-use Rattle·rules·specs.specs.declared.Bits.the-variants.{Value, Refused}
-use Rattle·rules·proofs.proofs.Rows.{same}
+use Rattle.numbers.specs.Numbers.{little}
+use Rattle.rules.specs.Bits.{number, refuses, bits_said, read_verdict, place_after_lem}
+use Rattle.rules.specs.declared.Bits.TheVariants.{Value, Refused}
+use Rattle.rules.proofs.Rows.{same}
 
 -- "is refused with 2"
 answers : Bool
-answers = same (bitsSaid (Value 5)) (0 ∷ 5 ∷ []) && same (bitsSaid Refused) (2 ∷ [])
+answers = same (bits_said (Value 5)) (0 ∷ 5 ∷ []) && same (bits_said Refused) (2 ∷ [])
 
 -- n bits from place p on of some bytes: what is said, and the place after
 record Row : Type 0 where
@@ -28,7 +28,7 @@ read d p n says after = record { bytes = d; place = p; count = n; says = says; a
 every : List Row → Bool
 every [] = true
 every (r ∷ rs) =
-    same (readVerdict (r .bytes) (r .place) (r .count)) (r .says) && eqb (placeAfter (r .bytes) (r .place) (r .count)) (r .after) && every rs
+    same (read_verdict r.bytes r.place r.count) r.says && eqb (place_after_lem r.bytes r.place r.count) r.after && every rs
 
 -- from the lowest bit: 1010 0110, 0100 1101, 1111 0000
 three : List ℕ

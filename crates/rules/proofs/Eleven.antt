@@ -1,20 +1,20 @@
 -- The rows of M-110: whole values in images of 16-bit numbers. The values are Mesa's, whose sixteen bits are 32 times them and more; places,
 -- lengths and answers are worked out by hand from the request's sentences.
 -- Assumes nothing.
-use mathlib.Core.Bool.{Bool, true, false, _&&_}
-use mathlib.Core.List.{List, [], _∷_, _++_}
-use mathlib.Core.Path.{_≡_}
-use Prim.Native.Nat.{ℕ, _+_, _*_, _-_}
+use mathlib.Core.Bool.{Bool, true, false, ◌&&◌}
+use mathlib.Core.List.{List, [], ◌∷◌, ◌++◌}
+use mathlib.Core.Path.{◌≡◌}
+use Prim.Native.Nat.{ℕ, ◌+◌, ◌*◌, ◌-◌}
 use lib.Dec.{T}
 use lib.IntN.{pos}
 use lib.ListN.{length, replicate}
-use Rattle·rules·specs.specs.Notation.{minus}
-use Rattle·rules·specs.specs.Places.{pitched, needed, painted}
-use Rattle·rules·specs.specs.Answers.{said, left}
-use Rattle·rules·specs.specs.Channels.{alphaStep}
-use Rattle·rules·specs.specs.Whole.{byteFrom, eacWhole, wholePixel, wholePicture, wholeVerdict, ReadsWhole}
-use Rattle·rules·specs.specs.declared.Answer.{Answer}
-use Rattle·rules·proofs.proofs.Rows.{bytes, same}
+use Rattle.rules.specs.Notation.{minus}
+use Rattle.rules.specs.Places.{pitched, needed, painted}
+use Rattle.rules.specs.Answers.{said, left}
+use Rattle.rules.specs.Channels.{alpha_step}
+use Rattle.rules.specs.Whole.{byte_from, eac_whole_lem, whole_pixel, whole_picture, whole_verdict, ReadsWhole}
+use Rattle.rules.specs.declared.Answer.{Answer}
+use Rattle.rules.proofs.Rows.{bytes, same}
 
 -- A row says whether the values are signed, how many there are to a pixel, the width, the height and the pitch, and the blocks, each eight
 -- bytes as one number.
@@ -93,14 +93,14 @@ untouched : ℕ → List ℕ
 untouched n = replicate n 0x1111
 
 leaves : Bool → ℕ → ℕ → ℕ → ℕ → List ℕ → List ℕ → List ℕ
-leaves signed n w h p d image = left (wholeVerdict n (pitched w h p) d image) (wholePicture signed n (pitched w h p) d image) image
+leaves signed n w h p d image = left (whole_verdict n (pitched w h p) d image) (whole_picture signed n (pitched w h p) d image) image
 
 holds : Row → Bool
 holds (shows signed n w h p blocks elements spare) =
-    same (wholeVerdict n (pitched w h p) (bytes blocks) (untouched (length elements + spare))) (0 ∷ [])
+    same (whole_verdict n (pitched w h p) (bytes blocks) (untouched (length elements + spare))) (0 ∷ [])
     && same (leaves signed n w h p (bytes blocks) (untouched (length elements + spare))) (elements ++ untouched spare)
 holds (answers signed n w h p count elements verdict) =
-    same (wholeVerdict n (pitched w h p) (replicate count 0) (untouched elements)) verdict
+    same (whole_verdict n (pitched w h p) (replicate count 0) (untouched elements)) verdict
     && same (leaves signed n w h p (replicate count 0) (untouched elements)) (untouched elements)
 
 every : List Row → Bool
@@ -108,25 +108,25 @@ every [] = true
 every (r ∷ rs) = holds r && every rs
 
 -- that is what a reader promises, no less and no more
-no-less : (signed : Bool) (n w h p : ℕ) (d image : List ℕ) (answer : Answer) (new : List ℕ)
+no_less : (signed : Bool) (n w h p : ℕ) (d image : List ℕ) (answer : Answer) (new : List ℕ)
     → ReadsWhole signed n d (pitched w h p) image answer new
-    → (said answer ≡ wholeVerdict n (pitched w h p) d image) × (new ≡ leaves signed n w h p d image)
+    → (said answer ≡ whole_verdict n (pitched w h p) d image) × (new ≡ leaves signed n w h p d image)
 unfolding leaves
-no-less signed n w h p d image answer new o = (o .says, o .leaves)
+no_less signed n w h p d image answer new o = (o.says, o.leaves)
 
-no-more : (signed : Bool) (n w h p : ℕ) (d image : List ℕ) (answer : Answer) (new : List ℕ)
-    → said answer ≡ wholeVerdict n (pitched w h p) d image
+no_more : (signed : Bool) (n w h p : ℕ) (d image : List ℕ) (answer : Answer) (new : List ℕ)
+    → said answer ≡ whole_verdict n (pitched w h p) d image
     → new ≡ leaves signed n w h p d image
     → ReadsWhole signed n d (pitched w h p) image answer new
 unfolding leaves
-no-more signed n w h p d image answer new a b = record { says = a; leaves = b }
+no_more signed n w h p d image answer new a b = record { says = a; leaves = b }
 
 -- "divided by 8, the signed one after adding 1023, rounded down": document 01's bytes of S13 to S15, and the ends of the range
 eighths : List ℕ
 eighths =
-    byteFrom false (pos 1004) ∷ byteFrom false (pos 1025) ∷ byteFrom false (pos 0) ∷ byteFrom false (pos 2047) ∷ byteFrom true (minus 24)
-    ∷ byteFrom true (minus 1023) ∷ byteFrom true (minus 1016) ∷ byteFrom true (minus 1015) ∷ byteFrom true (pos 1023) ∷ []
+    byte_from false (pos 1004) ∷ byte_from false (pos 1025) ∷ byte_from false (pos 0) ∷ byte_from false (pos 2047) ∷ byte_from true (minus 24)
+    ∷ byte_from true (minus 1023) ∷ byte_from true (minus 1016) ∷ byte_from true (minus 1015) ∷ byte_from true (pos 1023) ∷ []
 
 hold : T (same eighths (0x7D ∷ 0x80 ∷ 0 ∷ 255 ∷ 0x7C ∷ 0 ∷ 0 ∷ 1 ∷ 255 ∷ []) && every rows)
-unfolding eighths rows pictures refusals every holds leaves untouched needed painted alphaStep eacWhole wholePixel
+unfolding eighths rows pictures refusals every holds leaves untouched needed painted alpha_step eac_whole_lem whole_pixel
 hold = tt

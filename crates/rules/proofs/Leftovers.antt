@@ -1,10 +1,10 @@
 -- The rows of M-107: strict ETC1 with more bytes than its blocks need, and that no other reader asks.
 -- Assumes nothing.
-use mathlib.Core.List.{List, [], _∷_, _++_}
+use mathlib.Core.List.{List, [], ◌∷◌, ◌++◌}
 use Prim.Native.Nat.{ℕ}
 use lib.ListN.{replicate}
-use Rattle·rules·specs.specs.declared.Format.the-variants.{Etc1, Etc2Rgb, Etc2Rgba1, Etc2Rgba8, EacR, EacRSigned, EacRg, EacRgSigned}
-use Rattle·rules·proofs.proofs.Rows.{Reader, picture, strict, padded, paddedStrict, Row, shows, refuses, answers}
+use Rattle.rules.specs.declared.Format.TheVariants.{Etc1, Etc2Rgb, Etc2Rgba1, Etc2Rgba8, EacR, EacRSigned, EacRg, EacRgSigned}
+use Rattle.rules.proofs.Rows.{Reader, picture, strict, padded, padded_strict, Row, shows, refuses, answers}
 
 -- "the strict reader refuses with 6 when there are more bytes than the blocks need, tested after 2 and before 3": one byte more, one
 -- block more, as many bytes again; of no blocks; where 1 or 12 is due too, and where 3 or 4 is
@@ -18,9 +18,9 @@ longer =
     ∷ answers strict 0 5 1 0 (6 ∷ [])
     ∷ answers strict 0 5 0 0 (0 ∷ [])
     ∷ answers strict 65537 0 1 0 (1 ∷ [])
-    ∷ answers (paddedStrict 4) 5 9 49 69 (12 ∷ [])
-    ∷ answers (paddedStrict 8) 5 9 49 69 (6 ∷ [])
-    ∷ answers (paddedStrict 8) 5 9 49 68 (6 ∷ [])
+    ∷ answers (padded_strict 4) 5 9 49 69 (12 ∷ [])
+    ∷ answers (padded_strict 8) 5 9 49 69 (6 ∷ [])
+    ∷ answers (padded_strict 8) 5 9 49 68 (6 ∷ [])
     ∷ refuses strict 4 4 (0x0400000200000000 ∷ 0xF800000200000000 ∷ []) 16 (6 ∷ [])
     ∷ shows strict 4 4 (0xF800000200000000 ∷ []) (replicate 16 0xFFFF0202) 1
     ∷ []

@@ -1,7 +1,7 @@
 -- Rows from outside: legends, digits, pixels and measurements, each with the answer that is due by Python's floats, rounded to
 -- 32 bits by its struct. Made by: oracle/degrees --record --date 2026-11-15
 -- Assumes nothing.
-use mathlib.Core.List.{List, [], _∷_}
+use mathlib.Core.List.{List, [], ◌∷◌}
 use Prim.Native.Nat.{ℕ}
 
 -- A row has the bits of a legend's one to three values, the digit that it names, the digit that the picture shows, the pixel,

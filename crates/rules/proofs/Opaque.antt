@@ -1,10 +1,10 @@
 -- The rows of M-109: RGBA1 for an opaque-only viewer. The pixels are those that Specimens.antt has of the same blocks under ETC2 RGB;
 -- lengths and answers are worked out by hand from the request's sentences.
 -- Assumes nothing.
-use mathlib.Core.List.{List, [], _∷_, _++_}
+use mathlib.Core.List.{List, [], ◌∷◌, ◌++◌}
 use lib.ListN.{replicate}
-use Rattle·rules·proofs.proofs.Rows.{opaque, paddedOpaque, Row, shows, refuses, answers}
-use Rattle·rules·proofs.proofs.Specimens.{all, rows, columns, one, stays}
+use Rattle.rules.proofs.Rows.{opaque, padded_opaque, Row, shows, refuses, answers}
+use Rattle.rules.proofs.Specimens.{all, rows, columns, one, stays}
 
 -- "Where it accepts, every pixel equals the Khronos RGB reading": S2, S3 and S4, which are T, H and planar, and S6 and S8, differential
 abbrev shown : List Row
@@ -16,7 +16,7 @@ shown =
     ∷ one opaque 0x2400000200000000 (columns 0xFF230202 0xFF020202)
     -- what follows the blocks is not looked at, bytes or a block that is clear
     ∷ shows opaque 4 4 (0xF800000200000000 ∷ 0 ∷ []) (all 0xFFFF0202) 1
-    ∷ shows (paddedOpaque 6) 4 2 (0xF800000200000000 ∷ [])
+    ∷ shows (padded_opaque 6) 4 2 (0xF800000200000000 ∷ [])
     (replicate 4 0xFFFF0202 ++ replicate 2 0x11111111 ++ replicate 4 0xFFFF0202) 1
     ∷ []
 
@@ -31,7 +31,7 @@ clear =
     ∷ stays opaque 0xF80000FDFFFFFFFF (11 ∷ 0 ∷ [])
     ∷ refuses opaque 13 1 (0xF800000200000000 ∷ 0 ∷ 0x0400000200000000 ∷ 0 ∷ []) 13 (11 ∷ 1 ∷ [])
     ∷ refuses opaque 4 9 (0xF800000200000000 ∷ 0x0400000200000000 ∷ 0x000004000000003F ∷ []) 36 (11 ∷ 2 ∷ [])
-    ∷ refuses (paddedOpaque 7) 5 1 (0xF800000200000000 ∷ 0 ∷ []) 5 (11 ∷ 1 ∷ [])
+    ∷ refuses (padded_opaque 7) 5 1 (0xF800000200000000 ∷ 0 ∷ []) 5 (11 ∷ 1 ∷ [])
     ∷ []
 
 -- "Checks 1, 12, 2, 3 come first.": every byte of these is 00, so that 11 is due in each picture that has a block
@@ -46,13 +46,13 @@ first =
     ∷ answers opaque 5 65537 48 45 (1 ∷ [])
     ∷ answers opaque 65536 0 0 0 (0 ∷ [])
     ∷ answers opaque 0 5 1 0 (0 ∷ [])
-    ∷ answers (paddedOpaque 65537) 5 9 48 69 (1 ∷ [])
-    ∷ answers (paddedOpaque 65537) 65537 0 0 0 (1 ∷ [])
-    ∷ answers (paddedOpaque 4) 5 9 47 68 (12 ∷ [])
-    ∷ answers (paddedOpaque 4) 5 9 48 69 (12 ∷ [])
-    ∷ answers (paddedOpaque 8) 5 9 47 68 (2 ∷ [])
-    ∷ answers (paddedOpaque 8) 5 9 48 68 (3 ∷ [])
-    ∷ answers (paddedOpaque 8) 5 9 48 69 (11 ∷ 0 ∷ [])
+    ∷ answers (padded_opaque 65537) 5 9 48 69 (1 ∷ [])
+    ∷ answers (padded_opaque 65537) 65537 0 0 0 (1 ∷ [])
+    ∷ answers (padded_opaque 4) 5 9 47 68 (12 ∷ [])
+    ∷ answers (padded_opaque 4) 5 9 48 69 (12 ∷ [])
+    ∷ answers (padded_opaque 8) 5 9 47 68 (2 ∷ [])
+    ∷ answers (padded_opaque 8) 5 9 48 68 (3 ∷ [])
+    ∷ answers (padded_opaque 8) 5 9 48 69 (11 ∷ 0 ∷ [])
     ∷ []
 
 unfoldable pub opaques : List Row

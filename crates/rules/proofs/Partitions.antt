@@ -1,20 +1,20 @@
 -- The tables of BC7 as the crate texture2ddecoder 0.1.2 has them in its files src/bcn/consts.rs and src/bcn/bc7.rs, entry by entry, and
 -- one test that antt computes: the definitions have the same entries. Made on 2026-11-16 by: oracle/tables --record 2026-11-16
 -- Assumes nothing.
-use mathlib.Core.Bool.{Bool, true, false, _&&_}
-use mathlib.Core.List.{List, [], _∷_}
-use Prim.Native.Nat.{ℕ, zero, suc, _/_, _%_}
+use mathlib.Core.Bool.{Bool, true, false, ◌&&◌}
+use mathlib.Core.List.{List, [], ◌∷◌}
+use Prim.Native.Nat.{ℕ, zero, suc, ◌/◌, ◌%◌}
 use lib.Dec.{T}
-use Rattle·rules·specs.specs.Notation.{build}
-use Rattle·rules·specs.specs.Bptc.{two, three, anchorOfTwo, anchorOfThree1, anchorOfThree2, weightRows, weightsOf, subset, anchor}
-use Rattle·rules·specs.specs.Bc7.{modeTable}
-use Rattle·rules·proofs.proofs.Rows.{same}
+use Rattle.rules.specs.Notation.{build}
+use Rattle.rules.specs.Bptc.{two, three, anchor_of_two, anchor_of_three1, anchor_of_three2, weight_rows, weights_of, subset, anchor}
+use Rattle.rules.specs.Bc7.{mode_table}
+use Rattle.rules.proofs.Rows.{same}
 
 -- The crate has a partition as one number: the subset of pixel i is its digit i, the lowest first, in base 2 of two subsets and in base
--- 4 of three. An anchor is a pixel's number; of subset 0 it is 0 and stands in no table. A mode's row is in the order of `modeTable`.
+-- 4 of three. An anchor is a pixel's number; of subset 0 it is 0 and stands in no table. A mode's row is in the order of `mode_table`.
 
-partitionsOfTwo : List ℕ
-partitionsOfTwo =
+partitions_of_two : List ℕ
+partitions_of_two =
     0xCCCC ∷ 0x8888 ∷ 0xEEEE ∷ 0xECC8 ∷ 0xC880 ∷ 0xFEEC ∷ 0xFEC8 ∷ 0xEC80 ∷
     0xC800 ∷ 0xFFEC ∷ 0xFE80 ∷ 0xE800 ∷ 0xFFE8 ∷ 0xFF00 ∷ 0xFFF0 ∷ 0xF000 ∷
     0xF710 ∷ 0x008E ∷ 0x7100 ∷ 0x08CE ∷ 0x008C ∷ 0x7310 ∷ 0x3100 ∷ 0x8CCE ∷
@@ -25,8 +25,8 @@ partitionsOfTwo =
     0x9336 ∷ 0x9CC6 ∷ 0x817E ∷ 0xE718 ∷ 0xCCF0 ∷ 0x0FCC ∷ 0x7744 ∷ 0xEE22 ∷
     []
 
-partitionsOfThree : List ℕ
-partitionsOfThree =
+partitions_of_three : List ℕ
+partitions_of_three =
     0xAA685050 ∷ 0x6A5A5040 ∷ 0x5A5A4200 ∷ 0x5450A0A8 ∷ 0xA5A50000 ∷ 0xA0A05050 ∷ 0x5555A0A0 ∷ 0x5A5A5050 ∷
     0xAA550000 ∷ 0xAA555500 ∷ 0xAAAA5500 ∷ 0x90909090 ∷ 0x94949494 ∷ 0xA4A4A4A4 ∷ 0xA9A59450 ∷ 0x2A0A4250 ∷
     0xA5945040 ∷ 0x0A425054 ∷ 0xA5A5A500 ∷ 0x55A0A0A0 ∷ 0xA8A85454 ∷ 0x6A6A4040 ∷ 0xA4A45000 ∷ 0x1A1A0500 ∷
@@ -37,24 +37,24 @@ partitionsOfThree =
     0xAAAA1414 ∷ 0xA05050A0 ∷ 0xA0A5A5A0 ∷ 0x96000000 ∷ 0x40804080 ∷ 0xA9A8A9A8 ∷ 0xAAAAAA44 ∷ 0x2A4A5254 ∷
     []
 
-secondOfTwo : List ℕ
-secondOfTwo =
+second_of_two : List ℕ
+second_of_two =
     15 ∷ 15 ∷ 15 ∷ 15 ∷ 15 ∷ 15 ∷ 15 ∷ 15 ∷ 15 ∷ 15 ∷ 15 ∷ 15 ∷ 15 ∷ 15 ∷ 15 ∷ 15 ∷
     15 ∷ 2 ∷ 8 ∷ 2 ∷ 2 ∷ 8 ∷ 8 ∷ 15 ∷ 2 ∷ 8 ∷ 2 ∷ 2 ∷ 8 ∷ 8 ∷ 2 ∷ 2 ∷
     15 ∷ 15 ∷ 6 ∷ 8 ∷ 2 ∷ 8 ∷ 15 ∷ 15 ∷ 2 ∷ 8 ∷ 2 ∷ 2 ∷ 2 ∷ 15 ∷ 15 ∷ 6 ∷
     6 ∷ 2 ∷ 6 ∷ 8 ∷ 15 ∷ 15 ∷ 2 ∷ 2 ∷ 15 ∷ 15 ∷ 15 ∷ 15 ∷ 15 ∷ 2 ∷ 2 ∷ 15 ∷
     []
 
-secondOfThree : List ℕ
-secondOfThree =
+second_of_three : List ℕ
+second_of_three =
     3 ∷ 3 ∷ 15 ∷ 15 ∷ 8 ∷ 3 ∷ 15 ∷ 15 ∷ 8 ∷ 8 ∷ 6 ∷ 6 ∷ 6 ∷ 5 ∷ 3 ∷ 3 ∷
     3 ∷ 3 ∷ 8 ∷ 15 ∷ 3 ∷ 3 ∷ 6 ∷ 10 ∷ 5 ∷ 8 ∷ 8 ∷ 6 ∷ 8 ∷ 5 ∷ 15 ∷ 15 ∷
     8 ∷ 15 ∷ 3 ∷ 5 ∷ 6 ∷ 10 ∷ 8 ∷ 15 ∷ 15 ∷ 3 ∷ 15 ∷ 5 ∷ 15 ∷ 15 ∷ 15 ∷ 15 ∷
     3 ∷ 15 ∷ 5 ∷ 5 ∷ 5 ∷ 8 ∷ 5 ∷ 10 ∷ 5 ∷ 10 ∷ 8 ∷ 13 ∷ 15 ∷ 12 ∷ 3 ∷ 3 ∷
     []
 
-thirdOfThree : List ℕ
-thirdOfThree =
+third_of_three : List ℕ
+third_of_three =
     15 ∷ 8 ∷ 8 ∷ 3 ∷ 15 ∷ 15 ∷ 3 ∷ 8 ∷ 15 ∷ 15 ∷ 15 ∷ 15 ∷ 15 ∷ 15 ∷ 15 ∷ 8 ∷
     15 ∷ 8 ∷ 15 ∷ 3 ∷ 15 ∷ 8 ∷ 15 ∷ 8 ∷ 3 ∷ 15 ∷ 6 ∷ 10 ∷ 15 ∷ 15 ∷ 10 ∷ 8 ∷
     15 ∷ 3 ∷ 15 ∷ 10 ∷ 10 ∷ 8 ∷ 9 ∷ 10 ∷ 6 ∷ 15 ∷ 8 ∷ 15 ∷ 3 ∷ 6 ∷ 6 ∷ 8 ∷
@@ -86,9 +86,9 @@ digits b zero n = []
 digits b (suc k) n = n % b ∷ digits b k (n / b)
 
 -- the rows of a table of partitions
-rowsOf : ℕ → List ℕ → List (List ℕ)
-rowsOf b [] = []
-rowsOf b (w ∷ ws) = digits b 16 w ∷ rowsOf b ws
+rows_of : ℕ → List ℕ → List (List ℕ)
+rows_of b [] = []
+rows_of b (w ∷ ws) = digits b 16 w ∷ rows_of b ws
 
 -- two tables have the same rows
 alike : List (List ℕ) → List (List ℕ) → Bool
@@ -98,15 +98,15 @@ alike (x ∷ xs) [] = false
 alike (x ∷ xs) (y ∷ ys) = same x y && alike xs ys
 
 -- every table has the crate's entries, and no more and no fewer
-same-tables : Bool
-same-tables =
-    alike two (rowsOf 2 partitionsOfTwo)
-    && alike three (rowsOf 4 partitionsOfThree)
-    && same anchorOfTwo secondOfTwo
-    && same anchorOfThree1 secondOfThree
-    && same anchorOfThree2 thirdOfThree
-    && alike weightRows weights
-    && alike modeTable modes
+same_tables : Bool
+same_tables =
+    alike two (rows_of 2 partitions_of_two)
+    && alike three (rows_of 4 partitions_of_three)
+    && same anchor_of_two second_of_two
+    && same anchor_of_three1 second_of_three
+    && same anchor_of_three2 third_of_three
+    && alike weight_rows weights
+    && alike mode_table modes
 
 -- and from partition p on, each is looked up in its own place: the subsets of sixteen pixels, the anchors of subset s, the weights
 subsets : ℕ → ℕ → List (List ℕ) → Bool
@@ -116,16 +116,16 @@ subsets n p (r ∷ rs) = same (build 16 (λ i. subset n p i)) r && subsets n (su
 anchors : ℕ → ℕ → List ℕ → Bool
 anchors n s l = same (build 64 (λ p. anchor n p s)) l
 
-looked-up : Bool
-looked-up =
-    subsets 2 0 (rowsOf 2 partitionsOfTwo)
-    && subsets 3 0 (rowsOf 4 partitionsOfThree)
-    && anchors 2 1 secondOfTwo
-    && anchors 3 1 secondOfThree
-    && anchors 3 2 thirdOfThree
-    && alike (weightsOf 2 ∷ weightsOf 3 ∷ weightsOf 4 ∷ []) weights
+looked_up : Bool
+looked_up =
+    subsets 2 0 (rows_of 2 partitions_of_two)
+    && subsets 3 0 (rows_of 4 partitions_of_three)
+    && anchors 2 1 second_of_two
+    && anchors 3 1 second_of_three
+    && anchors 3 2 third_of_three
+    && alike (weights_of 2 ∷ weights_of 3 ∷ weights_of 4 ∷ []) weights
 
-hold : T (same-tables && looked-up)
-unfolding same-tables looked-up partitionsOfTwo partitionsOfThree secondOfTwo secondOfThree thirdOfThree weights modes digits rowsOf
-    subsets anchors alike two three anchorOfTwo anchorOfThree1 anchorOfThree2 subset anchor modeTable
+hold : T (same_tables && looked_up)
+unfolding same_tables looked_up partitions_of_two partitions_of_three second_of_two second_of_three third_of_three weights modes digits rows_of
+    subsets anchors alike two three anchor_of_two anchor_of_three1 anchor_of_three2 subset anchor mode_table
 hold = tt

@@ -2,28 +2,28 @@
 -- promise. A row has what is asked, and what comes of it, worked out by hand from the request's sentences; the pixels are those that
 -- Specimens.antt and Pitches.antt have of the same blocks.
 -- Assumes nothing.
-use mathlib.Core.Path.{_≡_}
-use mathlib.Core.Bool.{Bool, true, _&&_}
-use mathlib.Core.List.{List, [], _∷_, _++_}
+use mathlib.Core.Path.{◌≡◌}
+use mathlib.Core.Bool.{Bool, true, ◌&&◌}
+use mathlib.Core.List.{List, [], ◌∷◌, ◌++◌}
 use Prim.Native.Nat.{ℕ}
 use lib.Dec.{T}
 use lib.ListN.{length, replicate}
-use Rattle·rules·specs.specs.Places.{sized, pitched, needed, painted}
-use Rattle·rules·specs.specs.Answers.{said, verdict}
-use Rattle·rules·specs.specs.Colour.{differential, wrapped, kindBySums}
-use Rattle·rules·specs.specs.Modes.{tBases, tDistance, hBases, hDistance, planarBases, planarChannel, indexed, rgbPixel, rgba1Pixel, etc1Pixel}
-use Rattle·rules·specs.specs.Channels.{alphaStep, alphaByte, rgba8Pixel, eacValue, eacByte, redPixel, redGreenPixel}
-use Rattle·rules·specs.specs.Formats.{sizeOf, showsOf}
-use Rattle·rules·specs.specs.Pieces.{completed, behindLast, after, imageAfter, startChecks, fresh, Starts, pieceVerdict, ifTaken, Takes, endChecks, Ends}
-use Rattle·rules·specs.specs.Pieces.{held, used, wholes, stateOf, soFar, joined}
-use Rattle·rules·specs.specs.declared.Answer.{Answer}
-use Rattle·rules·specs.specs.declared.Format.{Format}
-use Rattle·rules·specs.specs.declared.Format.the-variants.{Etc1, Etc2Rgba8, EacR}
-use Rattle·rules·specs.specs.declared.Picture.{Picture}
-use Rattle·rules·specs.specs.declared.Progress.{Progress}
-use Rattle·rules·specs.specs.declared.Started.{Started}
-use Rattle·rules·specs.specs.declared.Taken.{Taken}
-use Rattle·rules·proofs.proofs.Rows.{same, untouched}
+use Rattle.rules.specs.Places.{sized, pitched, needed, painted}
+use Rattle.rules.specs.Answers.{said, verdict}
+use Rattle.rules.specs.Colour.{differential, wrapped, kind_by_sums_lem}
+use Rattle.rules.specs.Modes.{t_bases, t_distance, h_bases, h_distance, planar_bases_lem, planar_channel, indexed, rgb_pixel, rgba1_pixel, etc1_pixel}
+use Rattle.rules.specs.Channels.{alpha_step, alpha_byte, rgba8_pixel, eac_value, eac_byte, red_pixel, red_green_pixel}
+use Rattle.rules.specs.Formats.{size_of, shows_of}
+use Rattle.rules.specs.Pieces.{completed, behind_last, after, image_after, start_checks, fresh, Starts, piece_verdict, if_taken, Takes, end_checks, Ends}
+use Rattle.rules.specs.Pieces.{held, used, wholes, state_of, so_far, joined}
+use Rattle.rules.specs.declared.Answer.{Answer}
+use Rattle.rules.specs.declared.Format.{Format}
+use Rattle.rules.specs.declared.Format.TheVariants.{Etc1, Etc2Rgba8, EacR}
+use Rattle.rules.specs.declared.Picture.{Picture}
+use Rattle.rules.specs.declared.Progress.{Progress}
+use Rattle.rules.specs.declared.Started.{Started}
+use Rattle.rules.specs.declared.Taken.{Taken}
+use Rattle.rules.proofs.Rows.{same, untouched}
 
 -- what starting says with so many elements, and the state that it gives; what a piece over so many elements says, the state, the numbers
 -- of blocks painted and of bytes unused, and the image that it leaves; what ending says; the bytes that a state keeps; and what there
@@ -43,37 +43,37 @@ data Asked : Type 0 where
 
 -- a state as its number of bytes taken and its fifteen
 told : Progress → List ℕ
-told p = p .taken ∷ p .kept
+told p = p.taken ∷ p.kept
 
 answer : Asked → List ℕ
-answer (starts p n) = verdict (startChecks p n)
+answer (starts p n) = verdict (start_checks p n)
 answer (begun f p) = told (fresh f p)
-answer (piece p e n) = pieceVerdict p (untouched n)
-answer (state p e n) = told (ifTaken p (untouched n) (after p e) p)
-answer (counts p e n) = ifTaken p (untouched n) (completed p e) 0 ∷ ifTaken p (untouched n) (behindLast p e) (length e) ∷ []
-answer (image p e n) = ifTaken p (untouched n) (imageAfter p e (untouched n)) (untouched n)
-answer (ends p) = verdict (endChecks p)
+answer (piece p e n) = piece_verdict p (untouched n)
+answer (state p e n) = told (if_taken p (untouched n) (after p e) p)
+answer (counts p e n) = if_taken p (untouched n) (completed p e) 0 ∷ if_taken p (untouched n) (behind_last p e) (length e) ∷ []
+answer (image p e n) = if_taken p (untouched n) (image_after p e (untouched n)) (untouched n)
+answer (ends p) = verdict (end_checks p)
 answer (keeps p) = held p
-answer (arrived f p d) = used f p d ∷ wholes f p d ∷ told (stateOf f p d)
-answer (shown f p d n) = soFar f p d (untouched n)
+answer (arrived f p d) = used f p d ∷ wholes f p d ∷ told (state_of f p d)
+answer (shown f p d n) = so_far f p d (untouched n)
 answer (all es) = joined es
 
 -- which is all that is promised
-start-no-less : (f : Format) (p : Picture) (n : ℕ) (r : Started) → Starts f p n r → (said (r .answer) ≡ verdict (startChecks p n)) × (r .progress ≡ fresh f p)
-start-no-less f p n r o = (o .says, o .state)
+start_no_less : (f : Format) (p : Picture) (n : ℕ) (r : Started) → Starts f p n r → (said r.answer ≡ verdict (start_checks p n)) × (r.progress ≡ fresh f p)
+start_no_less f p n r o = (o.says, o.state)
 
-piece-no-less :
+piece_no_less :
     (p : Progress) (e old new : List ℕ) (r : Taken)
     → Takes p e old r new
-    → (said (r .answer) ≡ pieceVerdict p old)
-    × (r .progress ≡ ifTaken p old (after p e) p)
-    × (r .painted ≡ ifTaken p old (completed p e) 0)
-    × (r .unused ≡ ifTaken p old (behindLast p e) (length e))
-    × (new ≡ ifTaken p old (imageAfter p e old) old)
-piece-no-less p e old new r o = (o .says, o .state, o .painted, o .unused, o .leaves)
+    → (said r.answer ≡ piece_verdict p old)
+    × (r.progress ≡ if_taken p old (after p e) p)
+    × (r.painted ≡ if_taken p old (completed p e) 0)
+    × (r.unused ≡ if_taken p old (behind_last p e) (length e))
+    × (new ≡ if_taken p old (image_after p e old) old)
+piece_no_less p e old new r o = (o.says, o.state, o.painted, o.unused, o.leaves)
 
-end-no-less : (p : Progress) (a : Answer) → Ends p a → said a ≡ verdict (endChecks p)
-end-no-less p a o = o
+end_no_less : (p : Progress) (a : Answer) → Ends p a → said a ≡ verdict (end_checks p)
+end_no_less p a o = o
 
 record Row : Type 0 where
   asked : Asked
@@ -84,7 +84,7 @@ row a v = record { asked = a; says = v }
 
 every : List Row → Bool
 every [] = true
-every (r ∷ rs) = same (answer (r .asked)) (r .says) && every rs
+every (r ∷ rs) = same (answer r.asked) r.says && every rs
 
 -- a state of a picture: so many bytes taken, and these kept; zeros, or what a forged state has, behind them
 reading : Format → Picture → ℕ → List ℕ → Progress
@@ -185,7 +185,7 @@ rows =
     ∷ []
 
 hold : T (every rows)
-unfolding told answer row every reading wide first four some alpha rows needed painted differential wrapped kindBySums
-    tBases tDistance hBases hDistance planarBases planarChannel indexed rgbPixel rgba1Pixel etc1Pixel alphaStep
-    alphaByte rgba8Pixel eacValue eacByte redPixel redGreenPixel sizeOf showsOf
+unfolding told answer row every reading wide first four some alpha rows needed painted differential wrapped kind_by_sums_lem
+    t_bases t_distance h_bases h_distance planar_bases_lem planar_channel indexed rgb_pixel rgba1_pixel etc1_pixel alpha_step
+    alpha_byte rgba8_pixel eac_value eac_byte red_pixel red_green_pixel size_of shows_of
 hold = tt

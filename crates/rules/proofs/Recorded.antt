@@ -4,9 +4,9 @@
 -- Made on 2026-11-16 by: oracle/specimens --seed 1 --date 2026-11-16
 -- Assumes nothing.
 use mathlib.Core.Bool.{true, false}
-use mathlib.Core.List.{List, [], _∷_}
-use Rattle·rules·proofs.proofs.Rows.{Row, picture, strict, opaque, block, alphaHalf, channel, alphaInto, packed, joins, refuses}
-use Rattle·rules·specs.specs.declared.Format.the-variants.{Etc1, Etc2Rgb, Etc2Rgba1, Etc2Rgba8, EacR, EacRSigned, EacRg, EacRgSigned, Bc1, Bc1Alpha, Bc3, Bc7, Bc2, Bc4, Bc4Signed, Bc5, Bc5Signed}
+use mathlib.Core.List.{List, [], ◌∷◌}
+use Rattle.rules.proofs.Rows.{Row, picture, strict, opaque, block, alpha_half, channel, alpha_into, packed, joins, refuses}
+use Rattle.rules.specs.declared.Format.TheVariants.{Etc1, Etc2Rgb, Etc2Rgba1, Etc2Rgba8, EacR, EacRSigned, EacRg, EacRgSigned, Bc1, Bc1Alpha, Bc3, Bc7, Bc2, Bc4, Bc4Signed, Bc5, Bc5Signed}
 
 unfoldable pub recorded : List Row
 recorded =
@@ -133,13 +133,13 @@ recorded =
     ∷ 0xFFFF5100_FFFF1D00_FF83D300_FFB0FA00 ∷ [])
     0
     -- the alpha half alone
-    ∷ joins (alphaHalf) 4 4
+    ∷ joins (alpha_half) 4 4
     (0x2904907D_4D4FD15B ∷ [])
     17
     (0xB663A8F4_129A20A3_B8463C96_1BA4B77F_4BE0EB2F_4C1BB3B6_0067EDC1_AF45FF0B_922BCC42_75FD5AB7_E1FE3706_5053DC5A_7B753531_60E223C4_692D2D1C_0DB74B65_87593412 ∷ [])
     (0x2963A8F4_299A20A3_29463C96_29A4B77F_29E0EB2F_291BB3B6_2967EDC1_2945FF0B_292BCC42_29FD5AB7_29FE3706_2953DC5A_29753531_29E223C4_292D2D1C_29B74B65_87593412 ∷ [])
     -- the alpha half alone
-    ∷ joins (alphaHalf) 4 4
+    ∷ joins (alpha_half) 4 4
     (0x5F92B487_590693F5 ∷ [])
     17
     (0xE46472B1_9DEF1A19_A52FE19D_4F063F25_58EF1CE4_0302BDCF_06579278_259A761F_710EB2DD_B8EBBD27_AEBB42D6_B87CAC95_8309CB5D_A49465AC_E0036E49_99BF2662_FCE644C0 ∷ [])
@@ -551,25 +551,25 @@ recorded =
     ∷ 0xFF4A6552_DF9CB662_FFC6DF6B_FF9CB662 ∷ [])
     0
     -- a BC3 alpha half into a channel
-    ∷ joins (alphaInto 0) 4 4
+    ∷ joins (alpha_into 0) 4 4
     (0xA95235B0_77029C99 ∷ [])
     17
     (0x3BDC1074_0167DE9B_BAE495CB_89F8CD9E_56B143A4_6965A9B7_74C161C5_4B3FDAE6_15C89BE8_FED5ECB1_46F5B2FC_01DE8B7D_64316ED2_2682BD85_91DEB57A_70A3673E_13176F4B ∷ [])
     (0x3BDC1077_0167DE6A_BAE495A9_89F8CDA9_56B14390_6965A95E_74C16177_4B3FDA90_15C89B9C_FED5ECA9_46F5B2A9_01DE8B6A_64316E52_2682BD90_91DEB56A_70A36783_13176F4B ∷ [])
     -- a BC3 alpha half into a channel
-    ∷ joins (alphaInto 1) 4 4
+    ∷ joins (alpha_into 1) 4 4
     (0x0CEC9B2E_92D05301 ∷ [])
     17
     (0xAA574E03_6D1D588F_6B7A4511_974D4DAF_F0CC2234_E47F571C_2182B039_370D92F9_075A38EC_7C9EFD10_46C8F3CA_8BFF2356_6B57E18B_EA75D323_55029325_62FC8ADE_0EB1CC4D ∷ [])
     (0xAA576503_6D1D658F_6B7A3811_974DFFAF_F0CC3834_E47F921C_21829239_370D92F9_075A0CEC_7C9E3810_46C8FFCA_8BFFEC56_6B57BF8B_EA753823_55020C25_62FC0CDE_0EB1CC4D ∷ [])
     -- a BC3 alpha half into a channel
-    ∷ joins (alphaInto 2) 4 4
+    ∷ joins (alpha_into 2) 4 4
     (0xDE1F34E2_B9B63E69 ∷ [])
     17
     (0x1F5E327C_3D6418F4_A666AB2A_CCE9B369_59E49C28_1B657D8F_7B9F591E_FC211B3D_FBC28A50_06837CEF_2909925A_42C17D45_6F01BF61_68AEEFCD_8678B40B_69E1687F_15D82332 ∷ [])
     (0x1F8C327C_3D5518F4_A6DEAB2A_CC1FB369_59559C28_1BA77D8F_7B55591E_FC701B3D_FB558A50_06557CEF_29C2925A_423A7D45_6FA7BF61_68C2EFCD_86C2B40B_69A7687F_15D82332 ∷ [])
     -- a BC3 alpha half into a channel
-    ∷ joins (alphaInto 3) 4 4
+    ∷ joins (alpha_into 3) 4 4
     (0x34EFB59E_158B7D8F ∷ [])
     17
     (0xB0D488CE_1EE8B09B_05807342_301BBC27_7467CA8E_5E38A96F_3E3FC761_40F287DB_7E366491_43231DEC_7BF40ACA_6EC70470_0B4EE466_A399EE1B_90D5F258_425E15D7_2BE169D2 ∷ [])

@@ -1,13 +1,13 @@
 -- What a specimen is: a reader, what is lent to it, what it must say, and the image that it must leave. It cites no rule.
 -- Assumes nothing.
-use mathlib.Core.Bool.{Bool, true, false, _&&_}
-use mathlib.Core.List.{List, [], _∷_, _++_}
-use Prim.Native.Nat.{ℕ, zero, suc, _+_, _/_, _%_}
+use mathlib.Core.Bool.{Bool, true, false, ◌&&◌}
+use mathlib.Core.List.{List, [], ◌∷◌, ◌++◌}
+use Prim.Native.Nat.{ℕ, zero, suc, ◌+◌, ◌/◌, ◌%◌}
 use lib.Dec.{eqb}
 use lib.ListN.{length, replicate}
-use Rattle·rules·specs.specs.declared.Format.{Format}
-use Rattle·rules·specs.specs.declared.Kind.{Kind}
-use Rattle·rules·specs.specs.declared.Kind.the-variants.{Individual, Differential, T, H, Planar}
+use Rattle.rules.specs.declared.Format.{Format}
+use Rattle.rules.specs.declared.Kind.{Kind}
+use Rattle.rules.specs.declared.Kind.TheVariants.{Individual, Differential, T, H, Planar}
 
 -- a picture of a format, a strict one, an opaque one, all three with a pitch, a block of a format, the alpha half alone, a channel alone,
 -- and a BC3 alpha half into a channel
@@ -16,12 +16,12 @@ pub data Reader : Type 0 where
   strict : Reader
   opaque : Reader
   padded : Format → ℕ → Reader
-  paddedStrict : ℕ → Reader
-  paddedOpaque : ℕ → Reader
+  padded_strict : ℕ → Reader
+  padded_opaque : ℕ → Reader
   block : Format → Reader
-  alphaHalf : Reader
+  alpha_half : Reader
   channel : Bool → ℕ → Reader
-  alphaInto : ℕ → Reader
+  alpha_into : ℕ → Reader
 
 -- A row names the reader, the width and the height (4 and 4 of a block), and the blocks, each eight bytes as one number.
 -- shows: accepted, these pixels are painted over elements of 11111111 (hex), and so many more stay as they are
@@ -68,14 +68,14 @@ abbrev pub accepted : Reader → ℕ → ℕ → List ℕ → List ℕ → ℕ �
 accepted r w h d pixels spare =
     record { reader = r; width = w; height = h; lent = d; image = untouched (length pixels + spare); says = 0 ∷ []; leaves = pixels ++ untouched spare }
 
-abbrev pub caseOf : Row → Case
-caseOf (shows r w h blocks pixels spare) = accepted r w h (bytes blocks) pixels spare
-caseOf (packed r w h blocks across lines spare) = accepted r w h (bytes blocks) (elements across lines) spare
-caseOf (joins r w h blocks across old new) =
+abbrev pub case_of : Row → Case
+case_of (shows r w h blocks pixels spare) = accepted r w h (bytes blocks) pixels spare
+case_of (packed r w h blocks across lines spare) = accepted r w h (bytes blocks) (elements across lines) spare
+case_of (joins r w h blocks across old new) =
     record { reader = r; width = w; height = h; lent = bytes blocks; image = elements across old; says = 0 ∷ []; leaves = elements across new }
-caseOf (refuses r w h blocks n verdict) =
+case_of (refuses r w h blocks n verdict) =
     record { reader = r; width = w; height = h; lent = bytes blocks; image = untouched n; says = verdict; leaves = untouched n }
-caseOf (answers r w h count n verdict) =
+case_of (answers r w h count n verdict) =
     record { reader = r; width = w; height = h; lent = replicate count 0; image = untouched n; says = verdict; leaves = untouched n }
 
 abbrev pub same : List ℕ → List ℕ → Bool
@@ -85,9 +85,9 @@ same (x ∷ xs) [] = false
 same (x ∷ xs) (y ∷ ys) = eqb x y && same xs ys
 
 -- kinds, as numbers in the order of their enum
-abbrev pub kindNumber : Kind → ℕ
-kindNumber Individual = 0
-kindNumber Differential = 1
-kindNumber T = 2
-kindNumber H = 3
-kindNumber Planar = 4
+abbrev pub kind_number : Kind → ℕ
+kind_number Individual = 0
+kind_number Differential = 1
+kind_number T = 2
+kind_number H = 3
+kind_number Planar = 4

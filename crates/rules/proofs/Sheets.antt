@@ -1,38 +1,38 @@
 -- Sheets of our own, written out byte by byte from the request's sentences, as rows of one list: one test that antt computes over
 -- the very definitions that the readers and the writer promise. A row has what is asked, and what comes of it.
 -- Assumes nothing.
-use mathlib.Core.Path.{_≡_}
-use mathlib.Core.Bool.{Bool, true, cond, _&&_}
-use mathlib.Core.List.{List, [], _∷_, _++_}
-use Prim.Native.Nat.{ℕ, _/_, _%_}
+use mathlib.Core.Path.{◌≡◌}
+use mathlib.Core.Bool.{Bool, true, cond, ◌&&◌}
+use mathlib.Core.List.{List, [], ◌∷◌, ◌++◌}
+use Prim.Native.Nat.{ℕ, ◌/◌, ◌%◌}
 use lib.Dec.{T}
 use lib.ListN.{length, replicate}
-use Rattle·numbers.specs.Numbers.{little, inBytes}
-use Rattle·rules·specs.specs.Places.{sized, needed, painted}
-use Rattle·rules·specs.specs.Answers.{said, accepts, left}
-use Rattle·rules·specs.specs.Colour.{differential, wrapped, kindBySums}
-use Rattle·rules·specs.specs.Modes.{tBases, tDistance, hBases, hDistance, planarBases, planarChannel, indexed, rgbPixel, rgba1Pixel, etc1Pixel}
-use Rattle·rules·specs.specs.Channels.{alphaStep, alphaByte, rgba8Pixel, eacValue, eacByte, redPixel, redGreenPixel}
-use Rattle·rules·specs.specs.Formats.{sizeOf, showsOf}
-use Rattle·rules·specs.specs.Records.{walked, kept}
-use Rattle·rules·specs.specs.Sheets.{formatOf, told, headVerdict, TellsHead, readVerdict, sheetPicture, ReadsSheet, sheetOf, writeVerdict, sheetOver, WritesSheet}
-use Rattle·rules·specs.specs.declared.Answer.{Answer}
-use Rattle·rules·specs.specs.declared.Answer.the-variants.{CutShort, NoHead, OtherKind, WrongBlocks}
-use Rattle·rules·specs.specs.declared.Picture.{Picture}
-use Rattle·rules·specs.specs.declared.Sheet.{Sheet}
-use Rattle·rules·specs.specs.declared.Sheet.the-variants.{Holds, Refused}
-use Rattle·rules·specs.specs.declared.Written.{Written}
-use Rattle·rules·proofs.proofs.Rows.{same, untouched}
+use Rattle.numbers.specs.Numbers.{little, in_bytes}
+use Rattle.rules.specs.Places.{sized, needed, painted}
+use Rattle.rules.specs.Answers.{said, accepts, left}
+use Rattle.rules.specs.Colour.{differential, wrapped, kind_by_sums_lem}
+use Rattle.rules.specs.Modes.{t_bases, t_distance, h_bases, h_distance, planar_bases_lem, planar_channel, indexed, rgb_pixel, rgba1_pixel, etc1_pixel}
+use Rattle.rules.specs.Channels.{alpha_step, alpha_byte, rgba8_pixel, eac_value, eac_byte, red_pixel, red_green_pixel}
+use Rattle.rules.specs.Formats.{size_of, shows_of}
+use Rattle.rules.specs.Records.{walked, kept}
+use Rattle.rules.specs.Sheets.{format_of, told, head_verdict, TellsHead, read_verdict, sheet_picture, ReadsSheet, sheet_of, write_verdict, sheet_over, WritesSheet}
+use Rattle.rules.specs.declared.Answer.{Answer}
+use Rattle.rules.specs.declared.Answer.TheVariants.{CutShort, NoHead, OtherKind, WrongBlocks}
+use Rattle.rules.specs.declared.Picture.{Picture}
+use Rattle.rules.specs.declared.Sheet.{Sheet}
+use Rattle.rules.specs.declared.Sheet.TheVariants.{Holds, Refused}
+use Rattle.rules.specs.declared.Written.{Written}
+use Rattle.rules.proofs.Rows.{same, untouched}
 
 -- what an answer says; what a sheet says of its head; what its reader says with so many elements, and the image that it leaves; what
 -- the writer says with so much room, and the room that it leaves
 data Asked : Type 0 where
   say : Sheet → Asked
-  head-of : List ℕ → Asked
+  head_of : List ℕ → Asked
   read : List ℕ → ℕ → Asked
-  image-of : List ℕ → ℕ → Asked
+  image_of : List ℕ → ℕ → Asked
   write : ℕ → Picture → List ℕ → ℕ → Asked
-  room-of : ℕ → Picture → List ℕ → ℕ → Asked
+  room_of : ℕ → Picture → List ℕ → ℕ → Asked
 
 -- a byte of the room before
 room : ℕ → List ℕ
@@ -40,29 +40,29 @@ room n = replicate n 0xEE
 
 answer : Asked → List ℕ
 answer (say s) = told s
-answer (head-of d) = headVerdict d
-answer (read d n) = readVerdict d n
-answer (image-of d n) = left (readVerdict d n) (sheetPicture d (untouched n)) (untouched n)
-answer (write f p b n) = writeVerdict f p b n
-answer (room-of f p b n) = left (writeVerdict f p b n) (sheetOver f p b (room n)) (room n)
+answer (head_of d) = head_verdict d
+answer (read d n) = read_verdict d n
+answer (image_of d n) = left (read_verdict d n) (sheet_picture d (untouched n)) (untouched n)
+answer (write f p b n) = write_verdict f p b n
+answer (room_of f p b n) = left (write_verdict f p b n) (sheet_over f p b (room n)) (room n)
 
 -- which is all that is promised
-head-no-less : (d : List ℕ) (s : Sheet) → TellsHead d s → told s ≡ headVerdict d
-head-no-less d s p = p
+head_no_less : (d : List ℕ) (s : Sheet) → TellsHead d s → told s ≡ head_verdict d
+head_no_less d s p = p
 
-read-no-less :
+read_no_less :
     (d image new : List ℕ) (a : Answer)
     → ReadsSheet d image a new
-    → (said a ≡ readVerdict d (length image)) × (new ≡ left (readVerdict d (length image)) (sheetPicture d image) image)
-read-no-less d image new a o = (o .says, o .leaves)
+    → (said a ≡ read_verdict d (length image)) × (new ≡ left (read_verdict d (length image)) (sheet_picture d image) image)
+read_no_less d image new a o = (o.says, o.leaves)
 
-write-no-less :
+write_no_less :
     (f : ℕ) (p : Picture) (b out new : List ℕ) (w : Written)
     → WritesSheet f p b out w new
-    → (said (w .answer) ≡ writeVerdict f p b (length out))
-    × (new ≡ left (writeVerdict f p b (length out)) (sheetOver f p b out) out)
-    × (w .bytes ≡ cond (accepts (writeVerdict f p b (length out))) (length (sheetOf f p b)) 0)
-write-no-less f p b out new w o = (o .outcome .says, o .outcome .leaves, o .bytes)
+    → (said w.answer ≡ write_verdict f p b (length out))
+    × (new ≡ left (write_verdict f p b (length out)) (sheet_over f p b out) out)
+    × (w.bytes ≡ cond (accepts (write_verdict f p b (length out))) (length (sheet_of f p b)) 0)
+write_no_less f p b out new w o = (o.outcome.says, o.outcome.leaves, o.bytes)
 
 record Row : Type 0 where
   asked : Asked
@@ -73,7 +73,7 @@ row a v = record { asked = a; says = v }
 
 every : List Row → Bool
 every [] = true
-every (r ∷ rs) = same (answer (r .asked)) (r .says) && every rs
+every (r ∷ rs) = same (answer r.asked) r.says && every rs
 
 -- a record: its length and its kind in bytes, the least first
 rec : ℕ → ℕ → List ℕ → List ℕ
@@ -99,7 +99,7 @@ good f = 0 ∷ f ∷ 4 ∷ 3 ∷ []
 -- one pixel of a format, and what it shows: one element, and the next as it was
 one : ℕ → List ℕ → ℕ → Row
 one f b pixel =
-    row (image-of (headed f (1 ∷ 0 ∷ 0 ∷ 0 ∷ []) (1 ∷ 0 ∷ 0 ∷ 0 ∷ []) ++ rec (length b) 2 b) 2) (pixel ∷ 0x11111111 ∷ [])
+    row (image_of (headed f (1 ∷ 0 ∷ 0 ∷ 0 ∷ []) (1 ∷ 0 ∷ 0 ∷ 0 ∷ []) ++ rec (length b) 2 b) 2) (pixel ∷ 0x11111111 ∷ [])
 
 rows : List Row
 rows =
@@ -120,61 +120,61 @@ rows =
     ∷ one 6 (128 ∷ 16 ∷ replicate 14 0) 0xFF7D0000
     ∷ one 7 (replicate 16 0) 0xFF7F7F00
     -- fields of two bytes and more: 257 by 2 has 65 blocks; 16,384 by 0; 65,540 and 16,777,220 are too large, and so are 3 by 16,385
-    ∷ row (head-of (headed 0 (1 ∷ 1 ∷ 0 ∷ 0 ∷ []) (2 ∷ 0 ∷ 0 ∷ 0 ∷ []) ++ some 520)) (0 ∷ 0 ∷ 257 ∷ 2 ∷ [])
-    ∷ row (head-of (headed 7 (0 ∷ 64 ∷ 0 ∷ 0 ∷ []) (0 ∷ 0 ∷ 0 ∷ 0 ∷ []) ++ some 0)) (0 ∷ 7 ∷ 16384 ∷ 0 ∷ [])
-    ∷ row (head-of (headed 0 (4 ∷ 0 ∷ 1 ∷ 0 ∷ []) (3 ∷ 0 ∷ 0 ∷ 0 ∷ []) ++ some 8)) (1 ∷ [])
-    ∷ row (head-of (headed 0 (4 ∷ 0 ∷ 0 ∷ 1 ∷ []) (3 ∷ 0 ∷ 0 ∷ 0 ∷ []) ++ some 8)) (1 ∷ [])
-    ∷ row (head-of (headed 0 (3 ∷ 0 ∷ 0 ∷ 0 ∷ []) (1 ∷ 64 ∷ 0 ∷ 0 ∷ []) ++ some 8)) (1 ∷ [])
-    ∷ row (head-of (headed 0 (4 ∷ 0 ∷ 0 ∷ 0 ∷ []) (3 ∷ 0 ∷ 0 ∷ 1 ∷ []) ++ some 8)) (1 ∷ [])
+    ∷ row (head_of (headed 0 (1 ∷ 1 ∷ 0 ∷ 0 ∷ []) (2 ∷ 0 ∷ 0 ∷ 0 ∷ []) ++ some 520)) (0 ∷ 0 ∷ 257 ∷ 2 ∷ [])
+    ∷ row (head_of (headed 7 (0 ∷ 64 ∷ 0 ∷ 0 ∷ []) (0 ∷ 0 ∷ 0 ∷ 0 ∷ []) ++ some 0)) (0 ∷ 7 ∷ 16384 ∷ 0 ∷ [])
+    ∷ row (head_of (headed 0 (4 ∷ 0 ∷ 1 ∷ 0 ∷ []) (3 ∷ 0 ∷ 0 ∷ 0 ∷ []) ++ some 8)) (1 ∷ [])
+    ∷ row (head_of (headed 0 (4 ∷ 0 ∷ 0 ∷ 1 ∷ []) (3 ∷ 0 ∷ 0 ∷ 0 ∷ []) ++ some 8)) (1 ∷ [])
+    ∷ row (head_of (headed 0 (3 ∷ 0 ∷ 0 ∷ 0 ∷ []) (1 ∷ 64 ∷ 0 ∷ 0 ∷ []) ++ some 8)) (1 ∷ [])
+    ∷ row (head_of (headed 0 (4 ∷ 0 ∷ 0 ∷ 0 ∷ []) (3 ∷ 0 ∷ 0 ∷ 1 ∷ []) ++ some 8)) (1 ∷ [])
     -- skipped records before and after the blocks
-    ∷ row (head-of (head 3 ++ note ++ some 16 ++ note ++ note)) (good 3)
-    ∷ row (image-of (head 0 ++ note ++ rec 8 2 (128 ∷ 0 ∷ 0 ∷ 2 ∷ replicate 4 0)) 12) (replicate 12 0xFF860202)
+    ∷ row (head_of (head 3 ++ note ++ some 16 ++ note ++ note)) (good 3)
+    ∷ row (image_of (head 0 ++ note ++ rec 8 2 (128 ∷ 0 ∷ 0 ∷ 2 ∷ replicate 4 0)) 12) (replicate 12 0xFF860202)
     -- and an empty one: what stands behind it is read
-    ∷ row (head-of (head 0 ++ rec 0 0x8000 [] ++ some 8)) (good 0)
+    ∷ row (head_of (head 0 ++ rec 0 0x8000 [] ++ some 8)) (good 0)
     -- no bytes at all; five bytes; a head that lacks one byte; a length of FFFFFFFF, and of 1000000 (hex)
-    ∷ row (head-of []) (7 ∷ [])
-    ∷ row (head-of (9 ∷ 0 ∷ 0 ∷ 0 ∷ 1 ∷ [])) (7 ∷ [])
-    ∷ row (head-of (rec 9 1 (replicate 8 0))) (7 ∷ [])
-    ∷ row (head-of (head 0 ++ 255 ∷ 255 ∷ 255 ∷ 255 ∷ 3 ∷ 0 ∷ [])) (7 ∷ [])
-    ∷ row (head-of (head 0 ++ 0 ∷ 0 ∷ 0 ∷ 1 ∷ 3 ∷ 0 ∷ [])) (7 ∷ [])
+    ∷ row (head_of []) (7 ∷ [])
+    ∷ row (head_of (9 ∷ 0 ∷ 0 ∷ 0 ∷ 1 ∷ [])) (7 ∷ [])
+    ∷ row (head_of (rec 9 1 (replicate 8 0))) (7 ∷ [])
+    ∷ row (head_of (head 0 ++ 255 ∷ 255 ∷ 255 ∷ 255 ∷ 3 ∷ 0 ∷ [])) (7 ∷ [])
+    ∷ row (head_of (head 0 ++ 0 ∷ 0 ∷ 0 ∷ 1 ∷ 3 ∷ 0 ∷ [])) (7 ∷ [])
     -- in one record 7 before 8, and 7 before 9, before the blocks and behind them
-    ∷ row (head-of (rec 8 3 [])) (7 ∷ [])
-    ∷ row (head-of (head 0 ++ rec 1 3 [])) (7 ∷ [])
-    ∷ row (head-of (head 0 ++ some 8 ++ rec 1 3 [])) (7 ∷ [])
+    ∷ row (head_of (rec 8 3 [])) (7 ∷ [])
+    ∷ row (head_of (head 0 ++ rec 1 3 [])) (7 ∷ [])
+    ∷ row (head_of (head 0 ++ some 8 ++ rec 1 3 [])) (7 ∷ [])
     -- not kind 1, not 9 long, format above 7; and 8 before 1
-    ∷ row (head-of (rec 9 2 (replicate 9 0) ++ some 0)) (8 ∷ [])
-    ∷ row (head-of note) (8 ∷ [])
+    ∷ row (head_of (rec 9 2 (replicate 9 0) ++ some 0)) (8 ∷ [])
+    ∷ row (head_of note) (8 ∷ [])
     -- "anywhere after the first": before the head a record of kind 8000 is not skipped
-    ∷ row (head-of (note ++ head 0 ++ some 8)) (8 ∷ [])
+    ∷ row (head_of (note ++ head 0 ++ some 8)) (8 ∷ [])
     ∷ row (read (note ++ head 0 ++ some 8) 12) (8 ∷ [])
-    ∷ row (head-of (rec 8 1 (replicate 8 0) ++ some 0)) (8 ∷ [])
-    ∷ row (head-of (rec 10 1 (replicate 10 0) ++ some 0)) (8 ∷ [])
-    ∷ row (head-of (head 8 ++ some 8)) (8 ∷ [])
-    ∷ row (head-of (headed 8 (1 ∷ 64 ∷ 0 ∷ 0 ∷ []) (3 ∷ 0 ∷ 0 ∷ 0 ∷ []))) (8 ∷ [])
+    ∷ row (head_of (rec 8 1 (replicate 8 0) ++ some 0)) (8 ∷ [])
+    ∷ row (head_of (rec 10 1 (replicate 10 0) ++ some 0)) (8 ∷ [])
+    ∷ row (head_of (head 8 ++ some 8)) (8 ∷ [])
+    ∷ row (head_of (headed 8 (1 ∷ 64 ∷ 0 ∷ 0 ∷ []) (3 ∷ 0 ∷ 0 ∷ 0 ∷ []))) (8 ∷ [])
     -- too large, whatever follows
-    ∷ row (head-of (headed 0 (1 ∷ 64 ∷ 0 ∷ 0 ∷ []) (3 ∷ 0 ∷ 0 ∷ 0 ∷ []) ++ 1 ∷ [])) (1 ∷ [])
+    ∷ row (head_of (headed 0 (1 ∷ 64 ∷ 0 ∷ 0 ∷ []) (3 ∷ 0 ∷ 0 ∷ 0 ∷ []) ++ 1 ∷ [])) (1 ∷ [])
     -- another kind: 0, 3, 7FFF; a second kind 1; 9 before a missing block record
-    ∷ row (head-of (head 0 ++ some 8 ++ rec 0 0 [])) (9 ∷ [])
-    ∷ row (head-of (head 0 ++ some 8 ++ rec 0 0x8000 [] ++ rec 0 3 [])) (9 ∷ [])
-    ∷ row (head-of (head 0 ++ rec 0 3 [] ++ some 8)) (9 ∷ [])
-    ∷ row (head-of (head 0 ++ rec 0 0x7FFF [] ++ some 8)) (9 ∷ [])
-    ∷ row (head-of (head 0 ++ head 0 ++ some 8)) (9 ∷ [])
-    ∷ row (head-of (head 0 ++ some 8 ++ head 0)) (9 ∷ [])
+    ∷ row (head_of (head 0 ++ some 8 ++ rec 0 0 [])) (9 ∷ [])
+    ∷ row (head_of (head 0 ++ some 8 ++ rec 0 0x8000 [] ++ rec 0 3 [])) (9 ∷ [])
+    ∷ row (head_of (head 0 ++ rec 0 3 [] ++ some 8)) (9 ∷ [])
+    ∷ row (head_of (head 0 ++ rec 0 0x7FFF [] ++ some 8)) (9 ∷ [])
+    ∷ row (head_of (head 0 ++ head 0 ++ some 8)) (9 ∷ [])
+    ∷ row (head_of (head 0 ++ some 8 ++ head 0)) (9 ∷ [])
     -- no block record, a second one, one too short, one too long
-    ∷ row (head-of (head 0)) (10 ∷ [])
-    ∷ row (head-of (head 0 ++ note)) (10 ∷ [])
-    ∷ row (head-of (head 0 ++ some 8 ++ some 8)) (10 ∷ [])
-    ∷ row (head-of (head 0 ++ some 7)) (10 ∷ [])
-    ∷ row (head-of (head 0 ++ some 9)) (10 ∷ [])
+    ∷ row (head_of (head 0)) (10 ∷ [])
+    ∷ row (head_of (head 0 ++ note)) (10 ∷ [])
+    ∷ row (head_of (head 0 ++ some 8 ++ some 8)) (10 ∷ [])
+    ∷ row (head_of (head 0 ++ some 7)) (10 ∷ [])
+    ∷ row (head_of (head 0 ++ some 9)) (10 ∷ [])
     -- the first fault wins: a wrong length, then a cut record
-    ∷ row (head-of (head 0 ++ some 7 ++ 1 ∷ [])) (10 ∷ [])
+    ∷ row (head_of (head 0 ++ some 7 ++ 1 ∷ [])) (10 ∷ [])
     -- an empty picture has a block record of no bytes
-    ∷ row (head-of (headed 0 (4 ∷ 0 ∷ 0 ∷ 0 ∷ []) (replicate 4 0))) (10 ∷ [])
+    ∷ row (head_of (headed 0 (4 ∷ 0 ∷ 0 ∷ 0 ∷ []) (replicate 4 0))) (10 ∷ [])
     -- image length 3 when it is short by one, and after 10; a refusal paints nothing
     ∷ row (read (head 0 ++ some 8) 12) (0 ∷ [])
     ∷ row (read (head 0 ++ some 8) 11) (3 ∷ [])
     ∷ row (read (head 0 ++ some 7) 11) (10 ∷ [])
-    ∷ row (image-of (head 0 ++ some 8) 2) (untouched 2)
+    ∷ row (image_of (head 0 ++ some 8) 2) (untouched 2)
     -- the writer: 8, 1, 10, 3, in that order
     ∷ row (write 8 (sized 16385 3) [] 0) (8 ∷ [])
     ∷ row (write 7 (sized 16385 3) [] 0) (1 ∷ [])
@@ -184,15 +184,15 @@ rows =
     ∷ row (write 7 (sized 4 3) (replicate 16 5) 36) (3 ∷ [])
     ∷ row (write 7 (sized 4 3) (replicate 16 5) 37) (0 ∷ [])
     -- what it writes, byte by byte, and what it leaves when it refuses
-    ∷ row (room-of 0 (sized 4 3) (replicate 8 5) 31) (head 0 ++ some 8 ++ room 2)
-    ∷ row (room-of 7 (sized 16384 0) [] 21) (headed 7 (0 ∷ 64 ∷ 0 ∷ 0 ∷ []) (replicate 4 0) ++ some 0)
-    ∷ row (room-of 2 (sized 257 2) (replicate 520 5) 541) (headed 2 (1 ∷ 1 ∷ 0 ∷ 0 ∷ []) (2 ∷ 0 ∷ 0 ∷ 0 ∷ []) ++ some 520)
-    ∷ row (room-of 0 (sized 4 3) (replicate 8 5) 28) (room 28)
+    ∷ row (room_of 0 (sized 4 3) (replicate 8 5) 31) (head 0 ++ some 8 ++ room 2)
+    ∷ row (room_of 7 (sized 16384 0) [] 21) (headed 7 (0 ∷ 64 ∷ 0 ∷ 0 ∷ []) (replicate 4 0) ++ some 0)
+    ∷ row (room_of 2 (sized 257 2) (replicate 520 5) 541) (headed 2 (1 ∷ 1 ∷ 0 ∷ 0 ∷ []) (2 ∷ 0 ∷ 0 ∷ 0 ∷ []) ++ some 520)
+    ∷ row (room_of 0 (sized 4 3) (replicate 8 5) 28) (room 28)
     ∷ []
 
 hold : T (every rows)
-unfolding room answer row every rec headed head some note good one rows little inBytes walked kept formatOf headVerdict
-    readVerdict sheetOf writeVerdict needed painted differential wrapped kindBySums tBases tDistance hBases hDistance planarBases
-    planarChannel indexed rgbPixel rgba1Pixel etc1Pixel alphaStep alphaByte rgba8Pixel eacValue eacByte redPixel redGreenPixel
-    sizeOf showsOf
+unfolding room answer row every rec headed head some note good one rows little in_bytes walked kept format_of head_verdict
+    read_verdict sheet_of write_verdict needed painted differential wrapped kind_by_sums_lem t_bases t_distance h_bases h_distance planar_bases_lem
+    planar_channel indexed rgb_pixel rgba1_pixel etc1_pixel alpha_step alpha_byte rgba8_pixel eac_value eac_byte red_pixel red_green_pixel
+    size_of shows_of
 hold = tt

@@ -2,11 +2,11 @@
 -- Held.antt has the test.
 -- Assumes nothing.
 use mathlib.Core.Bool.{true, false}
-use mathlib.Core.List.{List, [], _∷_, _++_}
+use mathlib.Core.List.{List, [], ◌∷◌, ◌++◌}
 use Prim.Native.Nat.{ℕ}
 use lib.ListN.{replicate}
-use Rattle·rules·specs.specs.declared.Format.the-variants.{Etc1, Etc2Rgb, Etc2Rgba1, Etc2Rgba8, EacR, EacRSigned, EacRg, EacRgSigned, Bc1, Bc1Alpha, Bc3, Bc7, Bc2, Bc4, Bc4Signed, Bc5, Bc5Signed}
-use Rattle·rules·proofs.proofs.Rows.{Reader, picture, strict, block, alphaHalf, channel, alphaInto, Row, shows, refuses, answers}
+use Rattle.rules.specs.declared.Format.TheVariants.{Etc1, Etc2Rgb, Etc2Rgba1, Etc2Rgba8, EacR, EacRSigned, EacRg, EacRgSigned, Bc1, Bc1Alpha, Bc3, Bc7, Bc2, Bc4, Bc4Signed, Bc5, Bc5Signed}
+use Rattle.rules.proofs.Rows.{Reader, picture, strict, block, alpha_half, channel, alpha_into, Row, shows, refuses, answers}
 
 -- one colour everywhere; rows of the tile; two columns and two columns
 abbrev pub all : ℕ → List ℕ
@@ -48,9 +48,9 @@ bench =
     ∷ one strict 0x2400000200000000 (columns 0xFF230202 0xFF020202)
     ∷ stays strict 0x1C00000200000000 (4 ∷ 0 ∷ [])
     -- S10 to S12
-    ∷ one alphaHalf 0x8010000000000000 (all 0x7D111111)
-    ∷ one alphaHalf 0x8000000000000000 (all 0x80111111)
-    ∷ one alphaHalf 0x0210000000000000 (all 0x00111111)
+    ∷ one alpha_half 0x8010000000000000 (all 0x7D111111)
+    ∷ one alpha_half 0x8000000000000000 (all 0x80111111)
+    ∷ one alpha_half 0x0210000000000000 (all 0x00111111)
     -- S13 to S15
     ∷ one (picture EacR) 0x8010000000000000 (all 0xFF7D0000)
     ∷ one (picture EacR) 0x8000000000000000 (all 0xFF800000)
@@ -93,14 +93,14 @@ refusals reader short enough =
     ∷ []
 
 -- "block readers check 5, then 2 (fewer than 8 or 16 bytes), then 3 (fewer than 16 elements)"
-abbrev pub blockRefusals : Reader → ℕ → ℕ → List Row
-blockRefusals reader short enough =
+abbrev pub block_refusals : Reader → ℕ → ℕ → List Row
+block_refusals reader short enough =
     answers reader 4 4 short 16 (2 ∷ []) ∷ answers reader 4 4 enough 15 (3 ∷ []) ∷ answers reader 4 4 short 15 (2 ∷ []) ∷ []
 
 -- "channel above 3"
-abbrev pub channelRefusals : (ℕ → Reader) → List Row
-channelRefusals into =
-    answers (into 4) 4 4 8 16 (5 ∷ []) ∷ answers (into 4) 4 4 7 15 (5 ∷ []) ∷ blockRefusals (into 3) 7 8
+abbrev pub channel_refusals : (ℕ → Reader) → List Row
+channel_refusals into =
+    answers (into 4) 4 4 8 16 (5 ∷ []) ∷ answers (into 4) 4 4 7 15 (5 ∷ []) ∷ block_refusals (into 3) 7 8
 
 unfoldable pub table : List Row
 table =
@@ -123,24 +123,24 @@ table =
     ++ refusals (picture Bc5Signed) 95 96
     ++ refusals strict 47 48
     ++ (refuses strict 4 4 (0x0400000200000000 ∷ []) 15 (3 ∷ []) ∷ [])
-    ++ blockRefusals (block Etc1) 7 8
-    ++ blockRefusals (block Etc2Rgb) 7 8
-    ++ blockRefusals (block Etc2Rgba1) 7 8
-    ++ blockRefusals (block Etc2Rgba8) 15 16
-    ++ blockRefusals (block EacR) 7 8
-    ++ blockRefusals (block EacRSigned) 7 8
-    ++ blockRefusals (block EacRg) 15 16
-    ++ blockRefusals (block EacRgSigned) 15 16
-    ++ blockRefusals (block Bc1) 7 8
-    ++ blockRefusals (block Bc1Alpha) 7 8
-    ++ blockRefusals (block Bc3) 15 16
-    ++ blockRefusals (block Bc7) 15 16
-    ++ blockRefusals (block Bc2) 15 16
-    ++ blockRefusals (block Bc4) 7 8
-    ++ blockRefusals (block Bc4Signed) 7 8
-    ++ blockRefusals (block Bc5) 15 16
-    ++ blockRefusals (block Bc5Signed) 15 16
-    ++ blockRefusals alphaHalf 7 8
-    ++ channelRefusals (channel false)
-    ++ channelRefusals (channel true)
-    ++ channelRefusals alphaInto
+    ++ block_refusals (block Etc1) 7 8
+    ++ block_refusals (block Etc2Rgb) 7 8
+    ++ block_refusals (block Etc2Rgba1) 7 8
+    ++ block_refusals (block Etc2Rgba8) 15 16
+    ++ block_refusals (block EacR) 7 8
+    ++ block_refusals (block EacRSigned) 7 8
+    ++ block_refusals (block EacRg) 15 16
+    ++ block_refusals (block EacRgSigned) 15 16
+    ++ block_refusals (block Bc1) 7 8
+    ++ block_refusals (block Bc1Alpha) 7 8
+    ++ block_refusals (block Bc3) 15 16
+    ++ block_refusals (block Bc7) 15 16
+    ++ block_refusals (block Bc2) 15 16
+    ++ block_refusals (block Bc4) 7 8
+    ++ block_refusals (block Bc4Signed) 7 8
+    ++ block_refusals (block Bc5) 15 16
+    ++ block_refusals (block Bc5Signed) 15 16
+    ++ block_refusals alpha_half 7 8
+    ++ channel_refusals (channel false)
+    ++ channel_refusals (channel true)
+    ++ channel_refusals alpha_into

@@ -1,31 +1,31 @@
 -- The rows of the two checks without an image: what they say of some blocks, and of so many bytes of 00. Answers are worked out by hand:
 -- 1, 2 and, of strict ETC1, 6, in that order, and then the first bad block.
 -- Assumes nothing.
-use mathlib.Core.Bool.{Bool, _&&_}
-use mathlib.Core.List.{List, [], _∷_}
-use mathlib.Core.Path.{_≡_}
+use mathlib.Core.Bool.{Bool, ◌&&◌}
+use mathlib.Core.List.{List, [], ◌∷◌}
+use mathlib.Core.Path.{◌≡◌}
 use Prim.Native.Nat.{ℕ}
 use lib.Dec.{T}
 use lib.ListN.{replicate}
-use Rattle·rules·specs.specs.Places.{sized}
-use Rattle·rules·specs.specs.Answers.{said, firstOf}
-use Rattle·rules·specs.specs.Colour.{outOfRange}
-use Rattle·rules·specs.specs.Formats.{sizeOf}
-use Rattle·rules·specs.specs.Readers.{strictCheck, opaqueCheck, ChecksStrict, ChecksOpaque}
-use Rattle·rules·specs.specs.declared.Answer.{Answer}
-use Rattle·rules·specs.specs.declared.Picture.{Picture}
-use Rattle·rules·proofs.proofs.Rows.{same, bytes as eights}
+use Rattle.rules.specs.Places.{sized}
+use Rattle.rules.specs.Answers.{said, first_of}
+use Rattle.rules.specs.Colour.{out_of_range_lem}
+use Rattle.rules.specs.Formats.{size_of}
+use Rattle.rules.specs.Readers.{strict_check, opaque_check, ChecksStrict, ChecksOpaque}
+use Rattle.rules.specs.declared.Answer.{Answer}
+use Rattle.rules.specs.declared.Picture.{Picture}
+use Rattle.rules.proofs.Rows.{same, bytes as eights}
 
 -- what is promised
-strict-no-less : (d : List ℕ) (p : Picture) (a : Answer) → ChecksStrict d p a → said a ≡ strictCheck p d
-strict-no-less d p a o = o
+strict_no_less : (d : List ℕ) (p : Picture) (a : Answer) → ChecksStrict d p a → said a ≡ strict_check p d
+strict_no_less d p a o = o
 
-opaque-no-less : (d : List ℕ) (p : Picture) (a : Answer) → ChecksOpaque d p a → said a ≡ opaqueCheck p d
-opaque-no-less d p a o = o
+opaque_no_less : (d : List ℕ) (p : Picture) (a : Answer) → ChecksOpaque d p a → said a ≡ opaque_check p d
+opaque_no_less d p a o = o
 
 -- the size, the bytes, and what each of the two says
 says : ℕ → ℕ → List ℕ → List ℕ → List ℕ → Bool
-says w h d strict opaque = same (strictCheck (sized w h) d) strict && same (opaqueCheck (sized w h) d) opaque
+says w h d strict opaque = same (strict_check (sized w h) d) strict && same (opaque_check (sized w h) d) opaque
 
 zeros : ℕ → List ℕ
 zeros n = replicate n 0
@@ -49,5 +49,5 @@ specimens =
     && says 0 5 (zeros 1) (6 ∷ []) (0 ∷ [])
 
 hold : T specimens
-unfolding says zeros specimens firstOf outOfRange sizeOf
+unfolding says zeros specimens first_of out_of_range_lem size_of
 hold = tt

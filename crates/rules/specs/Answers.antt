@@ -1,18 +1,13 @@
 -- The answers, what each says on paper, and the order of the checks.
 -- Assumes nothing.
-use mathlib.Core.Bool.{Bool, cond, _||_}
-use mathlib.Core.List.{List, [], _∷_}
-use mathlib.Core.Path.{_≡_}
-use Prim.Native.Nat.{ℕ, zero, suc, _*_}
-use lib.Dec.{ltb, eqb}
-use lib.ListN.{getD}
-use Rattle·rules·specs.specs.Places.{needed, blocks}
-use Rattle·rules·specs.specs.declared.Picture.{Picture}
-use Rattle·rules·specs.specs.declared.Answer.{Answer}
-use Rattle·rules·specs.specs.declared.Answer.the-variants.{Done, TooLarge, ShortData, ShortImage, OutOfRange, NoChannel, LongData}
-use Rattle·rules·specs.specs.declared.Answer.the-variants.{CutShort, NoHead, OtherKind, WrongBlocks, NotOpaque, ShortPitch}
-use Rattle·rules·specs.specs.declared.Answer.the-variants.{HeaderCut, UnknownContainer, UnknownVersion, UnknownFormat, SizesDisagree}
-use Rattle·rules·specs.specs.declared.Answer.the-variants.{NotFlat, NoPixel, LevelsMissing, NoLevel, Supercompressed}
+use Rattle.std.specs.Prelude.{Bool, cond, ◌||◌, List, [], ◌∷◌, ◌≡◌, ℕ, zero, suc, ◌*◌, ltb, eqb, get_or}
+use Rattle.rules.specs.Places.{needed, blocks}
+use Rattle.rules.specs.declared.Picture.{Picture}
+use Rattle.rules.specs.declared.Answer.{Answer}
+use Rattle.rules.specs.declared.Answer.TheVariants.{Done, TooLarge, ShortData, ShortImage, OutOfRange, NoChannel, LongData}
+use Rattle.rules.specs.declared.Answer.TheVariants.{CutShort, NoHead, OtherKind, WrongBlocks, NotOpaque, ShortPitch}
+use Rattle.rules.specs.declared.Answer.TheVariants.{HeaderCut, UnknownContainer, UnknownVersion, UnknownFormat, SizesDisagree}
+use Rattle.rules.specs.declared.Answer.TheVariants.{NotFlat, NoPixel, LevelsMissing, NoLevel, Supercompressed}
 
 -- the table of refusals: the number of each, and what it "also returns"
 abbrev pub said : Answer → List ℕ
@@ -69,16 +64,16 @@ answers =
     ∷ []
 
 -- and the answer that says a number and a value: the first of them with that number
-abbrev pub findAnswer : List (ℕ → Answer) → ℕ → ℕ → Answer
-findAnswer [] n v = Done
-findAnswer (a ∷ rest) n v = cond (eqb (getD (said (a 0)) 0 0) n) (a v) (findAnswer rest n v)
+abbrev pub find_answer : List (ℕ → Answer) → ℕ → ℕ → Answer
+find_answer [] n v = Done
+find_answer (a ∷ rest) n v = cond (eqb (get_or (said (a 0)) 0 0) n) (a v) (find_answer rest n v)
 
-abbrev pub answerOf : List ℕ → Answer
-answerOf l = findAnswer answers (getD l 0 0) (getD l 1 0)
+abbrev pub answer_of : List ℕ → Answer
+answer_of l = find_answer answers (get_or l 0 0) (get_or l 1 0)
 
 -- number 0 is "done", and every other is a refusal
 abbrev pub accepts : List ℕ → Bool
-accepts verdict = eqb (getD verdict 0 0) 0
+accepts verdict = eqb (get_or verdict 0 0) 0
 
 -- A row of that table as a check: the refusal's number, and whether it fails, "given exactly when".
 pub record Check : Type 0 where
@@ -91,88 +86,88 @@ refusal n due = record { number = n; fails = due }
 -- "Pictures check 1, 2, 3, 4 in that order": the first check that fails is the answer, and where none does, what comes then
 abbrev pub judged : List Check → List ℕ → List ℕ
 judged [] then = then
-judged (c ∷ cs) then = cond (c .fails) (c .number ∷ []) (judged cs then)
+judged (c ∷ cs) then = cond c.fails (c.number ∷ []) (judged cs then)
 
 -- "width or height above 16,384": the check over any limit
-abbrev pub tooLarge : ℕ → Picture → Bool
-tooLarge most p = ltb most (p .width) || ltb most (p .height)
+abbrev pub too_large_lem : ℕ → Picture → Bool
+too_large_lem most p = ltb most p.width || ltb most p.height
 
-abbrev pub sidesCheck : ℕ → Picture → Check
-sidesCheck most p = refusal 1 (tooLarge most p)
+abbrev pub sides_check : ℕ → Picture → Check
+sides_check most p = refusal 1 (too_large_lem most p)
 
 -- "The limit in refusal 1 rises to 65,536 for width, height and pitch." (M-104)
 abbrev pub limit : ℕ
 limit = 65536
 
-abbrev pub overLimit : Picture → Bool
-overLimit p = tooLarge limit p || ltb limit (p .pitch)
+abbrev pub over_limit_lem : Picture → Bool
+over_limit_lem p = too_large_lem limit p || ltb limit p.pitch
 
-abbrev pub limitCheck : Picture → Check
-limitCheck p = refusal 1 (overLimit p)
+abbrev pub limit_check : Picture → Check
+limit_check p = refusal 1 (over_limit_lem p)
 
 -- "A pitch below the width is refused with 12" (M-104)
-abbrev pub pitchCheck : Picture → Check
-pitchCheck p = refusal 12 (ltb (p .pitch) (p .width))
+abbrev pub pitch_check : Picture → Check
+pitch_check p = refusal 12 (ltb p.pitch p.width)
 
 -- "fewer bytes than blocks * block size": than are needed
-abbrev pub dataCheck : ℕ → ℕ → Check
-dataCheck needed bytes = refusal 2 (ltb bytes needed)
+abbrev pub data_check : ℕ → ℕ → Check
+data_check needed bytes = refusal 2 (ltb bytes needed)
 
 -- "fewer image elements than width * height", or than M-104 asks for: likewise
-abbrev pub imageCheck : ℕ → ℕ → Check
-imageCheck needed elements = refusal 3 (ltb elements needed)
+abbrev pub image_check : ℕ → ℕ → Check
+image_check needed elements = refusal 3 (ltb elements needed)
 
 -- "channel above 3"
-abbrev pub channelCheck : ℕ → Check
-channelCheck channel = refusal 5 (ltb 3 channel)
+abbrev pub channel_check : ℕ → Check
+channel_check channel = refusal 5 (ltb 3 channel)
 
 -- "Pictures check 1, 2, 3, 4 in that order", and 12 is "tested after 1" (M-104): 1, 12, 2 and 3, of a picture in blocks of s bytes,
 -- given so many bytes and an image of so many elements
-abbrev pub pictureChecks : ℕ → Picture → ℕ → ℕ → List Check
-pictureChecks s p bytes elements =
-    limitCheck p ∷ pitchCheck p ∷ dataCheck (blocks p * s) bytes ∷ imageCheck (needed p) elements ∷ []
+abbrev pub picture_checks : ℕ → Picture → ℕ → ℕ → List Check
+picture_checks s p bytes elements =
+    limit_check p ∷ pitch_check p ∷ data_check (blocks p * s) bytes ∷ image_check (needed p) elements ∷ []
 
 -- "the strict reader refuses with 6 when there are more bytes than the blocks need" (M-107)
-abbrev pub leftoverCheck : ℕ → ℕ → Check
-leftoverCheck needed bytes = refusal 6 (ltb needed bytes)
+abbrev pub leftover_check : ℕ → ℕ → Check
+leftover_check needed bytes = refusal 6 (ltb needed bytes)
 
 -- those four, and 6, "tested after 2 and before 3" (M-107): of a reader that wants "an exact data length"
-abbrev pub exactChecks : ℕ → Picture → ℕ → ℕ → List Check
-exactChecks s p bytes elements =
-    limitCheck p
-    ∷ pitchCheck p
-    ∷ dataCheck (blocks p * s) bytes
-    ∷ leftoverCheck (blocks p * s) bytes
-    ∷ imageCheck (needed p) elements
+abbrev pub exact_checks : ℕ → Picture → ℕ → ℕ → List Check
+exact_checks s p bytes elements =
+    limit_check p
+    ∷ pitch_check p
+    ∷ data_check (blocks p * s) bytes
+    ∷ leftover_check (blocks p * s) bytes
+    ∷ image_check (needed p) elements
     ∷ []
 
 -- the checks of what is lent no image: 1 and 2, "in that order", and where the length must be exact, 6 after them
-abbrev pub dataChecks : ℕ → Picture → ℕ → List Check
-dataChecks s p bytes = sidesCheck limit p ∷ dataCheck (blocks p * s) bytes ∷ []
+abbrev pub data_checks : ℕ → Picture → ℕ → List Check
+data_checks s p bytes = sides_check limit p ∷ data_check (blocks p * s) bytes ∷ []
 
-abbrev pub exactDataChecks : ℕ → Picture → ℕ → List Check
-exactDataChecks s p bytes =
-    sidesCheck limit p ∷ dataCheck (blocks p * s) bytes ∷ leftoverCheck (blocks p * s) bytes ∷ []
+abbrev pub exact_data_checks : ℕ → Picture → ℕ → List Check
+exact_data_checks s p bytes =
+    sides_check limit p ∷ data_check (blocks p * s) bytes ∷ leftover_check (blocks p * s) bytes ∷ []
 
 -- the verdict of a reader that has nothing more to check
 abbrev pub verdict : List Check → List ℕ
 verdict checks = judged checks (0 ∷ [])
 
 -- the first of the places 0 .. n - 1 at which a test holds, or n where there is none
-unfoldable pub firstOf : (ℕ → Bool) → ℕ → ℕ
-firstOf test zero = zero
-firstOf test (suc n) = cond (ltb (firstOf test n) n) (firstOf test n) (cond (test n) n (suc n))
+unfoldable pub first_of : (ℕ → Bool) → ℕ → ℕ
+first_of test zero = zero
+first_of test (suc n) = cond (ltb (first_of test n) n) (first_of test n) (cond (test n) n (suc n))
 
 -- check 4, and 11, over the number and the test that a block must not meet: "number of the first such block, from 0"
 abbrev pub guarded : ℕ → (ℕ → Bool) → ℕ → List ℕ
-guarded number test n = cond (ltb (firstOf test n) n) (number ∷ firstOf test n ∷ []) (0 ∷ [])
+guarded number test n = cond (ltb (first_of test n) n) (number ∷ first_of test n ∷ []) (0 ∷ [])
 
 -- "block readers check 5, then 2 (fewer than 8 or 16 bytes), then 3 (fewer than 16 elements)"
-abbrev pub blockChecks : ℕ → ℕ → ℕ → List Check
-blockChecks s bytes elements = dataCheck s bytes ∷ imageCheck 16 elements ∷ []
+abbrev pub block_checks : ℕ → ℕ → ℕ → List Check
+block_checks s bytes elements = data_check s bytes ∷ image_check 16 elements ∷ []
 
-abbrev pub channelChecks : ℕ → ℕ → ℕ → List Check
-channelChecks channel bytes elements = channelCheck channel ∷ blockChecks 8 bytes elements
+abbrev pub channel_checks : ℕ → ℕ → ℕ → List Check
+channel_checks channel bytes elements = channel_check channel ∷ block_checks 8 bytes elements
 
 -- "On 1 to 5 no element changes", and so on every later refusal: what is left of an image that `after` would have painted
 abbrev pub left : List ℕ → List ℕ → List ℕ → List ℕ

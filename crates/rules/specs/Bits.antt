@@ -1,13 +1,9 @@
 -- The bits of a list of bytes, and what a read of some of them answers (M-108 of document 02).
 -- Assumes nothing.
-use mathlib.Core.Bool.{Bool, cond, _||_}
-use mathlib.Core.List.{List, [], _∷_}
-use Prim.Native.Nat.{ℕ, _+_, _*_, _/_, _%_, _^_}
-use lib.Dec.{ltb}
-use lib.ListN.{length}
-use Rattle·numbers.specs.Numbers.{little}
-use Rattle·rules·specs.specs.declared.Bits.{Bits}
-use Rattle·rules·specs.specs.declared.Bits.the-variants.{Value, Refused}
+use Rattle.std.specs.Prelude.{Bool, cond, ◌||◌, List, [], ◌∷◌, ℕ, ◌+◌, ◌*◌, ◌/◌, ◌%◌, ◌^◌, ltb, length}
+use Rattle.numbers.specs.Numbers.{little}
+use Rattle.rules.specs.declared.Bits.{Bits}
+use Rattle.rules.specs.declared.Bits.TheVariants.{Value, Refused}
 
 -- the bytes as one number, the first byte lowest: bit i of the bytes is bit i of this number
 unfoldable pub number : List ℕ → ℕ
@@ -17,8 +13,8 @@ number d = little (length d) 0 d
 abbrev pub field : ℕ → ℕ → ℕ → ℕ
 field v p n = v / 2 ^ p % 2 ^ n
 
-abbrev pub fieldAt : List ℕ → ℕ → ℕ → ℕ
-fieldAt d p n = field (number d) p n
+abbrev pub field_at : List ℕ → ℕ → ℕ → ℕ
+field_at d p n = field (number d) p n
 
 -- n bits from bit p on are "past the lent bytes"; a place beyond 64 bits can't be named, and is past them too
 abbrev pub lacks : List ℕ → ℕ → ℕ → Bool
@@ -29,13 +25,13 @@ unfoldable pub refuses : List ℕ → ℕ → ℕ → Bool
 refuses d p n = ltb 8 n || lacks d p n
 
 -- a read's answer as document 01 has answers, a number and its values: "is refused with 2"
-abbrev pub bitsSaid : Bits → List ℕ
-bitsSaid (Value v) = 0 ∷ v ∷ []
-bitsSaid Refused = 2 ∷ []
+abbrev pub bits_said : Bits → List ℕ
+bits_said (Value v) = 0 ∷ v ∷ []
+bits_said Refused = 2 ∷ []
 
 -- what a read answers, and where the place is after it: "the place kept"
-abbrev pub readVerdict : List ℕ → ℕ → ℕ → List ℕ
-readVerdict d p n = cond (refuses d p n) (2 ∷ []) (0 ∷ fieldAt d p n ∷ [])
+abbrev pub read_verdict : List ℕ → ℕ → ℕ → List ℕ
+read_verdict d p n = cond (refuses d p n) (2 ∷ []) (0 ∷ field_at d p n ∷ [])
 
-abbrev pub placeAfter : List ℕ → ℕ → ℕ → ℕ
-placeAfter d p n = cond (refuses d p n) p (p + n)
+abbrev pub place_after_lem : List ℕ → ℕ → ℕ → ℕ
+place_after_lem d p n = cond (refuses d p n) p (p + n)

@@ -1,9 +1,7 @@
 -- The tables of the BPTC chapter (M-108 of document 02): which subset each pixel of a partition is in, the anchors, and the weights.
 -- docs/DECISIONS.md, "BC7", says with what they were compared.
 -- Assumes nothing.
-use mathlib.Core.List.{List, [], _∷_}
-use Prim.Native.Nat.{ℕ, _-_}
-use lib.ListN.{getD}
+use Rattle.std.specs.Prelude.{List, [], ◌∷◌, ℕ, ◌-◌, get_or}
 
 -- partitions of two subsets: the subset of each pixel, row by row
 unfoldable pub two : List (List ℕ)
@@ -144,8 +142,8 @@ three =
     []
 
 -- the anchor of subset 1 of two
-unfoldable pub anchorOfTwo : List ℕ
-anchorOfTwo =
+unfoldable pub anchor_of_two : List ℕ
+anchor_of_two =
     15 ∷ 15 ∷ 15 ∷ 15 ∷ 15 ∷ 15 ∷ 15 ∷ 15 ∷ 15 ∷ 15 ∷ 15 ∷ 15 ∷ 15 ∷ 15 ∷ 15 ∷ 15 ∷
     15 ∷ 2 ∷ 8 ∷ 2 ∷ 2 ∷ 8 ∷ 8 ∷ 15 ∷ 2 ∷ 8 ∷ 2 ∷ 2 ∷ 8 ∷ 8 ∷ 2 ∷ 2 ∷
     15 ∷ 15 ∷ 6 ∷ 8 ∷ 2 ∷ 8 ∷ 15 ∷ 15 ∷ 2 ∷ 8 ∷ 2 ∷ 2 ∷ 2 ∷ 15 ∷ 15 ∷ 6 ∷
@@ -153,8 +151,8 @@ anchorOfTwo =
     []
 
 -- the anchor of subset 1 of three
-unfoldable pub anchorOfThree1 : List ℕ
-anchorOfThree1 =
+unfoldable pub anchor_of_three1 : List ℕ
+anchor_of_three1 =
     3 ∷ 3 ∷ 15 ∷ 15 ∷ 8 ∷ 3 ∷ 15 ∷ 15 ∷ 8 ∷ 8 ∷ 6 ∷ 6 ∷ 6 ∷ 5 ∷ 3 ∷ 3 ∷
     3 ∷ 3 ∷ 8 ∷ 15 ∷ 3 ∷ 3 ∷ 6 ∷ 10 ∷ 5 ∷ 8 ∷ 8 ∷ 6 ∷ 8 ∷ 5 ∷ 15 ∷ 15 ∷
     8 ∷ 15 ∷ 3 ∷ 5 ∷ 6 ∷ 10 ∷ 8 ∷ 15 ∷ 15 ∷ 3 ∷ 15 ∷ 5 ∷ 15 ∷ 15 ∷ 15 ∷ 15 ∷
@@ -162,8 +160,8 @@ anchorOfThree1 =
     []
 
 -- the anchor of subset 2 of three
-unfoldable pub anchorOfThree2 : List ℕ
-anchorOfThree2 =
+unfoldable pub anchor_of_three2 : List ℕ
+anchor_of_three2 =
     15 ∷ 8 ∷ 8 ∷ 3 ∷ 15 ∷ 15 ∷ 3 ∷ 8 ∷ 15 ∷ 15 ∷ 15 ∷ 15 ∷ 15 ∷ 15 ∷ 15 ∷ 8 ∷
     15 ∷ 8 ∷ 15 ∷ 3 ∷ 15 ∷ 8 ∷ 15 ∷ 8 ∷ 3 ∷ 15 ∷ 6 ∷ 10 ∷ 15 ∷ 15 ∷ 10 ∷ 8 ∷
     15 ∷ 3 ∷ 15 ∷ 10 ∷ 10 ∷ 8 ∷ 9 ∷ 10 ∷ 6 ∷ 15 ∷ 8 ∷ 15 ∷ 3 ∷ 6 ∷ 6 ∷ 8 ∷
@@ -171,20 +169,21 @@ anchorOfThree2 =
     []
 
 -- the weights of an index of two, three and four bits
-abbrev pub weightRows : List (List ℕ)
-weightRows =
+abbrev pub weight_rows : List (List ℕ)
+weight_rows =
     (0 ∷ 21 ∷ 43 ∷ 64 ∷ []) ∷
     (0 ∷ 9 ∷ 18 ∷ 27 ∷ 37 ∷ 46 ∷ 55 ∷ 64 ∷ []) ∷
     (0 ∷ 4 ∷ 9 ∷ 13 ∷ 17 ∷ 21 ∷ 26 ∷ 30 ∷ 34 ∷ 38 ∷ 43 ∷ 47 ∷ 51 ∷ 55 ∷ 60 ∷ 64 ∷ []) ∷ []
 
 -- of an index of n bits
-abbrev pub weightsOf : ℕ → List ℕ
-weightsOf n = getD weightRows (n - 2) []
+abbrev pub weights_of : ℕ → List ℕ
+weights_of n = get_or weight_rows (n - 2) []
 
 -- the subset of pixel i in partition p of n subsets: of one subset it is 0
 unfoldable pub subset : ℕ → ℕ → ℕ → ℕ
-subset n p i = getD (getD (getD ([] ∷ two ∷ three ∷ []) (n - 1) []) p []) i 0
+subset n p i = get_or (get_or (get_or ([] ∷ two ∷ three ∷ []) (n - 1) []) p []) i 0
 
 -- the anchor of subset s in partition p of n subsets: of subset 0 it is pixel 0
 unfoldable pub anchor : ℕ → ℕ → ℕ → ℕ
-anchor n p s = getD (getD (getD ([] ∷ ([] ∷ anchorOfTwo ∷ []) ∷ ([] ∷ anchorOfThree1 ∷ anchorOfThree2 ∷ []) ∷ []) (n - 1) []) s []) p 0
+anchor n p s =
+    get_or (get_or (get_or ([] ∷ ([] ∷ anchor_of_two ∷ []) ∷ ([] ∷ anchor_of_three1 ∷ anchor_of_three2 ∷ []) ∷ []) (n - 1) []) s []) p 0

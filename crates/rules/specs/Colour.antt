@@ -1,26 +1,45 @@
 -- The colour block: its bits, its halves, and the five-bit sums that tell its kind.
 -- Assumes nothing.
-use mathlib.Core.Bool.{Bool, true, cond, _&&_, _||_}
-use mathlib.Core.List.{List, [], _∷_}
-use Prim.Native.Nat.{ℕ, zero, suc, _+_, _*_, _/_}
-use lib.Dec.{eqb, ltb}
-use lib.IntN.{ℤ, pos, negsuc, natAbs, _+ℤ_, _*ℤ_}
-use lib.ListN.{getD}
-use Rattle·rules·specs.specs.Notation.{byte, bit, bits, twos, minus, clamp, modulo}
-use Rattle·rules·specs.specs.Pixel.{word}
-use Rattle·rules·specs.specs.declared.Kind.{Kind}
-use Rattle·rules·specs.specs.declared.Kind.the-variants.{Individual, Differential, T, H, Planar}
+use Rattle.std.specs.Prelude.{
+  Bool,
+  true,
+  cond,
+  ◌&&◌,
+  ◌||◌,
+  List,
+  [],
+  ◌∷◌,
+  ℕ,
+  zero,
+  suc,
+  ◌+◌,
+  ◌*◌,
+  ◌/◌,
+  eqb,
+  ltb,
+  ℤ,
+  pos,
+  negsuc,
+  nat_abs,
+  ◌+ℤ◌,
+  ◌*ℤ◌,
+  get_or,
+}
+use Rattle.rules.specs.Notation.{byte, bit, bits, twos, minus, clamp, modulo}
+use Rattle.rules.specs.Pixel.{word}
+use Rattle.rules.specs.declared.Kind.{Kind}
+use Rattle.rules.specs.declared.Kind.TheVariants.{Individual, Differential, T, H, Planar}
 
 -- "Pixel i = 4x + y (down the columns) has its low index bit at bit i of 256*b6 + b7 and its high bit at bit i of 256*b4 + b5."
-abbrev pub lowBit : List ℕ → ℕ → ℕ
-lowBit d i = bit i (256 * byte d 6 + byte d 7)
+abbrev pub low_bit : List ℕ → ℕ → ℕ
+low_bit d i = bit i (256 * byte d 6 + byte d 7)
 
-abbrev pub highBit : List ℕ → ℕ → ℕ
-highBit d i = bit i (256 * byte d 4 + byte d 5)
+abbrev pub high_bit : List ℕ → ℕ → ℕ
+high_bit d i = bit i (256 * byte d 4 + byte d 5)
 
 -- "index (twice the high bit plus the low)"
 abbrev pub index : List ℕ → ℕ → ℕ → ℕ
-index d x y = 2 * highBit d (4 * x + y) + lowBit d (4 * x + y)
+index d x y = 2 * high_bit d (4 * x + y) + low_bit d (4 * x + y)
 
 -- "b3 bit 1 is the difference bit (in RGBA1: the opaque bit ..)"
 abbrev pub differs : List ℕ → Bool
@@ -70,7 +89,7 @@ five v = 8 * v + v / 4
 
 -- the bases of a differential block, whose sums are in range and so not negative
 unfoldable pub differential : List ℕ → List (List ℕ)
-differential d = rgb (λ b. five (base b)) d ∷ rgb (λ b. five (natAbs (sum b))) d ∷ unused ∷ []
+differential d = rgb (λ b. five (base b)) d ∷ rgb (λ b. five (nat_abs (sum b))) d ∷ unused ∷ []
 
 -- "ETC1: the sum wraps modulo 256 on the eightfold values (8B + 8s); an eighth of it is a five-bit v, widened as above."
 unfoldable pub wrapped : ℕ → ℕ
@@ -80,19 +99,19 @@ abbrev pub wrapping : List ℕ → List (List ℕ)
 wrapping d = rgb (λ b. five (base b)) d ∷ rgb (λ b. five (wrapped b)) d ∷ unused ∷ []
 
 -- "ETC2, sums out of range: red gives T; else green gives H; else blue gives planar."
-abbrev pub byBeyond : Bool → Bool → Bool → Kind
-byBeyond red green blue = cond red T (cond green H (cond blue Planar Differential))
+abbrev pub by_beyond : Bool → Bool → Bool → Kind
+by_beyond red green blue = cond red T (cond green H (cond blue Planar Differential))
 
-unfoldable pub kindBySums : List ℕ → Kind
-kindBySums d = byBeyond (beyond (sum (byte d 0))) (beyond (sum (byte d 1))) (beyond (sum (byte d 2)))
+unfoldable pub kind_by_sums_lem : List ℕ → Kind
+kind_by_sums_lem d = by_beyond (beyond (sum (byte d 0))) (beyond (sum (byte d 1))) (beyond (sum (byte d 2)))
 
 -- the kind of an ETC1 or RGB block; "RGBA1 is always read as if the difference bit were set", so there it is the one above
-abbrev pub kindOf : List ℕ → Kind
-kindOf d = cond (differs d) (kindBySums d) Individual
+abbrev pub kind_of : List ℕ → Kind
+kind_of d = cond (differs d) (kind_by_sums_lem d) Individual
 
 -- "difference bit set and a red, green or blue five-bit base plus signed step outside 0 to 31" (demand 3)
-unfoldable pub outOfRange : List ℕ → Bool
-outOfRange d =
+unfoldable pub out_of_range_lem : List ℕ → Bool
+out_of_range_lem d =
     differs d && (beyond (sum (byte d 0)) || (beyond (sum (byte d 1)) || beyond (sum (byte d 2))))
 
 -- `ETC1_MODIFIER_TABLE`
@@ -108,19 +127,19 @@ modifiers =
     ∷ (47 ∷ 183 ∷ [])
     ∷ []
 
-abbrev pub stepsOf : ℕ → List ℕ
-stepsOf code = getD modifiers code []
+abbrev pub steps_of : ℕ → List ℕ
+steps_of code = get_or modifiers code []
 
 -- a base colour with a step added to each channel, "clamped to 0..255, alpha 255"
 abbrev pub shaded : List ℕ → ℤ → ℕ
-shaded c s = word 255 (clamp 255 (pos (getD c 0 0) +ℤ s)) (clamp 255 (pos (getD c 1 0) +ℤ s)) (clamp 255 (pos (getD c 2 0) +ℤ s))
+shaded c s = word 255 (clamp 255 (pos (get_or c 0 0) +ℤ s)) (clamp 255 (pos (get_or c 1 0) +ℤ s)) (clamp 255 (pos (get_or c 2 0) +ℤ s))
 
 -- "A differential or individual pixel adds its step (low bit picks the column, high bit negates)": the four colours of a
 -- half, by index
-abbrev pub halfColours : List ℕ → List ℕ → List ℕ
-halfColours c steps =
-    shaded c (pos (getD steps 0 0))
-    ∷ shaded c (pos (getD steps 1 0))
-    ∷ shaded c (minus (getD steps 0 0))
-    ∷ shaded c (minus (getD steps 1 0))
+abbrev pub half_colours : List ℕ → List ℕ → List ℕ
+half_colours c steps =
+    shaded c (pos (get_or steps 0 0))
+    ∷ shaded c (pos (get_or steps 1 0))
+    ∷ shaded c (minus (get_or steps 0 0))
+    ∷ shaded c (minus (get_or steps 1 0))
     ∷ []

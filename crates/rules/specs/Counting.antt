@@ -1,27 +1,25 @@
 -- Of the places 0 .. n - 1: the first at which a number is least, the sum, the greatest, a test at each; and a number by its bits.
 -- Assumes nothing.
-use mathlib.Core.Bool.{Bool, true, cond, _&&_}
-use Prim.Native.Nat.{ℕ, zero, suc, _+_, _*_, max}
-use lib.Dec.{ltb}
+use Rattle.std.specs.Prelude.{Bool, true, cond, ◌&&◌, ℕ, zero, suc, ◌+◌, ◌*◌, max, ltb}
 
 -- n where f is less there than at m, and else m
 abbrev pub lower : (ℕ → ℕ) → ℕ → ℕ → ℕ
 lower f n m = cond (ltb (f n) (f m)) n m
 
--- the first of the places 0 .. n - 1 at which f is least; the twin of `firstOf`
-unfoldable pub leastOf : (ℕ → ℕ) → ℕ → ℕ
-leastOf f zero = zero
-leastOf f (suc n) = lower f n (leastOf f n)
+-- the first of the places 0 .. n - 1 at which f is least; the twin of `first_of`
+unfoldable pub least_of_lem : (ℕ → ℕ) → ℕ → ℕ
+least_of_lem f zero = zero
+least_of_lem f (suc n) = lower f n (least_of_lem f n)
 
 -- f 0 + .. + f (n - 1)
-unfoldable pub sumOf : (ℕ → ℕ) → ℕ → ℕ
-sumOf f zero = zero
-sumOf f (suc n) = sumOf f n + f n
+unfoldable pub sum_of : (ℕ → ℕ) → ℕ → ℕ
+sum_of f zero = zero
+sum_of f (suc n) = sum_of f n + f n
 
 -- the greatest of f 0 .. f (n - 1), and 0 where there are none
-unfoldable pub mostOf : (ℕ → ℕ) → ℕ → ℕ
-mostOf f zero = zero
-mostOf f (suc n) = max (f n) (mostOf f n)
+unfoldable pub most_of : (ℕ → ℕ) → ℕ → ℕ
+most_of f zero = zero
+most_of f (suc n) = max (f n) (most_of f n)
 
 -- whether a test holds at each of the places 0 .. n - 1
 unfoldable pub each : (ℕ → Bool) → ℕ → Bool
@@ -29,6 +27,6 @@ each test zero = true
 each test (suc n) = test n && each test n
 
 -- the number whose n bits, from the lowest on, are f i, f (i + 1), ..
-unfoldable pub fromBits : (ℕ → ℕ) → ℕ → ℕ → ℕ
-fromBits f i zero = zero
-fromBits f i (suc n) = f i + 2 * fromBits f (suc i) n
+unfoldable pub from_bits_lem : (ℕ → ℕ) → ℕ → ℕ → ℕ
+from_bits_lem f i zero = zero
+from_bits_lem f i (suc n) = f i + 2 * from_bits_lem f (suc i) n

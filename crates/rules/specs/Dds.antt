@@ -6,27 +6,23 @@
 --   136  miscFlag        140  arraySize               144  miscFlags2
 -- Sizes, flags, caps, depth and the linear size decide no pixel, and real files get them wrong.
 -- Assumes nothing.
-use mathlib.Core.Bool.{Bool, true, cond, not, _&&_, _||_}
-use mathlib.Core.List.{List, _++_}
-use Prim.Native.Nat.{ℕ}
-use lib.Dec.{eqb, ltb}
-use lib.ListN.{length}
-use Rattle·numbers.specs.Numbers.{little, big}
-use Rattle·rules·specs.specs.Notation.{bit}
-use Rattle·rules·specs.specs.FileFormats.{row, known, has4, oneAtLeast}
-use Rattle·rules·specs.specs.declared.Format.the-variants.{Bc1Alpha, Bc3, Bc7, Bc2, Bc4, Bc4Signed, Bc5, Bc5Signed}
-use Rattle·rules·specs.specs.declared.Answer.the-variants.{HeaderCut, UnknownFormat, NotFlat}
-use Rattle·rules·specs.specs.declared.KnownFormat.{KnownFormat}
-use Rattle·rules·specs.specs.declared.KnownFormat.the-variants.{As, Not}
-use Rattle·rules·specs.specs.declared.FileHeader.{FileHeader}
-use Rattle·rules·specs.specs.declared.FileHeader.the-variants.{Holds, Refused}
+use Rattle.std.specs.Prelude.{Bool, true, cond, not, ◌&&◌, ◌||◌, List, ◌++◌, ℕ, eqb, ltb, length}
+use Rattle.numbers.specs.Numbers.{little, big}
+use Rattle.rules.specs.Notation.{bit}
+use Rattle.rules.specs.FileFormats.{row, known, has4, one_at_least_lem}
+use Rattle.rules.specs.declared.Format.TheVariants.{Bc1Alpha, Bc3, Bc7, Bc2, Bc4, Bc4Signed, Bc5, Bc5Signed}
+use Rattle.rules.specs.declared.Answer.TheVariants.{HeaderCut, UnknownFormat, NotFlat}
+use Rattle.rules.specs.declared.KnownFormat.{KnownFormat}
+use Rattle.rules.specs.declared.KnownFormat.TheVariants.{As, Not}
+use Rattle.rules.specs.declared.FileHeader.{FileHeader}
+use Rattle.rules.specs.declared.FileHeader.TheVariants.{Holds, Refused}
 
-abbrev pub isDds : List ℕ → Bool
-isDds d = has4 d 0 0x44445320
+abbrev pub is_dds : List ℕ → Bool
+is_dds d = has4 d 0 0x44445320
 
 -- four letters as a number: "DXT1", which has a bit of alpha, "DXT2" to "DXT5", "ATI1", "BC4U", "BC4S", "ATI2", "BC5U" and "BC5S"
-abbrev pub fourCCRows : List ℕ
-fourCCRows =
+abbrev pub four_cc_rows : List ℕ
+four_cc_rows =
     row 0x44585431 Bc1Alpha 0
     ++ row 0x44585432 Bc2 0
     ++ row 0x44585433 Bc2 0
@@ -40,8 +36,8 @@ fourCCRows =
     ++ row 0x42433553 Bc5Signed 0
 
 -- DXGI's numbers: a TYPELESS, a UNORM and a UNORM_SRGB of each, and of BC4 and BC5 a TYPELESS, a UNORM and a SNORM
-abbrev pub dxgiRows : List ℕ
-dxgiRows =
+abbrev pub dxgi_rows : List ℕ
+dxgi_rows =
     row 70 Bc1Alpha 0
     ++ row 71 Bc1Alpha 0
     ++ row 72 Bc1Alpha 1
@@ -62,25 +58,25 @@ dxgiRows =
     ++ row 99 Bc7 1
 
 -- bit 2 of the pixel format's flags, DDPF_FOURCC, says that the FourCC means something; "DX10" says that 20 more bytes follow
-abbrev pub hasFourCC : List ℕ → Bool
-hasFourCC d = eqb (bit 2 (little 4 80 d)) 1
+abbrev pub has_four_cc : List ℕ → Bool
+has_four_cc d = eqb (bit 2 (little 4 80 d)) 1
 
-abbrev pub isDx10 : List ℕ → Bool
-isDx10 d = hasFourCC d && eqb (big 4 84 d) 0x44583130
+abbrev pub is_dx10_lem : List ℕ → Bool
+is_dx10_lem d = has_four_cc d && eqb (big 4 84 d) 0x44583130
 
 -- neither bit 9 of caps2, a cube, nor bit 21, a volume
-unfoldable pub ddsFlat : List ℕ → Bool
-ddsFlat d = not (eqb (bit 9 (little 4 112 d)) 1) && not (eqb (bit 21 (little 4 112 d)) 1)
+unfoldable pub dds_flat_lem : List ℕ → Bool
+dds_flat_lem d = not (eqb (bit 9 (little 4 112 d)) 1) && not (eqb (bit 21 (little 4 112 d)) 1)
 
 -- resourceDimension is 3, TEXTURE2D, or 0 as some files have it; bit 2 of miscFlag, a cube, is clear; at most one element
-unfoldable pub dx10Flat : List ℕ → Bool
-dx10Flat d =
+unfoldable pub dx10_flat_lem : List ℕ → Bool
+dx10_flat_lem d =
     (eqb (little 4 132 d) 3 || eqb (little 4 132 d) 0) && (not (eqb (bit 2 (little 4 136 d)) 1) && not (ltb 1 (little 4 140 d)))
 
 -- the rest of the header, with what its format stands for, and where the levels start
-unfoldable pub ddsAs : KnownFormat → ℕ → List ℕ → FileHeader
-ddsAs Not start d = Refused UnknownFormat
-ddsAs (As f srgb) start d =
+unfoldable pub dds_as : KnownFormat → ℕ → List ℕ → FileHeader
+dds_as Not start d = Refused UnknownFormat
+dds_as (As f srgb) start d =
     Holds
     (record {
       container = 4;
@@ -88,25 +84,25 @@ ddsAs (As f srgb) start d =
       srgb = srgb;
       width = little 4 16 d;
       height = little 4 12 d;
-      levels = oneAtLeast (little 4 28 d);
-      «big_endian» = 0;
+      levels = one_at_least_lem (little 4 28 d);
+      big_endian = 0;
       orientation = 0;
       start = start;
       agrees = true;
     })
 
-unfoldable pub fourCCFormat : List ℕ → KnownFormat
-fourCCFormat d = cond (hasFourCC d) (known fourCCRows (big 4 84 d)) Not
+unfoldable pub four_cc_format : List ℕ → KnownFormat
+four_cc_format d = cond (has_four_cc d) (known four_cc_rows (big 4 84 d)) Not
 
-unfoldable pub dx10Of : List ℕ → FileHeader
-dx10Of d =
+unfoldable pub dx10_of : List ℕ → FileHeader
+dx10_of d =
     cond (ltb (length d) 148) (Refused HeaderCut)
-    (cond (ddsFlat d && dx10Flat d) (ddsAs (known dxgiRows (little 4 128 d)) 148 d)
+    (cond (dds_flat_lem d && dx10_flat_lem d) (dds_as (known dxgi_rows (little 4 128 d)) 148 d)
     (Refused NotFlat))
 
-unfoldable pub ddsOf : List ℕ → FileHeader
-ddsOf d =
+unfoldable pub dds_of : List ℕ → FileHeader
+dds_of d =
     cond (ltb (length d) 128) (Refused HeaderCut)
-    (cond (isDx10 d) (dx10Of d)
-    (cond (ddsFlat d) (ddsAs (fourCCFormat d) 128 d)
+    (cond (is_dx10_lem d) (dx10_of d)
+    (cond (dds_flat_lem d) (dds_as (four_cc_format d) 128 d)
     (Refused NotFlat)))

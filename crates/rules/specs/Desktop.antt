@@ -2,20 +2,16 @@
 -- alphas stand there as they are. 02's own sentences stand in quotes above the definitions that they become; the bits are those of the
 -- files that it names, src/bcn and `rgb565_le`.
 -- Assumes nothing.
-use mathlib.Core.Bool.{Bool, true, false, cond, _||_}
-use mathlib.Core.List.{List, [], _∷_}
-use Prim.Native.Nat.{ℕ, suc, _+_, _*_, _/_, _%_, _^_}
-use lib.Dec.{ltb}
-use lib.ListN.{getD, drop}
-use Rattle·numbers.specs.Numbers.{little}
-use Rattle·rules·specs.specs.Notation.{bits}
-use Rattle·rules·specs.specs.Pixel.{word}
-use Rattle·rules·specs.specs.Colour.{five}
-use Rattle·rules·specs.specs.Modes.{six}
+use Rattle.std.specs.Prelude.{Bool, true, false, cond, ◌||◌, List, [], ◌∷◌, ℕ, suc, ◌+◌, ◌*◌, ◌/◌, ◌%◌, ◌^◌, ltb, get_or, drop}
+use Rattle.numbers.specs.Numbers.{little}
+use Rattle.rules.specs.Notation.{bits}
+use Rattle.rules.specs.Pixel.{word}
+use Rattle.rules.specs.Colour.{five}
+use Rattle.rules.specs.Modes.{six}
 
 -- the eight bytes of a half as one number, the first byte lowest
-abbrev pub halfWord : List ℕ → ℕ
-halfWord d = little 8 0 d
+abbrev pub half_word_lem : List ℕ → ℕ
+half_word_lem d = little 8 0 d
 
 -- `rgb565_le`: from the highest bit on five bits of red, six of green and five of blue, each widened to eight
 abbrev pub rgb565 : ℕ → List ℕ
@@ -26,11 +22,11 @@ abbrev pub mix : ℕ → ℕ → ℕ → ℕ → ℕ
 mix m n a b = (m * a + n * b) / (m + n)
 
 abbrev pub opaque : List ℕ → ℕ
-opaque a = word 255 (getD a 0 0) (getD a 1 0) (getD a 2 0)
+opaque a = word 255 (get_or a 0 0) (get_or a 1 0) (get_or a 2 0)
 
 abbrev pub mixture : ℕ → ℕ → List ℕ → List ℕ → ℕ
 mixture m n a b =
-    word 255 (mix m n (getD a 0 0) (getD b 0 0)) (mix m n (getD a 1 0) (getD b 1 0)) (mix m n (getD a 2 0) (getD b 2 0))
+    word 255 (mix m n (get_or a 0 0) (get_or b 0 0)) (mix m n (get_or a 1 0) (get_or b 1 0)) (mix m n (get_or a 2 0) (get_or b 2 0))
 
 -- "BC1 (opaque and one-bit alpha)": four colours, the two and the thirds between them; or three, the two and their half, and then black,
 -- which is transparent where alpha is read
@@ -40,52 +36,52 @@ palette false alpha a b = opaque a ∷ opaque b ∷ mixture 1 1 a b ∷ word (co
 
 -- "the order of the colours" picks the rule: four where the first, as a number, is above the second; "the public rule, always four
 -- colours, decides" in BC3
-abbrev pub hasFour : Bool → ℕ → ℕ → Bool
-hasFour always p q = always || ltb q p
+abbrev pub has_four : Bool → ℕ → ℕ → Bool
+has_four always p q = always || ltb q p
 
 -- the colours of a half: two numbers of 16 bits
-abbrev pub paletteIn : Bool → Bool → ℕ → List ℕ
-paletteIn always alpha w =
-    palette (hasFour always (bits 15 0 w) (bits 31 16 w)) alpha (rgb565 (bits 15 0 w)) (rgb565 (bits 31 16 w))
+abbrev pub palette_in_lem : Bool → Bool → ℕ → List ℕ
+palette_in_lem always alpha w =
+    palette (has_four always (bits 15 0 w) (bits 31 16 w)) alpha (rgb565 (bits 15 0 w)) (rgb565 (bits 31 16 w))
 
 -- and two bits for pixel i, row by row from bit 32 on
-abbrev pub colourIndex : ℕ → ℕ → ℕ
-colourIndex w i = w / 2 ^ (32 + 2 * i) % 4
+abbrev pub colour_index : ℕ → ℕ → ℕ
+colour_index w i = w / 2 ^ (32 + 2 * i) % 4
 
-unfoldable pub bc1Pixel : Bool → Bool → List ℕ → ℕ → ℕ → ℕ
-bc1Pixel always alpha d x y = getD (paletteIn always alpha (halfWord d)) (colourIndex (halfWord d) (4 * y + x)) 0
+unfoldable pub bc1_pixel : Bool → Bool → List ℕ → ℕ → ℕ → ℕ
+bc1_pixel always alpha d x y = get_or (palette_in_lem always alpha (half_word_lem d)) (colour_index (half_word_lem d) (4 * y + x)) 0
 
 -- eight values: the two and the sevenths between them, where the first is above the second; or the fifths, and then 0 and the greatest
-abbrev pub eightUpTo : ℕ → Bool → ℕ → ℕ → List ℕ
-eightUpTo top true a b = a ∷ b ∷ mix 6 1 a b ∷ mix 5 2 a b ∷ mix 4 3 a b ∷ mix 3 4 a b ∷ mix 2 5 a b ∷ mix 1 6 a b ∷ []
-eightUpTo top false a b = a ∷ b ∷ mix 4 1 a b ∷ mix 3 2 a b ∷ mix 2 3 a b ∷ mix 1 4 a b ∷ 0 ∷ top ∷ []
+abbrev pub eight_up_to : ℕ → Bool → ℕ → ℕ → List ℕ
+eight_up_to top true a b = a ∷ b ∷ mix 6 1 a b ∷ mix 5 2 a b ∷ mix 4 3 a b ∷ mix 3 4 a b ∷ mix 2 5 a b ∷ mix 1 6 a b ∷ []
+eight_up_to top false a b = a ∷ b ∷ mix 4 1 a b ∷ mix 3 2 a b ∷ mix 2 3 a b ∷ mix 1 4 a b ∷ 0 ∷ top ∷ []
 
 -- eight alphas are such values up to 255
 abbrev pub alphas : Bool → ℕ → ℕ → List ℕ
-alphas f a b = eightUpTo 255 f a b
+alphas f a b = eight_up_to 255 f a b
 
-abbrev pub alphasIn : ℕ → List ℕ
-alphasIn w = alphas (ltb (bits 15 8 w) (bits 7 0 w)) (bits 7 0 w) (bits 15 8 w)
+abbrev pub alphas_in_lem : ℕ → List ℕ
+alphas_in_lem w = alphas (ltb (bits 15 8 w) (bits 7 0 w)) (bits 7 0 w) (bits 15 8 w)
 
 -- and three bits for pixel i, row by row from bit 16 on
-abbrev pub alphaIndexIn : ℕ → ℕ → ℕ
-alphaIndexIn w i = w / 2 ^ (16 + 3 * i) % 8
+abbrev pub alpha_index_in : ℕ → ℕ → ℕ
+alpha_index_in w i = w / 2 ^ (16 + 3 * i) % 8
 
-unfoldable pub bc3Alpha : List ℕ → ℕ → ℕ → ℕ
-bc3Alpha d x y = getD (alphasIn (halfWord d)) (alphaIndexIn (halfWord d) (4 * y + x)) 0
+unfoldable pub bc3_alpha : List ℕ → ℕ → ℕ → ℕ
+bc3_alpha d x y = get_or (alphas_in_lem (half_word_lem d)) (alpha_index_in (half_word_lem d) (4 * y + x)) 0
 
 -- `decode_bc3_alpha` puts a byte in place of a channel's, 0 blue, 1 green, 2 red or 3 alpha, and keeps the others
 abbrev pub replaced : ℕ → ℕ → ℕ → ℕ
 replaced channel p b = p / 256 ^ suc channel * 256 ^ suc channel + b * 256 ^ channel + p % 256 ^ channel
 
 -- "In BC3 .. always four colours": the alpha half is bytes 0 to 7, and the colour half begins at byte 8
-unfoldable pub bc3Pixel : List ℕ → ℕ → ℕ → ℕ
-bc3Pixel d x y = replaced 3 (bc1Pixel true false (drop 8 d) x y) (bc3Alpha d x y)
+unfoldable pub bc3_pixel : List ℕ → ℕ → ℕ → ℕ
+bc3_pixel d x y = replaced 3 (bc1_pixel true false (drop 8 d) x y) (bc3_alpha d x y)
 
 -- `decode_bc2_alpha` reads four bits for pixel i, row by row from bit 0 on, and widens them: "(av << 4) | av" is 17 times the four bits
-unfoldable pub bc2Alpha : List ℕ → ℕ → ℕ → ℕ
-bc2Alpha d x y = halfWord d / 2 ^ (4 * (4 * y + x)) % 16 * 17
+unfoldable pub bc2_alpha : List ℕ → ℕ → ℕ → ℕ
+bc2_alpha d x y = half_word_lem d / 2 ^ (4 * (4 * y + x)) % 16 * 17
 
 -- BC2 is BC3 with these alphas: the alpha half is bytes 0 to 7, and the colours, "always four", begin at byte 8
-unfoldable pub bc2Pixel : List ℕ → ℕ → ℕ → ℕ
-bc2Pixel d x y = replaced 3 (bc1Pixel true false (drop 8 d) x y) (bc2Alpha d x y)
+unfoldable pub bc2_pixel : List ℕ → ℕ → ℕ → ℕ
+bc2_pixel d x y = replaced 3 (bc1_pixel true false (drop 8 d) x y) (bc2_alpha d x y)

@@ -1,20 +1,16 @@
 -- What the containers share: the formats by number, tables of formats, and numbers in a file's own byte order.
 -- Assumes nothing.
-use mathlib.Core.Bool.{Bool, true, false, cond, not, _&&_}
-use mathlib.Core.List.{List, [], _∷_}
-use Prim.Native.Nat.{ℕ, _+_}
-use lib.Dec.{eqb, ltb}
-use lib.ListN.{length, getD}
-use Rattle·numbers.specs.Numbers.{little, big}
-use Rattle·rules·specs.specs.declared.Format.{Format}
-use Rattle·rules·specs.specs.declared.Format.the-variants.{Etc1, Etc2Rgb, Etc2Rgba1, Etc2Rgba8, EacR, EacRSigned, EacRg, EacRgSigned}
-use Rattle·rules·specs.specs.declared.Format.the-variants.{Bc1, Bc1Alpha, Bc3, Bc7, Bc2, Bc4, Bc4Signed, Bc5, Bc5Signed}
-use Rattle·rules·specs.specs.declared.KnownFormat.{KnownFormat}
-use Rattle·rules·specs.specs.declared.KnownFormat.the-variants.{As, Not}
+use Rattle.std.specs.Prelude.{Bool, true, false, cond, not, ◌&&◌, List, [], ◌∷◌, ℕ, ◌+◌, eqb, ltb, length, get_or}
+use Rattle.numbers.specs.Numbers.{little, big}
+use Rattle.rules.specs.declared.Format.{Format}
+use Rattle.rules.specs.declared.Format.TheVariants.{Etc1, Etc2Rgb, Etc2Rgba1, Etc2Rgba8, EacR, EacRSigned, EacRg, EacRgSigned}
+use Rattle.rules.specs.declared.Format.TheVariants.{Bc1, Bc1Alpha, Bc3, Bc7, Bc2, Bc4, Bc4Signed, Bc5, Bc5Signed}
+use Rattle.rules.specs.declared.KnownFormat.{KnownFormat}
+use Rattle.rules.specs.declared.KnownFormat.TheVariants.{As, Not}
 
 -- the formats in the order of their numbers: 0 to 7 are those of a sheet
-abbrev pub formatList : List Format
-formatList =
+abbrev pub format_list : List Format
+format_list =
     Etc1
     ∷ Etc2Rgb
     ∷ Etc2Rgba1
@@ -34,32 +30,32 @@ formatList =
     ∷ Bc5Signed
     ∷ []
 
-unfoldable pub formatAt : ℕ → Format
-formatAt n = getD formatList n Etc1
+unfoldable pub format_at_lem : ℕ → Format
+format_at_lem n = get_or format_list n Etc1
 
 -- and the number of each
-abbrev pub formatNumber : Format → ℕ
-formatNumber Etc1 = 0
-formatNumber Etc2Rgb = 1
-formatNumber Etc2Rgba1 = 2
-formatNumber Etc2Rgba8 = 3
-formatNumber EacR = 4
-formatNumber EacRSigned = 5
-formatNumber EacRg = 6
-formatNumber EacRgSigned = 7
-formatNumber Bc1 = 8
-formatNumber Bc1Alpha = 9
-formatNumber Bc3 = 10
-formatNumber Bc7 = 11
-formatNumber Bc2 = 12
-formatNumber Bc4 = 13
-formatNumber Bc4Signed = 14
-formatNumber Bc5 = 15
-formatNumber Bc5Signed = 16
+abbrev pub format_number : Format → ℕ
+format_number Etc1 = 0
+format_number Etc2Rgb = 1
+format_number Etc2Rgba1 = 2
+format_number Etc2Rgba8 = 3
+format_number EacR = 4
+format_number EacRSigned = 5
+format_number EacRg = 6
+format_number EacRgSigned = 7
+format_number Bc1 = 8
+format_number Bc1Alpha = 9
+format_number Bc3 = 10
+format_number Bc7 = 11
+format_number Bc2 = 12
+format_number Bc4 = 13
+format_number Bc4Signed = 14
+format_number Bc5 = 15
+format_number Bc5Signed = 16
 
 -- a row of a container's table of formats: the container's number, the format, and 1 where its colours are sRGB
 abbrev pub row : ℕ → Format → ℕ → List ℕ
-row n f srgb = n ∷ formatNumber f ∷ srgb ∷ []
+row n f srgb = n ∷ format_number f ∷ srgb ∷ []
 
 -- what a number stands for: the first row that has it
 unfoldable pub known : List ℕ → ℕ → KnownFormat
@@ -78,10 +74,10 @@ abbrev pub has4 : List ℕ → ℕ → ℕ → Bool
 has4 d at n = not (ltb (length d) (at + 4)) && eqb (big 4 at d) n
 
 -- a number of levels: 0 tells of one
-abbrev pub oneAtLeast : ℕ → ℕ
-oneAtLeast n = cond (eqb n 0) 1 n
+abbrev pub one_at_least_lem : ℕ → ℕ
+one_at_least_lem n = cond (eqb n 0) 1 n
 
 -- a plain picture: neither a depth, nor layers, nor faces above 1. Real files have 0 or 1 in each (bgfx writes depth 1, one array
 -- element and no face).
-abbrev pub isFlat : ℕ → ℕ → ℕ → Bool
-isFlat depth layers faces = not (ltb 1 depth) && (not (ltb 1 layers) && not (ltb 1 faces))
+abbrev pub is_flat_lem : ℕ → ℕ → ℕ → Bool
+is_flat_lem depth layers faces = not (ltb 1 depth) && (not (ltb 1 layers) && not (ltb 1 faces))

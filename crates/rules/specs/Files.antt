@@ -1,73 +1,70 @@
 -- Files: the container is known by its first bytes, and what opening a file and asking for a level answer, for all bytes.
 -- Assumes nothing.
-use mathlib.Core.Bool.{cond}
-use mathlib.Core.List.{List, [], _∷_}
-use mathlib.Core.Path.{_≡_}
-use Prim.Native.Nat.{ℕ}
-use Rattle·rules·specs.specs.Answers.{said}
-use Rattle·rules·specs.specs.FileLevels.{heldOf, openedBy, foundBy}
-use Rattle·rules·specs.specs.Pkm.{isPkm, pkmOf}
-use Rattle·rules·specs.specs.Ktx1.{isKtx1, ktx1Of}
-use Rattle·rules·specs.specs.Ktx2.{isKtx2, ktx2Of}
-use Rattle·rules·specs.specs.Dds.{isDds, ddsOf}
-use Rattle·rules·specs.specs.SheetFile.{isSheet, sheetHeader}
-use Rattle·rules·specs.specs.declared.Answer.the-variants.{UnknownContainer}
-use Rattle·rules·specs.specs.declared.FileHeader.{FileHeader}
-use Rattle·rules·specs.specs.declared.FileHeader.the-variants as header
-use Rattle·rules·specs.specs.declared.Opened.{Opened}
-use Rattle·rules·specs.specs.declared.Opened.the-variants as opened
-use Rattle·rules·specs.specs.declared.FoundLevel.{FoundLevel}
-use Rattle·rules·specs.specs.declared.FoundLevel.the-variants as found
+use Rattle.std.specs.Prelude.{cond, List, [], ◌∷◌, ◌≡◌, ℕ}
+use Rattle.rules.specs.Answers.{said}
+use Rattle.rules.specs.FileLevels.{held_of, opened_by, found_by}
+use Rattle.rules.specs.Pkm.{is_pkm, pkm_of}
+use Rattle.rules.specs.Ktx1.{is_ktx1_lem, ktx1_of}
+use Rattle.rules.specs.Ktx2.{is_ktx2_lem, ktx2_of}
+use Rattle.rules.specs.Dds.{is_dds, dds_of}
+use Rattle.rules.specs.SheetFile.{is_sheet_lem, sheet_header}
+use Rattle.rules.specs.declared.Answer.TheVariants.{UnknownContainer}
+use Rattle.rules.specs.declared.FileHeader.{FileHeader}
+use Rattle.rules.specs.declared.FileHeader.TheVariants as header
+use Rattle.rules.specs.declared.Opened.{Opened}
+use Rattle.rules.specs.declared.Opened.TheVariants as opened
+use Rattle.rules.specs.declared.FoundLevel.{FoundLevel}
+use Rattle.rules.specs.declared.FoundLevel.TheVariants as found
 
 -- what the header of a file tells
-unfoldable pub headerOf : List ℕ → FileHeader
-headerOf d =
-    cond (isPkm d) (pkmOf d)
-    (cond (isDds d) (ddsOf d)
-    (cond (isKtx1 d) (ktx1Of d)
-    (cond (isKtx2 d) (ktx2Of d)
-    (cond (isSheet d) (sheetHeader d)
+unfoldable pub header_of : List ℕ → FileHeader
+header_of d =
+    cond (is_pkm d) (pkm_of d)
+    (cond (is_dds d) (dds_of d)
+    (cond (is_ktx1_lem d) (ktx1_of d)
+    (cond (is_ktx2_lem d) (ktx2_of d)
+    (cond (is_sheet_lem d) (sheet_header d)
     (header.Refused UnknownContainer)))))
 
 -- a refused header refuses the file
-unfoldable pub openedAs : List ℕ → FileHeader → Opened
-openedAs d (header.Holds l) = openedBy l (heldOf l d 0)
-openedAs d (header.Refused a) = opened.Refused a
+unfoldable pub opened_as : List ℕ → FileHeader → Opened
+opened_as d (header.Holds l) = opened_by l (held_of l d 0)
+opened_as d (header.Refused a) = opened.Refused a
 
-unfoldable pub foundAs : List ℕ → ℕ → FileHeader → FoundLevel
-foundAs d n (header.Holds l) = foundBy l n (heldOf l d n)
-foundAs d n (header.Refused a) = found.Refused a
+unfoldable pub found_as : List ℕ → ℕ → FileHeader → FoundLevel
+found_as d n (header.Holds l) = found_by l n (held_of l d n)
+found_as d n (header.Refused a) = found.Refused a
 
 -- what an answer says on paper: 0 with the nine numbers, or a refusal's
-abbrev pub openedSaid : Opened → List ℕ
-openedSaid (opened.File f) =
+abbrev pub opened_said : Opened → List ℕ
+opened_said (opened.File f) =
     0
-    ∷ f .container
-    ∷ f .format
-    ∷ f .srgb
-    ∷ f .width
-    ∷ f .height
-    ∷ f .levels
-    ∷ f .«big_endian»
-    ∷ f .orientation
-    ∷ f .«left_over»
+    ∷ f.container
+    ∷ f.format
+    ∷ f.srgb
+    ∷ f.width
+    ∷ f.height
+    ∷ f.levels
+    ∷ f.big_endian
+    ∷ f.orientation
+    ∷ f.left_over
     ∷ []
-openedSaid (opened.Refused a) = said a
+opened_said (opened.Refused a) = said a
 
-abbrev pub foundSaid : FoundLevel → List ℕ
-foundSaid (found.Level l) = 0 ∷ l .width ∷ l .height ∷ l .start ∷ l .length ∷ []
-foundSaid (found.Refused a) = said a
+abbrev pub found_said : FoundLevel → List ℕ
+found_said (found.Level l) = 0 ∷ l.width ∷ l.height ∷ l.start ∷ l.length ∷ []
+found_said (found.Refused a) = said a
 
 -- Opening a file.
-unfoldable pub openedVerdict : List ℕ → List ℕ
-openedVerdict d = openedSaid (openedAs d (headerOf d))
+unfoldable pub opened_verdict : List ℕ → List ℕ
+opened_verdict d = opened_said (opened_as d (header_of d))
 
 abbrev pub OpensFile : List ℕ → Opened → Type 0
-OpensFile d r = openedSaid r ≡ openedVerdict d
+OpensFile d r = opened_said r ≡ opened_verdict d
 
 -- Asking for level n.
-unfoldable pub foundVerdict : List ℕ → ℕ → List ℕ
-foundVerdict d n = foundSaid (foundAs d n (headerOf d))
+unfoldable pub found_verdict : List ℕ → ℕ → List ℕ
+found_verdict d n = found_said (found_as d n (header_of d))
 
 abbrev pub FindsLevel : List ℕ → ℕ → FoundLevel → Type 0
-FindsLevel d n r = foundSaid r ≡ foundVerdict d n
+FindsLevel d n r = found_said r ≡ found_verdict d n

@@ -1,15 +1,13 @@
 -- Readers that look at every block before they paint one, and refuse where a block meets a test.
 -- Assumes nothing.
-use mathlib.Core.Bool.{Bool, not}
-use mathlib.Core.List.{List}
-use Prim.Native.Nat.{ℕ}
-use Rattle·rules·specs.specs.Places.{blocks, bytesOf}
-use Rattle·rules·specs.specs.Answers.{Check, judged, guarded}
-use Rattle·rules·specs.specs.Colour.{differs, outOfRange}
-use Rattle·rules·specs.specs.Formats.{sizeOf}
-use Rattle·rules·specs.specs.declared.Format.{Format}
-use Rattle·rules·specs.specs.declared.Format.the-variants.{Etc1, Etc2Rgb, Etc2Rgba1}
-use Rattle·rules·specs.specs.declared.Picture.{Picture}
+use Rattle.std.specs.Prelude.{Bool, not, List, ℕ}
+use Rattle.rules.specs.Places.{blocks, bytes_of}
+use Rattle.rules.specs.Answers.{Check, judged, guarded}
+use Rattle.rules.specs.Colour.{differs, out_of_range_lem}
+use Rattle.rules.specs.Formats.{size_of}
+use Rattle.rules.specs.declared.Format.{Format}
+use Rattle.rules.specs.declared.Format.TheVariants.{Etc1, Etc2Rgb, Etc2Rgba1}
+use Rattle.rules.specs.declared.Picture.{Picture}
 
 -- A guard: the refusal's number, what a block must not be, the format whose own rule an older viewer has for its blocks, and the
 -- format whose rule every accepted pixel follows.
@@ -20,23 +18,23 @@ pub record Guard : Type 0 where
   pub shown : Format
 
 -- what is asked of block n of the bytes d
-abbrev pub badAt : Guard → List ℕ → ℕ → Bool
-badAt g d n = g .bad (bytesOf (sizeOf (g .own)) d n)
+abbrev pub bad_at : Guard → List ℕ → ℕ → Bool
+bad_at g d n = g.bad (bytes_of (size_of g.own) d n)
 
 -- the checks, and then every block of the picture
-abbrev pub guardVerdict : Guard → List Check → Picture → List ℕ → List ℕ
-guardVerdict g checks p d = judged checks (guarded (g .number) (badAt g d) (blocks p))
+abbrev pub guard_verdict : Guard → List Check → Picture → List ℕ → List ℕ
+guard_verdict g checks p d = judged checks (guarded g.number (bad_at g d) (blocks p))
 
 -- "the strict ETC1 reader .. refuses exactly when some block of the picture has its difference bit set and a .. base plus
 -- signed step outside 0 to 31, and it names the first such block. Otherwise it accepts, and each pixel is the one that the Khronos
 -- ETC2 RGB rule gives."
-abbrev pub inRange : Guard
-inRange = record { number = 4; bad = outOfRange; own = Etc1; shown = Etc2Rgb }
+abbrev pub in_range : Guard
+in_range = record { number = 4; bad = out_of_range_lem; own = Etc1; shown = Etc2Rgb }
 
 -- "Old viewers know RGB but not RGBA1. Add a reader of RGBA1 that refuses with 11 exactly when some block has its opaque bit clear,
 -- names the first one .. Where it accepts, every pixel equals the Khronos RGB reading and the RGBA1 reading of the same bytes." (M-109)
-abbrev pub notOpaque : List ℕ → Bool
-notOpaque d = not (differs d)
+abbrev pub not_opaque : List ℕ → Bool
+not_opaque d = not (differs d)
 
-abbrev pub opaqueOnly : Guard
-opaqueOnly = record { number = 11; bad = notOpaque; own = Etc2Rgb; shown = Etc2Rgba1 }
+abbrev pub opaque_only : Guard
+opaque_only = record { number = 11; bad = not_opaque; own = Etc2Rgb; shown = Etc2Rgba1 }

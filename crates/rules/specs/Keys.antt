@@ -1,42 +1,38 @@
 -- The key and value data of KTX 1 and KTX 2, as far as it tells which row comes first. It is a run of entries: the size of each in four
 -- bytes, so many bytes of a key, a 0 and a value, and padding up to a multiple of four. Data that is no such run tells nothing.
 -- Assumes nothing.
-use mathlib.Core.Bool.{Bool, cond, _&&_, _||_}
-use mathlib.Core.List.{List}
-use Prim.Native.Nat.{ℕ, zero, suc, _+_, _-_, _*_, _/_}
-use lib.Dec.{eqb, ltb}
-use lib.ListN.{length}
-use Rattle·rules·specs.specs.FileFormats.{word32, has4}
+use Rattle.std.specs.Prelude.{Bool, cond, ◌&&◌, ◌||◌, List, ℕ, zero, suc, ◌+◌, ◌-◌, ◌*◌, ◌/◌, eqb, ltb, length}
+use Rattle.rules.specs.FileFormats.{word32, has4}
 
 -- "KTXorientation" and a 0, at a byte; Qt writes "KTXOrientation"
-unfoldable pub isOrientation : List ℕ → ℕ → Bool
-isOrientation d at =
+unfoldable pub is_orientation_lem : List ℕ → ℕ → Bool
+is_orientation_lem d at =
     (has4 d at 0x4B54586F || has4 d at 0x4B54584F)
     && (has4 d (at + 4) 0x7269656E && (has4 d (at + 8) 0x74617469 && has4 d (at + 11) 0x696F6E00))
 
 -- 1 where the first row is the top one, 2 where it is the bottom one: four bytes at a place say the one or the other
-abbrev pub rowsBy : List ℕ → ℕ → ℕ → ℕ → ℕ
-rowsBy d at down up = cond (has4 d at down) 1 (cond (has4 d at up) 2 0)
+abbrev pub rows_by : List ℕ → ℕ → ℕ → ℕ → ℕ
+rows_by d at down up = cond (has4 d at down) 1 (cond (has4 d at up) 2 0)
 
 -- of KTX 1, ",T=d" or ",T=u" behind "S=r", of an entry of 22 bytes or more; of KTX 2, "rd" or "ru" behind the key's "n" and 0, of 17
-unfoldable pub rowsTold : Bool → List ℕ → ℕ → ℕ → ℕ
-rowsTold second d at size =
-    cond second (cond (ltb size 17) 0 (rowsBy d (at + 13) 0x6E007264 0x6E007275))
-    (cond (ltb size 22) 0 (rowsBy d (at + 18) 0x2C543D64 0x2C543D75))
+unfoldable pub rows_told_lem : Bool → List ℕ → ℕ → ℕ → ℕ
+rows_told_lem second d at size =
+    cond second (cond (ltb size 17) 0 (rows_by d (at + 13) 0x6E007264 0x6E007275))
+    (cond (ltb size 22) 0 (rows_by d (at + 18) 0x2C543D64 0x2C543D75))
 
 -- what the entries from a byte up to another tell, in at most so many turns; the last that tells decides
-unfoldable pub rowsIn : Bool → Bool → List ℕ → ℕ → ℕ → ℕ → ℕ → ℕ
-rowsIn second order d stop zero at told = 0
-rowsIn second order d stop (suc turns) at told =
+unfoldable pub rows_in_lem : Bool → Bool → List ℕ → ℕ → ℕ → ℕ → ℕ → ℕ
+rows_in_lem second order d stop zero at told = 0
+rows_in_lem second order d stop (suc turns) at told =
     cond (eqb at stop) told
     (cond (ltb stop (at + 4)) 0
     (cond (ltb (stop - (at + 4)) ((word32 order d at + 3) / 4 * 4)) 0
-    (rowsIn second order d stop turns (at + 4 + (word32 order d at + 3) / 4 * 4)
-    (cond (isOrientation d (at + 4)) (rowsTold second d (at + 4) (word32 order d at)) told))))
+    (rows_in_lem second order d stop turns (at + 4 + (word32 order d at + 3) / 4 * 4)
+    (cond (is_orientation_lem d (at + 4)) (rows_told_lem second d (at + 4) (word32 order d at)) told))))
 
 -- each entry has four bytes or more, so that as many turns as there are bytes reach the end
-unfoldable pub orientationOf : Bool → Bool → List ℕ → ℕ → ℕ → ℕ
-orientationOf second order d start size =
+unfoldable pub orientation_of : Bool → Bool → List ℕ → ℕ → ℕ → ℕ
+orientation_of second order d start size =
     cond (ltb (length d) start) 0
     (cond (ltb (length d - start) size) 0
-    (rowsIn second order d (start + size) (length d) start 0))
+    (rows_in_lem second order d (start + size) (length d) start 0))

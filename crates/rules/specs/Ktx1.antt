@@ -6,29 +6,25 @@
 --    60  bytesOfKeyValueData
 -- glType, glTypeSize, glFormat and glBaseInternalFormat decide no pixel of a compressed picture, and real files get them wrong.
 -- Assumes nothing.
-use mathlib.Core.Bool.{Bool, true, false, cond, _&&_}
-use mathlib.Core.List.{List, _++_}
-use Prim.Native.Nat.{ℕ, _+_}
-use lib.Dec.{eqb, ltb}
-use lib.ListN.{length}
-use Rattle·numbers.specs.Numbers.{big}
-use Rattle·rules·specs.specs.FileFormats.{row, known, word32, has4, oneAtLeast, isFlat}
-use Rattle·rules·specs.specs.Keys.{orientationOf}
-use Rattle·rules·specs.specs.declared.Format.the-variants.{Etc1, Etc2Rgb, Etc2Rgba1, Etc2Rgba8, EacR, EacRSigned, EacRg, EacRgSigned}
-use Rattle·rules·specs.specs.declared.Format.the-variants.{Bc1, Bc1Alpha, Bc3, Bc7, Bc2, Bc4, Bc4Signed, Bc5, Bc5Signed}
-use Rattle·rules·specs.specs.declared.Answer.the-variants.{HeaderCut, UnknownVersion, UnknownFormat, NotFlat}
-use Rattle·rules·specs.specs.declared.KnownFormat.{KnownFormat}
-use Rattle·rules·specs.specs.declared.KnownFormat.the-variants.{As, Not}
-use Rattle·rules·specs.specs.declared.FileHeader.{FileHeader}
-use Rattle·rules·specs.specs.declared.FileHeader.the-variants.{Holds, Refused}
+use Rattle.std.specs.Prelude.{Bool, true, false, cond, ◌&&◌, List, ◌++◌, ℕ, ◌+◌, eqb, ltb, length}
+use Rattle.numbers.specs.Numbers.{big}
+use Rattle.rules.specs.FileFormats.{row, known, word32, has4, one_at_least_lem, is_flat_lem}
+use Rattle.rules.specs.Keys.{orientation_of}
+use Rattle.rules.specs.declared.Format.TheVariants.{Etc1, Etc2Rgb, Etc2Rgba1, Etc2Rgba8, EacR, EacRSigned, EacRg, EacRgSigned}
+use Rattle.rules.specs.declared.Format.TheVariants.{Bc1, Bc1Alpha, Bc3, Bc7, Bc2, Bc4, Bc4Signed, Bc5, Bc5Signed}
+use Rattle.rules.specs.declared.Answer.TheVariants.{HeaderCut, UnknownVersion, UnknownFormat, NotFlat}
+use Rattle.rules.specs.declared.KnownFormat.{KnownFormat}
+use Rattle.rules.specs.declared.KnownFormat.TheVariants.{As, Not}
+use Rattle.rules.specs.declared.FileHeader.{FileHeader}
+use Rattle.rules.specs.declared.FileHeader.TheVariants.{Holds, Refused}
 
 -- the twelve bytes AB 4B 54 58 20 31 31 BB 0D 0A 1A 0A, in hex
-abbrev pub isKtx1 : List ℕ → Bool
-isKtx1 d = has4 d 0 0xAB4B5458 && (has4 d 4 0x203131BB && has4 d 8 0x0D0A1A0A)
+abbrev pub is_ktx1_lem : List ℕ → Bool
+is_ktx1_lem d = has4 d 0 0xAB4B5458 && (has4 d 4 0x203131BB && has4 d 8 0x0D0A1A0A)
 
 -- OpenGL's numbers of the formats; those behind the EXT_texture_sRGB and BPTC extensions have sRGB forms of their own
-abbrev pub glRows : List ℕ
-glRows =
+abbrev pub gl_rows : List ℕ
+gl_rows =
     row 0x8D64 Etc1 0
     ++ row 0x9270 EacR 0
     ++ row 0x9271 EacRSigned 0
@@ -56,9 +52,9 @@ glRows =
     ++ row 0x8DBE Bc5Signed 0
 
 -- the rest of the header, with what glInternalFormat stands for
-unfoldable pub ktx1As : KnownFormat → Bool → List ℕ → FileHeader
-ktx1As Not order d = Refused UnknownFormat
-ktx1As (As f srgb) order d =
+unfoldable pub ktx1_as : KnownFormat → Bool → List ℕ → FileHeader
+ktx1_as Not order d = Refused UnknownFormat
+ktx1_as (As f srgb) order d =
     Holds
     (record {
       container = 2;
@@ -66,23 +62,23 @@ ktx1As (As f srgb) order d =
       srgb = srgb;
       width = word32 order d 36;
       height = word32 order d 40;
-      levels = oneAtLeast (word32 order d 56);
-      «big_endian» = cond order 1 0;
-      orientation = orientationOf false order d 64 (word32 order d 60);
+      levels = one_at_least_lem (word32 order d 56);
+      big_endian = cond order 1 0;
+      orientation = orientation_of false order d 64 (word32 order d 60);
       start = 64 + word32 order d 60;
       agrees = true;
     })
 
 -- the header in a byte order
-unfoldable pub ktx1In : Bool → List ℕ → FileHeader
-ktx1In order d =
-    cond (isFlat (word32 order d 44) (word32 order d 48) (word32 order d 52)) (ktx1As (known glRows (word32 order d 28)) order d)
+unfoldable pub ktx1_in : Bool → List ℕ → FileHeader
+ktx1_in order d =
+    cond (is_flat_lem (word32 order d 44) (word32 order d 48) (word32 order d 52)) (ktx1_as (known gl_rows (word32 order d 28)) order d)
     (Refused NotFlat)
 
 -- endianness is 04030201 in hex, as the file's own order has it
-unfoldable pub ktx1Of : List ℕ → FileHeader
-ktx1Of d =
+unfoldable pub ktx1_of : List ℕ → FileHeader
+ktx1_of d =
     cond (ltb (length d) 64) (Refused HeaderCut)
-    (cond (eqb (big 4 12 d) 0x04030201) (ktx1In true d)
-    (cond (eqb (big 4 12 d) 0x01020304) (ktx1In false d)
+    (cond (eqb (big 4 12 d) 0x04030201) (ktx1_in true d)
+    (cond (eqb (big 4 12 d) 0x01020304) (ktx1_in false d)
     (Refused UnknownVersion)))

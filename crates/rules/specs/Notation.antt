@@ -1,16 +1,11 @@
 -- The few words of arithmetic that the rules are written in. Each of them is a short name, and unfolds everywhere.
 -- Assumes nothing.
-use mathlib.Core.Bool.{cond}
-use mathlib.Core.List.{List, [], _∷_}
-use Prim.Native.Nat.{ℕ, zero, suc, _-_, _/_, _%_, _^_, min}
-use lib.Dec.{ltb}
-use lib.IntN.{ℤ, pos, negsuc, negℤ, _-ℤ_}
-use lib.ListN.{getD}
-use lib.Signed.{shrZ}
+use Rattle.std.specs.Prelude.{cond, List, [], ◌∷◌, ℕ, zero, suc, ◌-◌, ◌/◌, ◌%◌, ◌^◌, min, ltb, ℤ, pos, negsuc, neg_ℤ, ◌-ℤ◌, get_or}
+use Rattle.std.specs.Int.Signed.{shr_z}
 
 -- byte k of a list of bytes, and 0 past its end
 abbrev pub byte : List ℕ → ℕ → ℕ
-byte d k = getD d k 0
+byte d k = get_or d k 0
 
 -- bit i of n
 abbrev pub bit : ℕ → ℕ → ℕ
@@ -26,7 +21,7 @@ twos n v = cond (ltb v (2 ^ (n - 1))) (pos v) (pos v -ℤ pos (2 ^ n))
 
 -- n less than nothing
 abbrev pub minus : ℕ → ℤ
-minus n = negℤ (pos n)
+minus n = neg_ℤ (pos n)
 
 -- z, clamped to 0..top
 abbrev pub clamp : ℕ → ℤ → ℕ
@@ -40,7 +35,7 @@ modulo (negsuc n) m = m - 1 - n % m
 
 -- floor(z / 4)
 abbrev pub quarter : ℤ → ℤ
-quarter z = shrZ z 4
+quarter z = shr_z z 4
 
 -- the list of f i, f (i + 1), .. of n elements, and the list of f 0 .. f (n - 1)
 abbrev pub from : {A : Type 0} → (ℕ → A) → ℕ → ℕ → List A

@@ -1,96 +1,91 @@
 -- What an older viewer shows wrong, in numbers, over a pair of rules: a guard's own, the older one, and the one that is shown.
 -- Assumes nothing.
-use mathlib.Core.Bool.{Bool, cond, not, _&&_}
-use mathlib.Core.List.{List, [], _∷_}
-use mathlib.Core.Path.{_≡_}
-use Prim.Native.Nat.{ℕ, _+_, _*_, _/_, _%_}
-use lib.Dec.{ltb, eqb}
-use lib.ListN.{length}
-use Rattle·rules·specs.specs.Pixel.{alphaOf}
-use Rattle·rules·specs.specs.Places.{across, blocks, bytesOf}
-use Rattle·rules·specs.specs.Answers.{judged, firstOf}
-use Rattle·rules·specs.specs.Formats.{showsOf}
-use Rattle·rules·specs.specs.Guards.{Guard}
-use Rattle·rules·specs.specs.Census.{countOf, censusChecks}
-use Rattle·rules·specs.specs.Counting.{sumOf, mostOf}
-use Rattle·rules·specs.specs.Checking.{apart, farthest}
-use Rattle·rules·specs.specs.declared.Picture.{Picture}
-use Rattle·rules·specs.specs.declared.OlderCounts.{OlderCounts}
-use Rattle·rules·specs.specs.declared.Older.{Older}
-use Rattle·rules·specs.specs.declared.Older.the-variants as older
+use Rattle.std.specs.Prelude.{Bool, cond, not, ◌&&◌, List, [], ◌∷◌, ◌≡◌, ℕ, ◌+◌, ◌*◌, ◌/◌, ◌%◌, ltb, eqb, length}
+use Rattle.rules.specs.Pixel.{alpha_of}
+use Rattle.rules.specs.Places.{across, blocks, bytes_of}
+use Rattle.rules.specs.Answers.{judged, first_of}
+use Rattle.rules.specs.Formats.{shows_of}
+use Rattle.rules.specs.Guards.{Guard}
+use Rattle.rules.specs.Census.{count_of, census_checks}
+use Rattle.rules.specs.Counting.{sum_of, most_of}
+use Rattle.rules.specs.Checking.{apart, farthest}
+use Rattle.rules.specs.declared.Picture.{Picture}
+use Rattle.rules.specs.declared.OlderCounts.{OlderCounts}
+use Rattle.rules.specs.declared.Older.{Older}
+use Rattle.rules.specs.declared.Older.TheVariants as older
 
 -- "by block and place": a block has places 0 to 15, row by row. What the two rules show at place k of block n
-abbrev pub olderAt : Guard → List ℕ → ℕ → ℕ → ℕ
-olderAt g d n k = showsOf (g .own) (bytesOf 8 d n) (k % 4) (k / 4)
+abbrev pub older_at : Guard → List ℕ → ℕ → ℕ → ℕ
+older_at g d n k = shows_of g.own (bytes_of 8 d n) (k % 4) (k / 4)
 
-abbrev pub newerAt : Guard → List ℕ → ℕ → ℕ → ℕ
-newerAt g d n k = showsOf (g .shown) (bytesOf 8 d n) (k % 4) (k / 4)
+abbrev pub newer_at : Guard → List ℕ → ℕ → ℕ → ℕ
+newer_at g d n k = shows_of g.shown (bytes_of 8 d n) (k % 4) (k / 4)
 
 -- "clipped tiles counted only as far as they are shown"
-abbrev pub inPicture : Picture → ℕ → ℕ → Bool
-inPicture p n k = ltb (n % across (p .width) * 4 + k % 4) (p .width) && ltb (n / across (p .width) * 4 + k / 4) (p .height)
+abbrev pub in_picture : Picture → ℕ → ℕ → Bool
+in_picture p n k = ltb (n % across p.width * 4 + k % 4) p.width && ltb (n / across p.width * 4 + k / 4) p.height
 
 -- "the pixels of a picture that the two rules show differently": of pixels that are shown or not
 abbrev pub wrong : (ℕ → Bool) → (ℕ → ℕ) → (ℕ → ℕ) → ℕ → Bool
 wrong shown old new k = shown k && not (eqb (old k) (new k))
 
-abbrev pub wrongAt : Guard → Picture → List ℕ → ℕ → ℕ → Bool
-wrongAt g p d n = wrong (inPicture p n) (olderAt g d n) (newerAt g d n)
+abbrev pub wrong_at : Guard → Picture → List ℕ → ℕ → ℕ → Bool
+wrong_at g p d n = wrong (in_picture p n) (older_at g d n) (newer_at g d n)
 
 -- a block that has one
-abbrev pub hasWrong : Guard → Picture → List ℕ → ℕ → Bool
-hasWrong g p d n = ltb (firstOf (wrongAt g p d n) 16) 16
+abbrev pub has_wrong : Guard → Picture → List ℕ → ℕ → Bool
+has_wrong g p d n = ltb (first_of (wrong_at g p d n) 16) 16
 
 -- how far such a pixel's colour is off, and its alpha; any other is off by 0
-abbrev pub colourOff : (ℕ → Bool) → (ℕ → ℕ) → (ℕ → ℕ) → ℕ → ℕ
-colourOff shown old new k = cond (wrong shown old new k) (farthest (old k) (new k)) 0
+abbrev pub colour_off_lem : (ℕ → Bool) → (ℕ → ℕ) → (ℕ → ℕ) → ℕ → ℕ
+colour_off_lem shown old new k = cond (wrong shown old new k) (farthest (old k) (new k)) 0
 
-abbrev pub alphaOff : (ℕ → Bool) → (ℕ → ℕ) → (ℕ → ℕ) → ℕ → ℕ
-alphaOff shown old new k = cond (wrong shown old new k) (apart (alphaOf (old k)) (alphaOf (new k))) 0
+abbrev pub alpha_off_lem : (ℕ → Bool) → (ℕ → ℕ) → (ℕ → ℕ) → ℕ → ℕ
+alpha_off_lem shown old new k = cond (wrong shown old new k) (apart (alpha_of (old k)) (alpha_of (new k))) 0
 
 -- Of the first n blocks: "how many pixels, how many blocks;
-abbrev pub wrongPixels : Guard → Picture → List ℕ → ℕ → ℕ
-wrongPixels g p d n = sumOf (λ b. countOf (wrongAt g p d b) 16) n
+abbrev pub wrong_pixels : Guard → Picture → List ℕ → ℕ → ℕ
+wrong_pixels g p d n = sum_of (λ b. count_of (wrong_at g p d b) 16) n
 
-abbrev pub wrongBlocks : Guard → Picture → List ℕ → ℕ → ℕ
-wrongBlocks g p d n = countOf (hasWrong g p d) n
+abbrev pub wrong_blocks : Guard → Picture → List ℕ → ℕ → ℕ
+wrong_blocks g p d n = count_of (has_wrong g p d) n
 
 -- the first such block and its first such pixel", or n and 16 where there is none;
-abbrev pub firstBlock : Guard → Picture → List ℕ → ℕ → ℕ
-firstBlock g p d n = firstOf (hasWrong g p d) n
+abbrev pub first_block_lem : Guard → Picture → List ℕ → ℕ → ℕ
+first_block_lem g p d n = first_of (has_wrong g p d) n
 
-abbrev pub firstPlace : Guard → Picture → List ℕ → ℕ → ℕ
-firstPlace g p d n = cond (ltb (firstBlock g p d n) n) (firstOf (wrongAt g p d (firstBlock g p d n)) 16) 16
+abbrev pub first_place : Guard → Picture → List ℕ → ℕ → ℕ
+first_place g p d n = cond (ltb (first_block_lem g p d n) n) (first_of (wrong_at g p d (first_block_lem g p d n)) 16) 16
 
 -- "the largest difference in any of red, green and blue, and in alpha"
-abbrev pub mostColour : Guard → Picture → List ℕ → ℕ → ℕ
-mostColour g p d n = mostOf (λ b. mostOf (colourOff (inPicture p b) (olderAt g d b) (newerAt g d b)) 16) n
+abbrev pub most_colour : Guard → Picture → List ℕ → ℕ → ℕ
+most_colour g p d n = most_of (λ b. most_of (colour_off_lem (in_picture p b) (older_at g d b) (newer_at g d b)) 16) n
 
-abbrev pub mostAlpha : Guard → Picture → List ℕ → ℕ → ℕ
-mostAlpha g p d n = mostOf (λ b. mostOf (alphaOff (inPicture p b) (olderAt g d b) (newerAt g d b)) 16) n
+abbrev pub most_alpha : Guard → Picture → List ℕ → ℕ → ℕ
+most_alpha g p d n = most_of (λ b. most_of (alpha_off_lem (in_picture p b) (older_at g d b) (newer_at g d b)) 16) n
 
 -- "answer those numbers, or refuse with 1 or 2 as the census does"
-abbrev pub olderCounts : Guard → Picture → List ℕ → ℕ → List ℕ
-olderCounts g p d n =
-    wrongPixels g p d n
-    ∷ wrongBlocks g p d n
-    ∷ firstBlock g p d n
-    ∷ firstPlace g p d n
-    ∷ mostColour g p d n
-    ∷ mostAlpha g p d n
+abbrev pub older_counts_lem : Guard → Picture → List ℕ → ℕ → List ℕ
+older_counts_lem g p d n =
+    wrong_pixels g p d n
+    ∷ wrong_blocks g p d n
+    ∷ first_block_lem g p d n
+    ∷ first_place g p d n
+    ∷ most_colour g p d n
+    ∷ most_alpha g p d n
     ∷ []
 
-abbrev pub olderVerdict : Guard → List ℕ → Picture → List ℕ
-olderVerdict g d p = judged (censusChecks p (length d)) (0 ∷ olderCounts g p d (blocks p))
+abbrev pub older_verdict : Guard → List ℕ → Picture → List ℕ
+older_verdict g d p = judged (census_checks p (length d)) (0 ∷ older_counts_lem g p d (blocks p))
 
-abbrev pub olderValues : OlderCounts → List ℕ
-olderValues c = c .pixels ∷ c .blocks ∷ c .block ∷ c .place ∷ c .colour ∷ c .alpha ∷ []
+abbrev pub older_values : OlderCounts → List ℕ
+older_values c = c.pixels ∷ c.blocks ∷ c.block ∷ c.place ∷ c.colour ∷ c.alpha ∷ []
 
-abbrev pub olderSaid : Older → List ℕ
-olderSaid (older.Counted c) = 0 ∷ olderValues c
-olderSaid older.TooLarge = 1 ∷ []
-olderSaid older.ShortData = 2 ∷ []
+abbrev pub older_said : Older → List ℕ
+older_said (older.Counted c) = 0 ∷ older_values c
+older_said older.TooLarge = 1 ∷ []
+older_said older.ShortData = 2 ∷ []
 
 -- The promises: ETC1 for RGB, and RGB for RGBA1, of bytes d and a picture's description.
 abbrev pub CountsOlder : Guard → List ℕ → Picture → Older → Type 0
-CountsOlder g d p answer = olderSaid answer ≡ olderVerdict g d p
+CountsOlder g d p answer = older_said answer ≡ older_verdict g d p

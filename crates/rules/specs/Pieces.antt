@@ -1,33 +1,28 @@
 -- Reading in pieces (M-105 of document 02): what a state says, what a piece makes of it, the promises of starting, of a piece and of
 -- ending, and a course of many pieces. Every value of `Progress` is a state. Its own sentences stand in quotes.
 -- Assumes nothing.
-use mathlib.Core.Path.{_≡_}
-use mathlib.Core.Bool.{Bool, true, cond, _&&_}
-use mathlib.Core.List.{List, [], _∷_, _++_}
-use Prim.Native.Nat.{ℕ, _+_, _-_, _*_, _/_, _%_, min}
-use lib.Dec.{leb, ltb}
-use lib.ListN.{length, take}
-use Rattle·rules·specs.specs.Notation.{build, byte}
-use Rattle·rules·specs.specs.Places.{needed, inside, blocks, blockAt, bytesFrom, pixelBy, pixelAt, painted}
-use Rattle·rules·specs.specs.Answers.{said, accepts, Check, verdict, limitCheck, pitchCheck, dataCheck, imageCheck}
-use Rattle·rules·specs.specs.Formats.{sizeOf, showsOf}
-use Rattle·rules·specs.specs.declared.Answer.{Answer}
-use Rattle·rules·specs.specs.declared.Format.{Format}
-use Rattle·rules·specs.specs.declared.Picture.{Picture}
-use Rattle·rules·specs.specs.declared.Progress.{Progress}
-use Rattle·rules·specs.specs.declared.Started.{Started}
-use Rattle·rules·specs.specs.declared.Taken.{Taken}
+use Rattle.std.specs.Prelude.{◌≡◌, Bool, true, cond, ◌&&◌, List, [], ◌∷◌, ◌++◌, ℕ, ◌+◌, ◌-◌, ◌*◌, ◌/◌, ◌%◌, min, leb, ltb, length, take}
+use Rattle.rules.specs.Notation.{build, byte}
+use Rattle.rules.specs.Places.{needed, inside, blocks, block_at, bytes_from, pixel_by, pixel_at, painted}
+use Rattle.rules.specs.Answers.{said, accepts, Check, verdict, limit_check, pitch_check, data_check, image_check}
+use Rattle.rules.specs.Formats.{size_of, shows_of}
+use Rattle.rules.specs.declared.Answer.{Answer}
+use Rattle.rules.specs.declared.Format.{Format}
+use Rattle.rules.specs.declared.Picture.{Picture}
+use Rattle.rules.specs.declared.Progress.{Progress}
+use Rattle.rules.specs.declared.Started.{Started}
+use Rattle.rules.specs.declared.Taken.{Taken}
 
 -- the bytes of a block, and of all blocks of the picture
 abbrev pub size : Progress → ℕ
-size p = sizeOf (p .format)
+size p = size_of p.format
 
 abbrev pub whole : Progress → ℕ
-whole p = blocks (p .picture) * size p
+whole p = blocks p.picture * size p
 
 -- how many of them have been taken: a state that says more has taken all
 abbrev pub got : Progress → ℕ
-got p = min (p .taken) (whole p)
+got p = min p.taken (whole p)
 
 -- "paints each block as soon as it is whole": how many are painted
 abbrev pub finished : Progress → ℕ
@@ -35,7 +30,7 @@ finished p = got p / size p
 
 -- "keeps at most 15 bytes between pieces": those of the block that is not yet whole
 abbrev pub held : Progress → List ℕ
-held p = take (got p % size p) (p .kept)
+held p = take (got p % size p) p.kept
 
 -- n bytes of a list from number `at` on, as fifteen with zeros behind
 abbrev pub padded : List ℕ → ℕ → ℕ → List ℕ
@@ -50,33 +45,33 @@ abbrev pub completed : Progress → List ℕ → ℕ
 completed p e = later p e / size p - finished p
 
 -- "later bytes are reported as unused"
-abbrev pub behindLast : Progress → List ℕ → ℕ
-behindLast p e = got p + length e - later p e
+abbrev pub behind_last : Progress → List ℕ → ℕ
+behind_last p e = got p + length e - later p e
 
 -- the state after it: of the kept and new bytes, those behind the completed blocks are kept
 abbrev pub after : Progress → List ℕ → Progress
 after p e =
     record {
-      format = p .format;
-      picture = p .picture;
+      format = p.format;
+      picture = p.picture;
       taken = later p e;
       kept = padded (held p ++ e) (completed p e * size p) (later p e % size p);
     }
 
 -- element k is a pixel of one of the blocks from number first to last - 1
-abbrev pub inRun : Picture → ℕ → ℕ → ℕ → Bool
-inRun p first last k = inside p k && (leb first (blockAt p k) && ltb (blockAt p k) last)
+abbrev pub in_run : Picture → ℕ → ℕ → ℕ → Bool
+in_run p first last k = inside p k && (leb first (block_at p k) && ltb (block_at p k) last)
 
 -- the image after it: the completed blocks are painted, of which the kept and new bytes begin with the first
-abbrev pub imageAfter : Progress → List ℕ → List ℕ → List ℕ
-imageAfter p e image =
-    painted (inRun (p .picture) (finished p) (later p e / size p))
-    (pixelBy (showsOf (p .format)) (bytesFrom (size p) (finished p) (held p ++ e)) (p .picture))
+abbrev pub image_after : Progress → List ℕ → List ℕ → List ℕ
+image_after p e image =
+    painted (in_run p.picture (finished p) (later p e / size p))
+    (pixel_by (shows_of p.format) (bytes_from (size p) (finished p) (held p ++ e)) p.picture)
     image
 
 -- "Starting, with the image lent, refuses with 1, 12 or 3."
-abbrev pub startChecks : Picture → ℕ → List Check
-startChecks p elements = limitCheck p ∷ pitchCheck p ∷ imageCheck (needed p) elements ∷ []
+abbrev pub start_checks : Picture → ℕ → List Check
+start_checks p elements = limit_check p ∷ pitch_check p ∷ image_check (needed p) elements ∷ []
 
 -- nothing has been taken yet
 abbrev pub fresh : Format → Picture → Progress
@@ -84,49 +79,49 @@ fresh f p = record { format = f; picture = p; taken = 0; kept = padded [] 0 0 }
 
 -- The promise of starting: the answer, and the state whatever the answer is.
 pub record Starts (f : Format) (p : Picture) (elements : ℕ) (r : Started) : Type 0 where
-  pub says : said (r .answer) ≡ verdict (startChecks p elements)
-  pub state : r .progress ≡ fresh f p
+  pub says : said r.answer ≡ verdict (start_checks p elements)
+  pub state : r.progress ≡ fresh f p
 
 -- "Each piece lends the image again; too short, it answers 3"; of a state that no start accepted, it answers 1 or 12 as that did
-abbrev pub pieceVerdict : Progress → List ℕ → List ℕ
-pieceVerdict p image = verdict (startChecks (p .picture) (length image))
+abbrev pub piece_verdict : Progress → List ℕ → List ℕ
+piece_verdict p image = verdict (start_checks p.picture (length image))
 
 -- "and nothing is taken or changed": what there is after a piece that is taken, or what there was
-abbrev pub ifTaken : {A : Type 0} → Progress → List ℕ → A → A → A
-ifTaken p image new old = cond (accepts (pieceVerdict p image)) new old
+abbrev pub if_taken : {A : Type 0} → Progress → List ℕ → A → A → A
+if_taken p image new old = cond (accepts (piece_verdict p image)) new old
 
 -- The promise of a piece e.
 pub record Takes (p : Progress) (e image : List ℕ) (r : Taken) (new : List ℕ) : Type 0 where
-  pub says : said (r .answer) ≡ pieceVerdict p image
-  pub state : r .progress ≡ ifTaken p image (after p e) p
-  pub painted : r .painted ≡ ifTaken p image (completed p e) 0
-  pub unused : r .unused ≡ ifTaken p image (behindLast p e) (length e)
-  pub leaves : new ≡ ifTaken p image (imageAfter p e image) image
+  pub says : said r.answer ≡ piece_verdict p image
+  pub state : r.progress ≡ if_taken p image (after p e) p
+  pub painted : r.painted ≡ if_taken p image (completed p e) 0
+  pub unused : r.unused ≡ if_taken p image (behind_last p e) (length e)
+  pub leaves : new ≡ if_taken p image (image_after p e image) image
 
 -- "Ending answers 0 when all blocks are painted, else 2, keeping what is painted"; it is lent no image
-abbrev pub endChecks : Progress → List Check
-endChecks p = limitCheck (p .picture) ∷ pitchCheck (p .picture) ∷ dataCheck (whole p) (p .taken) ∷ []
+abbrev pub end_checks : Progress → List Check
+end_checks p = limit_check p.picture ∷ pitch_check p.picture ∷ data_check (whole p) p.taken ∷ []
 
 -- The promise of ending.
 abbrev pub Ends : Progress → Answer → Type 0
-Ends p answer = said answer ≡ verdict (endChecks p)
+Ends p answer = said answer ≡ verdict (end_checks p)
 
 -- What has happened once the bytes d have arrived, however they were cut: how many of them belong to blocks of the picture,
 abbrev pub used : Format → Picture → List ℕ → ℕ
-used f p d = min (length d) (blocks p * sizeOf f)
+used f p d = min (length d) (blocks p * size_of f)
 
 -- how many blocks they complete,
 abbrev pub wholes : Format → Picture → List ℕ → ℕ
-wholes f p d = used f p d / sizeOf f
+wholes f p d = used f p d / size_of f
 
 -- the state,
-abbrev pub stateOf : Format → Picture → List ℕ → Progress
-stateOf f p d =
-    record { format = f; picture = p; taken = used f p d; kept = padded d (wholes f p d * sizeOf f) (used f p d % sizeOf f) }
+abbrev pub state_of : Format → Picture → List ℕ → Progress
+state_of f p d =
+    record { format = f; picture = p; taken = used f p d; kept = padded d (wholes f p d * size_of f) (used f p d % size_of f) }
 
 -- and the image: those blocks are painted over the first one, and nothing else has changed
-abbrev pub soFar : Format → Picture → List ℕ → List ℕ → List ℕ
-soFar f p d image = painted (inRun p 0 (wholes f p d)) (pixelAt (showsOf f) (sizeOf f) p d) image
+abbrev pub so_far : Format → Picture → List ℕ → List ℕ → List ℕ
+so_far f p d image = painted (in_run p 0 (wholes f p d)) (pixel_at (shows_of f) (size_of f) p d) image
 
 -- "Bytes arrive in pieces of any length, 0 included": all bytes of some pieces
 abbrev pub joined : List (List ℕ) → List ℕ
@@ -139,6 +134,6 @@ pub data Course : Progress → List ℕ → List (List ℕ) → Progress → Lis
   nothing : {p : Progress} {image : List ℕ} → Course p image [] p image 0 0
   followed : {p q : Progress} {image mid new e : List ℕ} {es : List (List ℕ)} {n u : ℕ} (r : Taken)
       → Takes p e image r mid
-      → accepts (said (r .answer)) ≡ true
-      → Course (r .progress) mid es q new n u
-      → Course p image (e ∷ es) q new (r .painted + n) (r .unused + u)
+      → accepts (said r.answer) ≡ true
+      → Course r.progress mid es q new n u
+      → Course p image (e ∷ es) q new (r.painted + n) (r.unused + u)

@@ -2,30 +2,26 @@
 --     0  "PKM "            4  version, "10" or "20"     6  type
 --     8  padded width     10  padded height            12  width      14  height
 -- Assumes nothing.
-use mathlib.Core.Bool.{Bool, cond, _&&_}
-use mathlib.Core.List.{List, _++_}
-use Prim.Native.Nat.{ℕ, _+_, _*_, _/_}
-use lib.Dec.{eqb, ltb}
-use lib.ListN.{length}
-use Rattle·numbers.specs.Numbers.{big}
-use Rattle·rules·specs.specs.FileFormats.{row, known, has4}
-use Rattle·rules·specs.specs.declared.Format.the-variants.{Etc1, Etc2Rgb, Etc2Rgba1, Etc2Rgba8, EacR, EacRSigned, EacRg, EacRgSigned}
-use Rattle·rules·specs.specs.declared.Answer.the-variants.{HeaderCut, UnknownVersion, UnknownFormat}
-use Rattle·rules·specs.specs.declared.KnownFormat.{KnownFormat}
-use Rattle·rules·specs.specs.declared.KnownFormat.the-variants.{As, Not}
-use Rattle·rules·specs.specs.declared.FileHeader.{FileHeader}
-use Rattle·rules·specs.specs.declared.FileHeader.the-variants.{Holds, Refused}
+use Rattle.std.specs.Prelude.{Bool, cond, ◌&&◌, List, ◌++◌, ℕ, ◌+◌, ◌*◌, ◌/◌, eqb, ltb, length}
+use Rattle.numbers.specs.Numbers.{big}
+use Rattle.rules.specs.FileFormats.{row, known, has4}
+use Rattle.rules.specs.declared.Format.TheVariants.{Etc1, Etc2Rgb, Etc2Rgba1, Etc2Rgba8, EacR, EacRSigned, EacRg, EacRgSigned}
+use Rattle.rules.specs.declared.Answer.TheVariants.{HeaderCut, UnknownVersion, UnknownFormat}
+use Rattle.rules.specs.declared.KnownFormat.{KnownFormat}
+use Rattle.rules.specs.declared.KnownFormat.TheVariants.{As, Not}
+use Rattle.rules.specs.declared.FileHeader.{FileHeader}
+use Rattle.rules.specs.declared.FileHeader.TheVariants.{Holds, Refused}
 
-abbrev pub isPkm : List ℕ → Bool
-isPkm d = has4 d 0 0x504B4D20
+abbrev pub is_pkm : List ℕ → Bool
+is_pkm d = has4 d 0 0x504B4D20
 
 -- version 1.0 has one type
-abbrev pub pkmRows1 : List ℕ
-pkmRows1 = row 0 Etc1 0
+abbrev pub pkm_rows1 : List ℕ
+pkm_rows1 = row 0 Etc1 0
 
 -- version 2.0: 2 is a form of RGBA that was given up; 9 to 11 are the sRGB forms
-abbrev pub pkmRows2 : List ℕ
-pkmRows2 =
+abbrev pub pkm_rows2 : List ℕ
+pkm_rows2 =
     row 0 Etc1 0
     ++ row 1 Etc2Rgb 0
     ++ row 3 Etc2Rgba8 0
@@ -43,9 +39,9 @@ abbrev pub padded : ℕ → ℕ
 padded n = (n + 3) / 4 * 4
 
 -- the rest of the header, with what its type stands for
-unfoldable pub pkmAs : KnownFormat → List ℕ → FileHeader
-pkmAs Not d = Refused UnknownFormat
-pkmAs (As f srgb) d =
+unfoldable pub pkm_as : KnownFormat → List ℕ → FileHeader
+pkm_as Not d = Refused UnknownFormat
+pkm_as (As f srgb) d =
     Holds
     (record {
       container = 1;
@@ -54,15 +50,15 @@ pkmAs (As f srgb) d =
       width = big 2 12 d;
       height = big 2 14 d;
       levels = 1;
-      «big_endian» = 1;
+      big_endian = 1;
       orientation = 0;
       start = 16;
       agrees = eqb (big 2 8 d) (padded (big 2 12 d)) && eqb (big 2 10 d) (padded (big 2 14 d));
     })
 
-unfoldable pub pkmOf : List ℕ → FileHeader
-pkmOf d =
+unfoldable pub pkm_of : List ℕ → FileHeader
+pkm_of d =
     cond (ltb (length d) 16) (Refused HeaderCut)
-    (cond (eqb (big 2 4 d) 0x3130) (pkmAs (known pkmRows1 (big 2 6 d)) d)
-    (cond (eqb (big 2 4 d) 0x3230) (pkmAs (known pkmRows2 (big 2 6 d)) d)
+    (cond (eqb (big 2 4 d) 0x3130) (pkm_as (known pkm_rows1 (big 2 6 d)) d)
+    (cond (eqb (big 2 4 d) 0x3230) (pkm_as (known pkm_rows2 (big 2 6 d)) d)
     (Refused UnknownVersion)))

@@ -1,140 +1,135 @@
 -- Sheets (M-101 of document 02): what they hold, when they are refused, and what their readers and their writer owe, for all inputs.
 -- Its own sentences stand in quotes above the definitions that they become.
 -- Assumes nothing.
-use mathlib.Core.Path.{_≡_}
-use mathlib.Core.Bool.{Bool, cond, not, _&&_}
-use mathlib.Core.List.{List, [], _∷_, _++_}
-use Prim.Native.Nat.{ℕ, _*_}
-use lib.Dec.{eqb, ltb}
-use lib.ListN.{length, getD, drop}
-use Rattle·numbers.specs.Numbers.{little, inBytes}
-use Rattle·rules·specs.specs.Notation.{byte}
-use Rattle·rules·specs.specs.Places.{sized, needed, blocks}
-use Rattle·rules·specs.specs.Answers.{said, accepts, Check, refusal, judged, sidesCheck, imageCheck, verdict, Outcome}
-use Rattle·rules·specs.specs.Formats.{sizeOf}
-use Rattle·rules·specs.specs.Readers.{pictureOf}
-use Rattle·rules·specs.specs.declared.Answer.{Answer}
-use Rattle·rules·specs.specs.declared.Format.{Format}
-use Rattle·rules·specs.specs.declared.Format.the-variants.{Etc1, Etc2Rgb, Etc2Rgba1, Etc2Rgba8, EacR, EacRSigned, EacRg, EacRgSigned}
-use Rattle·rules·specs.specs.declared.Picture.{Picture}
-use Rattle·rules·specs.specs.declared.Sheet.{Sheet}
-use Rattle·rules·specs.specs.declared.Sheet.the-variants.{Holds, Refused}
-use Rattle·rules·specs.specs.declared.Written.{Written}
-use Rattle·rules·specs.specs.Records.{Record, encoded, Records, more, ended, short, recordsOf, first, later, kept}
+use Rattle.std.specs.Prelude.{◌≡◌, Bool, cond, not, ◌&&◌, List, [], ◌∷◌, ◌++◌, ℕ, ◌*◌, eqb, ltb, length, get_or, drop}
+use Rattle.numbers.specs.Numbers.{little, in_bytes}
+use Rattle.rules.specs.Notation.{byte}
+use Rattle.rules.specs.Places.{sized, needed, blocks}
+use Rattle.rules.specs.Answers.{said, accepts, Check, refusal, judged, sides_check, image_check, verdict, Outcome}
+use Rattle.rules.specs.Formats.{size_of}
+use Rattle.rules.specs.Readers.{picture_of}
+use Rattle.rules.specs.declared.Answer.{Answer}
+use Rattle.rules.specs.declared.Format.{Format}
+use Rattle.rules.specs.declared.Format.TheVariants.{Etc1, Etc2Rgb, Etc2Rgba1, Etc2Rgba8, EacR, EacRSigned, EacRg, EacRgSigned}
+use Rattle.rules.specs.declared.Picture.{Picture}
+use Rattle.rules.specs.declared.Sheet.{Sheet}
+use Rattle.rules.specs.declared.Sheet.TheVariants.{Holds, Refused}
+use Rattle.rules.specs.declared.Written.{Written}
+use Rattle.rules.specs.Records.{Record, encoded, Records, more, ended, short, records_of, first, later, kept}
 
 -- "Size limit 1", and M-104: "A sheet .. keeps the limit of 16,384 for its length field's sake"
-abbrev pub sheetLimit : ℕ
-sheetLimit = 16384
+abbrev pub sheet_limit : ℕ
+sheet_limit = 16384
 
 -- "a format number 0 to 7 in the order of 01's eight readers (R, R signed, RG, RG signed at the end)": a table of its own
 abbrev pub formats : List Format
 formats = Etc1 ∷ Etc2Rgb ∷ Etc2Rgba1 ∷ Etc2Rgba8 ∷ EacR ∷ EacRSigned ∷ EacRg ∷ EacRgSigned ∷ []
 
-unfoldable pub formatOf : ℕ → Format
-formatOf n = getD formats n Etc1
+unfoldable pub format_of : ℕ → Format
+format_of n = get_or formats n Etc1
 
 -- "exactly the blocks": how many bytes they are, of a picture in the format of a number
-abbrev pub blockBytes : ℕ → Picture → ℕ
-blockBytes f p = blocks p * sizeOf (formatOf f)
+abbrev pub block_bytes_lem : ℕ → Picture → ℕ
+block_bytes_lem f p = blocks p * size_of (format_of f)
 
 -- "The first record is kind 1, payload 9 bytes: a format number 0 to 7 .., width and height, four bytes each." And M-104: "A sheet
 -- has pitch equal to width"
-abbrev pub formatIn : Record → ℕ
-formatIn r = byte (r .payload) 0
+abbrev pub format_in : Record → ℕ
+format_in r = byte r.payload 0
 
-abbrev pub sizeIn : Record → Picture
-sizeIn r = sized (little 4 1 (r .payload)) (little 4 5 (r .payload))
+abbrev pub size_in : Record → Picture
+size_in r = sized (little 4 1 r.payload) (little 4 5 r.payload)
 
 -- "8 first record not kind 1, not 9 long, or format above 7": it is a head
-abbrev pub isHead : Record → Bool
-isHead r = eqb (r .kind) 1 && (eqb (length (r .payload)) 9 && ltb (formatIn r) 8)
+abbrev pub is_head : Record → Bool
+is_head r = eqb r.kind 1 && (eqb (length r.payload) 9 && ltb (format_in r) 8)
 
 -- What the walk says, and where it finds no fault, what is still to be said: `then`. "The walk goes front to back and the first
 -- fault wins, in one record 7 first". Behind the blocks, of records that are not skipped: "10 .. a second one", "9 any other kind"
-abbrev pub afterBlocks : List ℕ → Records → List ℕ
-afterBlocks then (more r rs) = judged (refusal 9 (not (eqb (r .kind) 2)) ∷ []) (10 ∷ [])
-afterBlocks then ended = then
-afterBlocks then short = 7 ∷ []
+abbrev pub after_blocks_lem : List ℕ → Records → List ℕ
+after_blocks_lem then (more r rs) = judged (refusal 9 (not (eqb r.kind 2)) ∷ []) (10 ∷ [])
+after_blocks_lem then ended = then
+after_blocks_lem then short = 7 ∷ []
 
 -- behind the head of a sheet whose blocks are n bytes: "exactly one record of kind 2 with exactly the blocks"; "9 any other kind,
 -- a second kind 1 included; 10 no block record, a second one, or a wrong block length"; "a missing block record is found at the end"
-abbrev pub afterHead : ℕ → List ℕ → Records → List ℕ
-afterHead n then (more r rs) =
-    judged (refusal 9 (not (eqb (r .kind) 2)) ∷ refusal 10 (not (eqb (length (r .payload)) n)) ∷ []) (afterBlocks then rs)
-afterHead n then ended = 10 ∷ []
-afterHead n then short = 7 ∷ []
+abbrev pub after_head : ℕ → List ℕ → Records → List ℕ
+after_head n then (more r rs) =
+    judged (refusal 9 (not (eqb r.kind 2)) ∷ refusal 10 (not (eqb (length r.payload) n)) ∷ []) (after_blocks_lem then rs)
+after_head n then ended = 10 ∷ []
+after_head n then short = 7 ∷ []
 
 -- from the first record on, with the records behind it that are not skipped: 8, and "Size limit 1 is tested right after 8"
-abbrev pub fromHead : Record → List ℕ → Records → List ℕ
-fromHead r then rs =
-    judged (refusal 8 (not (isHead r)) ∷ sidesCheck sheetLimit (sizeIn r) ∷ [])
-    (afterHead (blockBytes (formatIn r) (sizeIn r)) then rs)
+abbrev pub from_head : Record → List ℕ → Records → List ℕ
+from_head r then rs =
+    judged (refusal 8 (not (is_head r)) ∷ sides_check sheet_limit (size_in r) ∷ [])
+    (after_head (block_bytes_lem (format_in r) (size_in r)) then rs)
 
 -- the whole walk: "7 record cut short, or no bytes at all"
-abbrev pub walkVerdict : List ℕ → Records → List ℕ
-walkVerdict then (more r rs) = fromHead r then (kept rs)
-walkVerdict then ended = 7 ∷ []
-walkVerdict then short = 7 ∷ []
+abbrev pub walk_verdict : List ℕ → Records → List ℕ
+walk_verdict then (more r rs) = from_head r then (kept rs)
+walk_verdict then ended = 7 ∷ []
+walk_verdict then short = 7 ∷ []
 
 -- what a sheet holds: its head, and the payload of its block record
-abbrev pub headIn : List ℕ → Record
-headIn d = first (recordsOf d)
+abbrev pub head_in : List ℕ → Record
+head_in d = first (records_of d)
 
-abbrev pub blocksIn : List ℕ → List ℕ
-blocksIn d = first (kept (later (recordsOf d))) .payload
+abbrev pub blocks_in : List ℕ → List ℕ
+blocks_in d = (first (kept (later (records_of d)))).payload
 
 -- what a sheet that is asked for its head says on paper: 0 with format, width and height, or a refusal
 abbrev pub told : Sheet → List ℕ
-told (Holds h) = 0 ∷ h .format ∷ h .width ∷ h .height ∷ []
+told (Holds h) = 0 ∷ h.format ∷ h.width ∷ h.height ∷ []
 told (Refused a) = said a
 
 -- The head's reader: the whole walk, without an image.
-unfoldable pub headVerdict : List ℕ → List ℕ
-headVerdict d =
-    walkVerdict (0 ∷ formatIn (headIn d) ∷ sizeIn (headIn d) .width ∷ sizeIn (headIn d) .height ∷ []) (recordsOf d)
+unfoldable pub head_verdict : List ℕ → List ℕ
+head_verdict d =
+    walk_verdict (0 ∷ format_in (head_in d) ∷ (size_in (head_in d)).width ∷ (size_in (head_in d)).height ∷ []) (records_of d)
 
 abbrev pub TellsHead : List ℕ → Sheet → Type 0
-TellsHead d sheet = told sheet ≡ headVerdict d
+TellsHead d sheet = told sheet ≡ head_verdict d
 
 -- "image length 3 last"
-unfoldable pub readVerdict : List ℕ → ℕ → List ℕ
-readVerdict d elements = walkVerdict (verdict (imageCheck (needed (sizeIn (headIn d))) elements ∷ [])) (recordsOf d)
+unfoldable pub read_verdict : List ℕ → ℕ → List ℕ
+read_verdict d elements = walk_verdict (verdict (image_check (needed (size_in (head_in d))) elements ∷ [])) (records_of d)
 
 -- the picture that a sheet shows: that of exactly its blocks, in the format and the size that its head names
-abbrev pub sheetPicture : List ℕ → List ℕ → List ℕ
-sheetPicture d image = pictureOf (formatOf (formatIn (headIn d))) (sizeIn (headIn d)) (blocksIn d) image
+abbrev pub sheet_picture : List ℕ → List ℕ → List ℕ
+sheet_picture d image = picture_of (format_of (format_in (head_in d))) (size_in (head_in d)) (blocks_in d) image
 
 -- The reader of a sheet. "A refusal paints nothing."
 abbrev pub ReadsSheet : List ℕ → List ℕ → Answer → List ℕ → Type 0
-ReadsSheet d image answer new = Outcome (readVerdict d (length image)) (sheetPicture d image) answer image new
+ReadsSheet d image answer new = Outcome (read_verdict d (length image)) (sheet_picture d image) answer image new
 
 -- "The writer gives head and blocks only"
-abbrev pub headRecord : ℕ → Picture → Record
-headRecord f p = record { kind = 1; payload = f ∷ inBytes 4 (p .width) ++ inBytes 4 (p .height) }
+abbrev pub head_record : ℕ → Picture → Record
+head_record f p = record { kind = 1; payload = f ∷ in_bytes 4 p.width ++ in_bytes 4 p.height }
 
-abbrev pub blockRecord : List ℕ → Record
-blockRecord b = record { kind = 2; payload = b }
+abbrev pub block_record : List ℕ → Record
+block_record b = record { kind = 2; payload = b }
 
-unfoldable pub sheetOf : ℕ → Picture → List ℕ → List ℕ
-sheetOf f p b = encoded (headRecord f p) ++ encoded (blockRecord b)
+unfoldable pub sheet_of : ℕ → Picture → List ℕ → List ℕ
+sheet_of f p b = encoded (head_record f p) ++ encoded (block_record b)
 
 -- "it refuses with 8 (format), 1, 10 (blocks not of the exact length) or 3 (less room than the sheet needs), in that order"
-abbrev pub writeChecks : ℕ → Picture → List ℕ → ℕ → List Check
-writeChecks f p b room =
+abbrev pub write_checks : ℕ → Picture → List ℕ → ℕ → List Check
+write_checks f p b room =
     refusal 8 (ltb 7 f)
-    ∷ sidesCheck sheetLimit p
-    ∷ refusal 10 (not (eqb (length b) (blockBytes f p)))
-    ∷ imageCheck (length (sheetOf f p b)) room
+    ∷ sides_check sheet_limit p
+    ∷ refusal 10 (not (eqb (length b) (block_bytes_lem f p)))
+    ∷ image_check (length (sheet_of f p b)) room
     ∷ []
 
-unfoldable pub writeVerdict : ℕ → Picture → List ℕ → ℕ → List ℕ
-writeVerdict f p b room = verdict (writeChecks f p b room)
+unfoldable pub write_verdict : ℕ → Picture → List ℕ → ℕ → List ℕ
+write_verdict f p b room = verdict (write_checks f p b room)
 
 -- ".. changing nothing; bytes after the sheet keep their value"
-abbrev pub sheetOver : ℕ → Picture → List ℕ → List ℕ → List ℕ
-sheetOver f p b out = sheetOf f p b ++ drop (length (sheetOf f p b)) out
+abbrev pub sheet_over : ℕ → Picture → List ℕ → List ℕ → List ℕ
+sheet_over f p b out = sheet_of f p b ++ drop (length (sheet_of f p b)) out
 
 -- The writer of a sheet, in a lent buffer; it also gives the number of bytes that the sheet has.
 pub record WritesSheet (f : ℕ) (p : Picture) (b out : List ℕ) (written : Written) (new : List ℕ) : Type 0 where
-  pub outcome : Outcome (writeVerdict f p b (length out)) (sheetOver f p b out) (written .answer) out new
-  pub bytes : written .bytes ≡ cond (accepts (writeVerdict f p b (length out))) (length (sheetOf f p b)) 0
+  pub outcome : Outcome (write_verdict f p b (length out)) (sheet_over f p b out) written.answer out new
+  pub bytes : written.bytes ≡ cond (accepts (write_verdict f p b (length out))) (length (sheet_of f p b)) 0

@@ -1,94 +1,94 @@
 -- What a sheet without a fault tells and shows: its promise is that of the plain reader on exactly its blocks. And what one with a
 -- fault does.
 -- Assumes nothing.
-use mathlib.Core.Path.{_≡_, _∙_, sym, ap}
-use mathlib.Core.List.{List, [], _∷_}
-use Prim.Native.Nat.{ℕ, _*_}
+use mathlib.Core.Path.{◌≡◌, ◌∙◌, sym, ap}
+use mathlib.Core.List.{List, [], ◌∷◌}
+use Prim.Native.Nat.{ℕ, ◌*◌}
 use native.Mathlib.Omega.{arith}
 use borrow.Author.Tests.{le-ltb}
 use lib.ListN.{length}
-use Rattle·rules.specs.Places.{needed, blocks}
-use Rattle·rules.specs.Answers.{said, accepts, verdict, limit, imageCheck, left}
-use Rattle·rules.specs.Formats.{sizeOf}
-use Rattle·rules.specs.Readers.{pictureOf, pictureVerdict, ReadsPicture}
-use Rattle·rules.specs.declared.Answer.{Answer}
-use Rattle·rules.specs.declared.Head.{Head}
-use Rattle·rules.specs.declared.Picture.{Picture}
-use Rattle·rules.specs.declared.Sheet.the-variants.{Holds, Refused}
-use Rattle·laws.proofs.Outcome.{unchanged}
-use Rattle·rules.specs.Sheets.{formatOf, formatIn, sizeIn, headIn, blocksIn, headVerdict, readVerdict, sheetPicture, TellsHead, ReadsSheet}
-use Rattle·sheet·specs.specs.Shown.{walk, Halts, sizeOfHead, Shown}
+use Rattle.rules.specs.Places.{needed, blocks}
+use Rattle.rules.specs.Answers.{said, accepts, verdict, limit, image_check, left}
+use Rattle.rules.specs.Formats.{size_of}
+use Rattle.rules.specs.Readers.{picture_of, picture_verdict, ReadsPicture}
+use Rattle.rules.specs.declared.Answer.{Answer}
+use Rattle.rules.specs.declared.Head.{Head}
+use Rattle.rules.specs.declared.Picture.{Picture}
+use Rattle.rules.specs.declared.Sheet.TheVariants.{Holds, Refused}
+use Rattle.laws.proofs.Outcome.{unchanged}
+use Rattle.rules.specs.Sheets.{format_of, format_in, size_in, head_in, blocks_in, head_verdict, read_verdict, sheet_picture, TellsHead, ReadsSheet}
+use Rattle.sheet.specs.Shown.{walk, Halts, size_of_head, Shown}
 
 -- what is still to be said of some bytes, once the walk has found no fault: by the head's reader, and by the reader
-abbrev pub headSaid : List ℕ → List ℕ
-headSaid d = 0 ∷ formatIn (headIn d) ∷ sizeIn (headIn d) .width ∷ sizeIn (headIn d) .height ∷ []
+abbrev pub head_said : List ℕ → List ℕ
+head_said d = 0 ∷ format_in (head_in d) ∷ (size_in (head_in d)).width ∷ (size_in (head_in d)).height ∷ []
 
-abbrev pub roomSaid : ℕ → Picture → List ℕ
-roomSaid elements p = verdict (imageCheck (needed p) elements ∷ [])
+abbrev pub room_said : ℕ → Picture → List ℕ
+room_said elements p = verdict (image_check (needed p) elements ∷ [])
 
 module _ (d : List ℕ) (h : Head) (b : List ℕ) (s : Shown d h b) where
   pub tells : TellsHead d (Holds h)
-  unfolding headVerdict
+  unfolding head_verdict
   tells =
-      sym (s .passes (headSaid d)
-      ∙ ap (λ (z : ℕ). 0 ∷ z ∷ sizeIn (headIn d) .width ∷ sizeIn (headIn d) .height ∷ []) (s .begins .format)
-      ∙ ap (λ (p : Picture). 0 ∷ h .format ∷ p .width ∷ p .height ∷ []) (s .begins .size))
+      sym (s.passes (head_said d)
+      ∙ ap (λ (z : ℕ). 0 ∷ z ∷ (size_in (head_in d)).width ∷ (size_in (head_in d)).height ∷ []) s.begins.format
+      ∙ ap (λ (p : Picture). 0 ∷ h.format ∷ p.width ∷ p.height ∷ []) s.begins.size)
 
   module _ (image : List ℕ) where
-    pub reads-room : readVerdict d (length image) ≡ roomSaid (length image) (sizeOfHead h)
-    unfolding readVerdict
-    reads-room = s .passes (roomSaid (length image) (sizeIn (headIn d))) ∙ ap (roomSaid (length image)) (s .begins .size)
+    pub reads_room : read_verdict d (length image) ≡ room_said (length image) (size_of_head h)
+    unfolding read_verdict
+    reads_room = s.passes (room_said (length image) (size_in (head_in d))) ∙ ap (room_said (length image)) s.begins.size
 
     -- on exactly the blocks the plain reader can only refuse for want of room
-    plain-room : pictureVerdict (formatOf (h .format)) (sizeOfHead h) b image ≡ roomSaid (length image) (sizeOfHead h)
-    plain-room =
+    plain_room : picture_verdict (format_of h.format) (size_of_head h) b image ≡ room_said (length image) (size_of_head h)
+    plain_room =
         rw (
-          le-ltb limit (h .width) (omega (arith, s .begins .sound .narrow)),
-          le-ltb limit (h .height) (omega (arith, s .begins .sound .low)),
-          le-ltb (h .width) (h .width) (omega arith),
-          le-ltb (length b) (blocks (sizeOfHead h) * sizeOf (formatOf (h .format))) (omega (arith, s .exact)),
+          le-ltb limit h.width (omega (arith, s.begins.sound.narrow)),
+          le-ltb limit h.height (omega (arith, s.begins.sound.low)),
+          le-ltb h.width h.width (omega arith),
+          le-ltb (length b) (blocks (size_of_head h) * size_of (format_of h.format)) (omega (arith, s.exact)),
         )
 
-    pub verdict-is : pictureVerdict (formatOf (h .format)) (sizeOfHead h) b image ≡ readVerdict d (length image)
-    verdict-is = plain-room ∙ sym reads-room
+    pub verdict_is : picture_verdict (format_of h.format) (size_of_head h) b image ≡ read_verdict d (length image)
+    verdict_is = plain_room ∙ sym reads_room
 
-    pub picture-is : pictureOf (formatOf (h .format)) (sizeOfHead h) b image ≡ sheetPicture d image
-    picture-is =
-        sym (ap (λ (z : ℕ). pictureOf (formatOf z) (sizeIn (headIn d)) (blocksIn d) image) (s .begins .format)
-        ∙ ap (λ (p : Picture). pictureOf (formatOf (h .format)) p (blocksIn d) image) (s .begins .size)
-        ∙ ap (λ (z : List ℕ). pictureOf (formatOf (h .format)) (sizeOfHead h) z image) (s .blocks))
+    pub picture_is : picture_of (format_of h.format) (size_of_head h) b image ≡ sheet_picture d image
+    picture_is =
+        sym (ap (λ (z : ℕ). picture_of (format_of z) (size_in (head_in d)) (blocks_in d) image) s.begins.format
+        ∙ ap (λ (p : Picture). picture_of (format_of h.format) p (blocks_in d) image) s.begins.size
+        ∙ ap (λ (z : List ℕ). picture_of (format_of h.format) (size_of_head h) z image) s.blocks)
 
     module _ (new : List ℕ) (a : Answer) where
       -- from the plain reader's promise to the sheet's, and back
-      pub reads : ReadsPicture (formatOf (h .format)) b (sizeOfHead h) image a new → ReadsSheet d image a new
+      pub reads : ReadsPicture (format_of h.format) b (size_of_head h) image a new → ReadsSheet d image a new
       reads q =
           record {
-            says = q .says ∙ verdict-is;
+            says = q.says ∙ verdict_is;
             leaves =
-                q .leaves
-                ∙ ap (λ (v : List ℕ). left v (pictureOf (formatOf (h .format)) (sizeOfHead h) b image) image) verdict-is
-                ∙ ap (λ (z : List ℕ). left (readVerdict d (length image)) z image) picture-is;
+                q.leaves
+                ∙ ap (λ (v : List ℕ). left v (picture_of (format_of h.format) (size_of_head h) b image) image) verdict_is
+                ∙ ap (λ (z : List ℕ). left (read_verdict d (length image)) z image) picture_is;
           }
 
-      pub plainly : ReadsSheet d image a new → ReadsPicture (formatOf (h .format)) b (sizeOfHead h) image a new
+      pub plainly : ReadsSheet d image a new → ReadsPicture (format_of h.format) b (size_of_head h) image a new
       plainly q =
           record {
-            says = q .says ∙ sym verdict-is;
+            says = q.says ∙ sym verdict_is;
             leaves =
-                q .leaves
-                ∙ ap (λ (v : List ℕ). left v (sheetPicture d image) image) (sym verdict-is)
-                ∙ ap (λ (z : List ℕ). left (pictureVerdict (formatOf (h .format)) (sizeOfHead h) b image) z image) (sym picture-is);
+                q.leaves
+                ∙ ap (λ (v : List ℕ). left v (sheet_picture d image) image) (sym verdict_is)
+                ∙ ap (λ (z : List ℕ). left (picture_verdict (format_of h.format) (size_of_head h) b image) z image) (sym picture_is);
           }
 
 -- a sheet with a fault, told by an answer
 module _ (d : List ℕ) (p : Halts (walk d)) (a : Answer) (e : said a ≡ walk d []) where
-  pub tells-refusal : TellsHead d (Refused a)
-  unfolding headVerdict
-  tells-refusal = e ∙ sym (p .alike (headSaid d))
+  pub tells_refusal : TellsHead d (Refused a)
+  unfolding head_verdict
+  tells_refusal = e ∙ sym (p.alike (head_said d))
 
   pub refuses : (image : List ℕ) → ReadsSheet d image a image
-  unfolding readVerdict
+  unfolding read_verdict
   refuses image =
-      unchanged (readVerdict d (length image)) (sheetPicture d image) image a
-      (e ∙ sym (p .alike (roomSaid (length image) (sizeIn (headIn d)))))
-      (ap accepts e ∙ p .refused)
+      unchanged (read_verdict d (length image)) (sheet_picture d image) image a
+      (e ∙ sym (p.alike (room_said (length image) (size_in (head_in d)))))
+      (ap accepts e ∙ p.refused)

@@ -1,13 +1,13 @@
 // The whole walk over a sheet: its head, and the start of its blocks.
-use super::first;
+ghost use Rattle.sheet.specs.find.Found.{Finds};
+
 use super::first::Found;
-use super::later;
 use super::later::Blocks;
-ghost use Rattle·sheet·specs.specs.find.Found.{Finds};
+use super::{first, later};
 
 // The head of a sheet, with the start of its blocks and how many bytes they are.
 pub fn find(d: &[u8]) -> Found
-    ensures { λ r. ⌜ Finds (now (d .entry)) r ⌝ }
+    ensures { Finds d.now result }
 {
     let head = first::first_record(d);
     match head {

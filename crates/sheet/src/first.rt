@@ -1,12 +1,12 @@
 // The first record of a sheet: its head, or why there is none.
+ghost use Rattle.sheet.specs.first.Heads.{Heads};
+
 use super::records;
 use super::records::Met;
-use rules::Answer;
-use rules::Head;
-use rules::Picture;
-ghost use Rattle·sheet·specs.specs.first.Heads.{Heads};
+use rules::{Answer, Head, Picture};
 
 // A head, with a place in the sheet and how many bytes its blocks are; or why the sheet is refused.
+#[derive(Clone, Copy)]
 pub enum Found {
     At(Head, usize, usize),
     Refused(Answer),
@@ -14,7 +14,7 @@ pub enum Found {
 
 // The head of a sheet, and the place behind it.
 pub fn first_record(d: &[u8]) -> Found
-    ensures { λ r. ⌜ Heads (now (d .entry)) r ⌝ }
+    ensures { Heads d.now result }
 {
     let met = records::record_at(d, 0);
     let Met::Whole(kind, start, len) = met else {

@@ -1,14 +1,15 @@
 // The records of a sheet behind its head: exactly one of blocks, and where they start.
+ghost use Rattle.std.specs.Prelude.{◌≤◌, length, drop};
+ghost use Rattle.rules.specs.Records.{records_of, kept};
+ghost use Rattle.rules.specs.Sheets.{after_blocks_lem};
+ghost use Rattle.sheet.specs.later.Follows.{Judges, Follows};
+
 use super::records;
 use super::records::Met;
 use rules::Answer;
-ghost use Prim.Native.Nat.{_≤_};
-ghost use lib.ListN.{length, drop};
-ghost use Rattle·rules.specs.Records.{recordsOf, kept};
-ghost use Rattle·rules.specs.Sheets.{afterBlocks};
-ghost use Rattle·sheet·specs.specs.later.Follows.{Judges, Follows};
 
 // Where the blocks start, or why the sheet is refused.
+#[derive(Clone, Copy)]
 pub enum Blocks {
     At(usize),
     Refused(Answer),
@@ -16,8 +17,8 @@ pub enum Blocks {
 
 // What is to be said of the records behind the blocks.
 fn after_blocks(d: &[u8], at: usize) -> Answer
-    requires { ⌜ at ≤ length (now d) ⌝ }
-    ensures { λ r. ⌜ Judges (λ then. afterBlocks then (kept (recordsOf (drop at (now (d .entry)))))) r ⌝ }
+    requires { at ≤ length d.now }
+    ensures { Judges (λ then. after_blocks_lem then (kept (records_of (drop at d.now)))) result }
 {
     let met = records::next(d, at);
     match met {
@@ -35,8 +36,8 @@ fn after_blocks(d: &[u8], at: usize) -> Answer
 
 // The block record, behind a head whose blocks are n bytes.
 pub fn after_head(d: &[u8], at: usize, n: usize) -> Blocks
-    requires { ⌜ at ≤ length (now d) ⌝ }
-    ensures { λ r. ⌜ Follows (now (d .entry)) at n r ⌝ }
+    requires { at ≤ length d.now }
+    ensures { Follows d.now at n result }
 {
     let met = records::next(d, at);
     match met {

@@ -1,20 +1,21 @@
 // What the reader and the writer of sheets share: the formats by their numbers, and how many bytes a picture's blocks are.
+#![tactic(auto)]
+
 pub mod find;
 pub mod first;
 pub mod later;
 pub mod records;
 pub mod write;
 
-use rules::Format;
-use rules::Picture;
-ghost use mathlib.Core.Path.{_≡_};
-ghost use Prim.Native.Nat.{_<_, _≤_};
-ghost use Rattle·rules.specs.Sheets.{sheetLimit, formatOf, blockBytes};
+ghost use Rattle.std.specs.Prelude.{◌≡◌, ◌<◌, ◌≤◌};
+ghost use Rattle.rules.specs.Sheets.{sheet_limit, format_of, block_bytes_lem};
+
+use rules::{Format, Picture};
 
 // The format of a number.
 pub fn format_of(n: usize) -> Format
-    requires { ⌜ n < 8 ⌝ }
-    ensures { λ r. ⌜ r ≡ formatOf n ⌝ }
+    requires { n < 8 }
+    ensures { result ≡ format_of n }
 {
     match n {
         0 => Format::Etc1,
@@ -30,8 +31,8 @@ pub fn format_of(n: usize) -> Format
 
 // How many bytes the blocks of a picture are, in the format of a number.
 pub fn block_bytes(format: usize, pic: Picture) -> usize
-    requires { ⌜ (format < 8) × (pic .width ≤ sheetLimit) × (pic .height ≤ sheetLimit) ⌝ }
-    ensures { λ r. ⌜ (r ≡ blockBytes format pic) × (r ≤ 0x10000000) ⌝ }
+    requires { (format < 8) × (pic.width ≤ sheet_limit) × (pic.height ≤ sheet_limit) }
+    ensures { (result ≡ block_bytes_lem format pic) × (result ≤ 0x10000000) }
 {
     checks::blocks_of(pic) * checks::size(format_of(format))
 }

@@ -1,9 +1,9 @@
 // The walk over the records of a sheet: what stands at a place, and the first record from there on that is not skipped.
-ghost use Prim.Native.Nat.{_≤_};
-ghost use lib.ListN.{length};
-ghost use Rattle·sheet·specs.specs.records.Turns.{Stands, Meets};
+ghost use Rattle.std.specs.Prelude.{◌≤◌, length};
+ghost use Rattle.sheet.specs.records.Turns.{Stands, Meets};
 
 // What the walk meets: a record of a kind, with the start and the length of its payload; the end; or a record that is cut short.
+#[derive(Clone, Copy)]
 pub enum Met {
     Whole(usize, usize, usize),
     End,
@@ -12,8 +12,8 @@ pub enum Met {
 
 // The record that stands at a place.
 pub fn record_at(d: &[u8], at: usize) -> Met
-    requires { ⌜ at ≤ length (now d) ⌝ }
-    ensures { λ r. ⌜ Stands (now (d .entry)) at r ⌝ }
+    requires { at ≤ length d.now }
+    ensures { Stands d.now at result }
 {
     let left = d.len() - at;
     if left == 0 {
@@ -32,8 +32,8 @@ pub fn record_at(d: &[u8], at: usize) -> Met
 
 // The first record from a place on that is not skipped.
 pub fn next(d: &[u8], from: usize) -> Met
-    requires { ⌜ from ≤ length (now d) ⌝ }
-    ensures { λ r. ⌜ Meets (now (d .entry)) from r ⌝ }
+    requires { from ≤ length d.now }
+    ensures { Meets d.now from result }
 {
     let mut at = from;
     while at < d.len() {

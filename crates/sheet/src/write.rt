@@ -1,19 +1,15 @@
 // Writing sheets: the head and the blocks, in a lent buffer.
-use rules::Answer;
-use rules::Picture;
-use rules::Written;
-ghost use mathlib.Core.Path.{_≡_};
-ghost use mathlib.Core.List.{List, _++_};
-ghost use Prim.Native.Nat.{ℕ, _<_, _≤_};
-ghost use lib.ListN.{length, drop};
-ghost use Rattle·rules.specs.Places.{sized};
-ghost use Rattle·rules.specs.Answers.{said};
-ghost use Rattle·rules.specs.Sheets.{writeVerdict, WritesSheet};
-ghost use Rattle·sheet·specs.specs.write.Front.{frontOf};
+ghost use Rattle.std.specs.Prelude.{◌≡◌, List, ◌++◌, ℕ, ◌<◌, ◌≤◌, length, drop};
+ghost use Rattle.rules.specs.Places.{sized};
+ghost use Rattle.rules.specs.Answers.{said};
+ghost use Rattle.rules.specs.Sheets.{write_verdict, WritesSheet};
+ghost use Rattle.sheet.specs.write.Front.{front_of_lem};
+
+use rules::{Answer, Picture, Written};
 
 // The bytes before n bytes of blocks.
 fn front_of(format: u8, w: u32, h: u32, n: u32) -> [u8; 21]
-    ensures { λ r. ⌜ r ≡ frontOf format (sized w h) n ⌝ }
+    ensures { result ≡ front_of_lem format (sized w h) n }
 {
     [
         9,
@@ -42,17 +38,17 @@ fn front_of(format: u8, w: u32, h: u32, n: u32) -> [u8; 21]
 
 // Puts them at the front of the buffer.
 fn put_front(format: usize, width: usize, height: usize, n: usize, out: &mut [u8])
-    requires { ⌜ (format < 256) × (width < 0x100000000) × (height < 0x100000000) ⌝ }
-    requires { ⌜ (n < 0x100000000) × (21 ≤ length (now out)) ⌝ }
-    ensures { λ _. ⌜ now (out .exit) ≡ frontOf format (sized width height) n ++ drop 21 (now (out .entry)) ⌝ }
+    requires format_bound { (format < 256) × (width < 0x100000000) × (height < 0x100000000) }
+    requires n_bound { (n < 0x100000000) × (21 ≤ length out.old) }
+    ensures { out.new ≡ front_of_lem format (sized width height) n ++ drop 21 out.old }
 {
     let front = front_of(format as u8, width as u32, height as u32, n as u32);
-    bytes::copy(&front, out);
+    out[..21].copy_from_slice(&front);
 }
 
 // The writer's checks in their order, of n bytes of blocks and so many bytes of room.
 fn verify(format: usize, pic: Picture, n: usize, room: usize) -> Answer
-    ensures { λ r. ⌜ ((b : List ℕ) → length b ≡ n → said r ≡ writeVerdict format pic b room) ⌝ }
+    ensures { (b : List ℕ) → length b ≡ n → said result ≡ write_verdict format pic b room }
 {
     if 7 < format {
         return Answer::NoHead;
@@ -78,7 +74,7 @@ pub fn write_sheet(
     blocks: &[u8],
     out: &mut [u8],
 ) -> Written
-    ensures { λ r. ⌜ WritesSheet format (sized width height) (now (blocks .entry)) (now (out .entry)) r (now (out .exit)) ⌝ }
+    ensures { WritesSheet format (sized width height) blocks.now out.old result out.new }
 {
     let n = blocks.len();
     let pic = Picture {
@@ -94,8 +90,8 @@ pub fn write_sheet(
         };
     };
     put_front(format, width, height, n, out);
-    bytes::copy(blocks, &mut out[21..]);
     let whole = 21 + n;
+    out[21..whole].copy_from_slice(blocks);
     Written {
         answer: Answer::Done,
         bytes: whole,

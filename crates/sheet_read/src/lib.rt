@@ -1,14 +1,15 @@
 // Reading sheets: the walk over their records, then the plain picture reader on exactly the payload of the block record.
-use rules::Answer;
-use rules::Picture;
-use rules::Sheet;
+#![tactic(auto)]
+
+ghost use Rattle.rules.specs.Sheets.{TellsHead, ReadsSheet};
+
+use rules::{Answer, Picture, Sheet};
 use sheet::find;
 use sheet::first::Found;
-ghost use Rattle·rules.specs.Sheets.{TellsHead, ReadsSheet};
 
 // What a sheet's head says, for all bytes, or why the sheet is refused.
 pub fn sheet_head(bytes: &[u8]) -> Sheet
-    ensures { λ r. ⌜ TellsHead (now (bytes .entry)) r ⌝ }
+    ensures { TellsHead bytes.now result }
 {
     let found = find::find(bytes);
     match found {
@@ -19,7 +20,7 @@ pub fn sheet_head(bytes: &[u8]) -> Sheet
 
 // Reads a sheet: the answer and every element of the image, for all inputs.
 pub fn read_sheet(bytes: &[u8], image: &mut [u32]) -> Answer
-    ensures { λ r. ⌜ ReadsSheet (now (bytes .entry)) (now (image .entry)) r (now (image .exit)) ⌝ }
+    ensures { ReadsSheet bytes.now image.old result image.new }
 {
     let found = find::find(bytes);
     match found {

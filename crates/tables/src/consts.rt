@@ -1,9 +1,9 @@
 // The tables of src/etc/consts.rs. Each is handed out whole by a function whose promise is its rule; a caller binds it to a
 // local before a loop and looks it up there.
-ghost use mathlib.Core.Path.{_≡_};
-ghost use Rattle·rules.specs.Channels.{alphaSteps};
-ghost use Rattle·rules.specs.Modes.{distances as distanceTable};
-ghost use Rattle·tables·specs.specs.consts.Tables.{signedSteps, writeOrder};
+ghost use Rattle.std.specs.Prelude.{◌≡◌};
+ghost use Rattle.rules.specs.Channels.{alpha_steps_lem};
+ghost use Rattle.rules.specs.Modes.{distances as distance_table};
+ghost use Rattle.tables.specs.consts.Tables.{signed_steps, write_order_lem};
 
 // Without the opaque bit, and then with it. A step of -512 takes every channel to 0: index 2 is transparent there.
 const ETC1_MODIFIER_TABLE: [[i16; 4]; 16] = [
@@ -51,28 +51,28 @@ const WRITE_ORDER_TABLE: [usize; 16] = [0, 4, 8, 12, 1, 5, 9, 13, 2, 6, 10, 14, 
 // The four steps of each code, at twice the high bit plus the low: the crate's two columns, and the same negated; those of a block that is
 // not opaque first.
 pub fn modifiers() -> [[i16; 4]; 16]
-    ensures { λ r. ⌜ r ≡ signedSteps ⌝ }
+    ensures { result ≡ signed_steps }
 {
     ETC1_MODIFIER_TABLE
 }
 
 // The distances of T and H.
 pub fn distances() -> [u8; 8]
-    ensures { λ r. ⌜ r ≡ distanceTable ⌝ }
+    ensures { result ≡ distance_table }
 {
     ETC2_DISTANCE_TABLE
 }
 
 // The sixteen rows of eight alpha steps.
 pub fn alpha_steps() -> [[i8; 8]; 16]
-    ensures { λ r. ⌜ r ≡ alphaSteps ⌝ }
+    ensures { result ≡ alpha_steps_lem }
 {
     ETC2_ALPHA_MOD_TABLE
 }
 
 // The place, row by row, of pixel i = 4x + y.
 pub fn write_order() -> [usize; 16]
-    ensures { λ r. ⌜ r ≡ writeOrder ⌝ }
+    ensures { result ≡ write_order_lem }
 {
     WRITE_ORDER_TABLE
 }

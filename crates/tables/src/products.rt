@@ -1,13 +1,13 @@
 // The 2,048 products of a multiplier and an alpha step, 16 multipliers by 16 rows by 8 indices; tools/products made this file.
 // They are constant rows in a match and not one constant array: an array that is indexed by a variable is first stored to the stack,
 // all 4 KB of it for each block, while the compiler makes of this match a look-up in read-only memory.
-ghost use mathlib.Core.Path.{_≡_};
-ghost use Rattle·rules.specs.Notation.{bits};
-ghost use Rattle·tables·specs.specs.products.Products.{productsOf};
+ghost use Rattle.std.specs.Prelude.{◌≡◌};
+ghost use Rattle.rules.specs.Notation.{bits};
+ghost use Rattle.tables.specs.products.Products.{products_of_lem};
 
 // The products of the multiplier in b's high nibble with the steps of the row in its low nibble: of 0x35, three times row 5.
 pub fn products_of(b: u8) -> [i16; 8]
-    ensures { λ r. ⌜ r ≡ productsOf (bits 7 4 b) (bits 3 0 b) ⌝ }
+    ensures { result ≡ products_of_lem (bits 7 4 b) (bits 3 0 b) }
 {
     match b {
         0x00 => [0, 0, 0, 0, 0, 0, 0, 0],

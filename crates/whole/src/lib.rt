@@ -1,34 +1,34 @@
 // All eleven bits of EAC R and RG, as 16-bit numbers in a lent image: the checks, then every block in its place. A picture with two numbers
 // to a pixel is a picture of numbers, twice as wide with twice the pitch, in which a block has two tiles beside each other.
+#![tactic(auto)]
+
+ghost use Rattle.std.specs.Prelude.{◌≡◌, ◌+◌, ◌*◌, ◌/◌, ◌<◌, ◌≤◌, length};
+ghost use Rattle.rules.specs.Notation.{build};
+ghost use Rattle.rules.specs.Places.{across, blocks};
+ghost use Rattle.rules.specs.Answers.{limit};
+ghost use Rattle.rules.specs.Channels.{alpha_steps_lem};
+ghost use Rattle.rules.specs.Whole.{whole_picture, ReadsWhole};
+ghost use Rattle.checks.specs.Passed.{Passed};
+ghost use Rattle.eac.specs.values.Spans.{Spans};
+ghost use Rattle.whole.specs.Lanes.{lanes, twice, paired, Ready, PaintsBlock, PaintsBlocks};
+
 use eac::values;
 use eac::values::Span;
 use pixel::lanes;
-use rules::Answer;
-use rules::Picture;
+use rules::{Answer, Picture};
 use tables::consts;
-ghost use mathlib.Core.Path.{_≡_};
-ghost use Prim.Native.Nat.{_+_, _*_, _/_, _<_, _≤_};
-ghost use lib.ListN.{length};
-ghost use Rattle·rules.specs.Notation.{build};
-ghost use Rattle·rules.specs.Places.{across, blocks};
-ghost use Rattle·rules.specs.Answers.{limit};
-ghost use Rattle·rules.specs.Channels.{alphaSteps};
-ghost use Rattle·rules.specs.Whole.{wholePicture, ReadsWhole};
-ghost use Rattle·checks.specs.Passed.{Passed};
-ghost use Rattle·eac.specs.values.Spans.{Spans};
-ghost use Rattle·whole·specs.specs.Lanes.{lanes, twice, paired, Ready, PaintsBlock, PaintsBlocks};
 
 // How many numbers a pixel has: red, and green where there is one.
 fn lanes_of(green: bool) -> usize
-    ensures { λ r. ⌜ (r ≡ lanes green) × (0 < r) × (r ≤ 2) ⌝ }
+    ensures { (result ≡ lanes green) × (0 < result) × (result ≤ 2) }
 {
     if green { 2 } else { 1 }
 }
 
 // One of the two tiles of a block with red and green, side by side: of each row, red and green of two pixels.
 fn pairs(red: [u16; 16], green: [u16; 16], side: usize) -> [u16; 16]
-    requires { ⌜ side < 2 ⌝ }
-    ensures { λ r. ⌜ r ≡ build 16 (paired red green side) ⌝ }
+    requires { side < 2 }
+    ensures { result ≡ build 16 (paired red green side) }
 {
     let both = [red, green];
     let mut out = [0u16; 16];
@@ -42,8 +42,8 @@ fn pairs(red: [u16; 16], green: [u16; 16], side: usize) -> [u16; 16]
 
 // The picture of numbers: twice as many columns.
 fn doubled(pic: Picture) -> Picture
-    requires { ⌜ (pic .width ≤ limit) × (pic .pitch ≤ limit) ⌝ }
-    ensures { λ r. ⌜ r ≡ twice pic ⌝ }
+    requires { (pic.width ≤ limit) × (pic.pitch ≤ limit) }
+    ensures { result ≡ twice pic }
 {
     Picture {
         width: 2 * pic.width,
@@ -62,9 +62,9 @@ fn whole_red(
     pic: Picture,
     image: &mut [u16],
 )
-    requires { ⌜ (8 ≤ length (now d)) × (now table ≡ alphaSteps) × Ready 1 pic (length (now image)) ⌝ }
-    requires { ⌜ (bx * 4 + 4 ≤ pic .width) × (by * 4 + 4 ≤ pic .height) × Spans span ⌝ }
-    ensures { λ _. ⌜ PaintsBlock 1 (span .signed) (now (d .entry)) pic bx by (now (image .entry)) (now (image .exit)) ⌝ }
+    requires in_bounds { (8 ≤ length d.now) × (table.now ≡ alpha_steps_lem) × Ready 1 pic (length image.old) }
+    requires bx_bound { (bx * 4 + 4 ≤ pic.width) × (by * 4 + 4 ≤ pic.height) × Spans span }
+    ensures { PaintsBlock 1 span.signed d.now pic bx by image.old image.new }
 {
     let base = values::middle_of(d[0], span.signed);
     let eight = eac::eight_wholes(d, base, span, table);
@@ -81,9 +81,9 @@ fn whole_red_green(
     pic: Picture,
     image: &mut [u16],
 )
-    requires { ⌜ (16 ≤ length (now d)) × (now table ≡ alphaSteps) × Ready 2 pic (length (now image)) ⌝ }
-    requires { ⌜ (bx * 4 + 4 ≤ pic .width) × (by * 4 + 4 ≤ pic .height) × Spans span ⌝ }
-    ensures { λ _. ⌜ PaintsBlock 2 (span .signed) (now (d .entry)) pic bx by (now (image .entry)) (now (image .exit)) ⌝ }
+    requires in_bounds { (16 ≤ length d.now) × (table.now ≡ alpha_steps_lem) × Ready 2 pic (length image.old) }
+    requires bx_bound { (bx * 4 + 4 ≤ pic.width) × (by * 4 + 4 ≤ pic.height) × Spans span }
+    ensures { PaintsBlock 2 span.signed d.now pic bx by image.old image.new }
 {
     let half = &d[8..];
     let red_base = values::middle_of(d[0], span.signed);
@@ -108,9 +108,10 @@ fn whole_block(
     pic: Picture,
     image: &mut [u16],
 )
-    requires { ⌜ (lanes green * 8 ≤ length (now d)) × (now table ≡ alphaSteps) × Ready (lanes green) pic (length (now image)) ⌝ }
-    requires { ⌜ (bx * 4 + 4 ≤ pic .width) × (by * 4 + 4 ≤ pic .height) × Spans span ⌝ }
-    ensures { λ _. ⌜ PaintsBlock (lanes green) (span .signed) (now (d .entry)) pic bx by (now (image .entry)) (now (image .exit)) ⌝ }
+    requires green_in_bounds { (lanes green * 8 ≤ length d.now) × (table.now ≡ alpha_steps_lem)
+        × Ready (lanes green) pic (length image.old) }
+    requires bx_bound { (bx * 4 + 4 ≤ pic.width) × (by * 4 + 4 ≤ pic.height) × Spans span }
+    ensures { PaintsBlock (lanes green) span.signed d.now pic bx by image.old image.new }
 {
     if green {
         whole_red_green(span, d, table, bx, by, pic, image);
@@ -129,9 +130,9 @@ fn paint_red(
     pic: Picture,
     image: &mut [u16],
 )
-    requires { ⌜ (8 ≤ length (now d)) × (now table ≡ alphaSteps) × Ready 1 pic (length (now image)) ⌝ }
-    requires { ⌜ (bx < 0x10000) × (by < 0x10000) × Spans span ⌝ }
-    ensures { λ _. ⌜ PaintsBlock 1 (span .signed) (now (d .entry)) pic bx by (now (image .entry)) (now (image .exit)) ⌝ }
+    requires in_bounds { (8 ≤ length d.now) × (table.now ≡ alpha_steps_lem) × Ready 1 pic (length image.old) }
+    requires bx_bound { (bx < 0x10000) × (by < 0x10000) × Spans span }
+    ensures { PaintsBlock 1 span.signed d.now pic bx by image.old image.new }
 {
     let base = values::middle_of(d[0], span.signed);
     let eight = eac::eight_wholes(d, base, span, table);
@@ -148,9 +149,9 @@ fn paint_red_green(
     pic: Picture,
     image: &mut [u16],
 )
-    requires { ⌜ (16 ≤ length (now d)) × (now table ≡ alphaSteps) × Ready 2 pic (length (now image)) ⌝ }
-    requires { ⌜ (bx < 0x10000) × (by < 0x10000) × Spans span ⌝ }
-    ensures { λ _. ⌜ PaintsBlock 2 (span .signed) (now (d .entry)) pic bx by (now (image .entry)) (now (image .exit)) ⌝ }
+    requires in_bounds { (16 ≤ length d.now) × (table.now ≡ alpha_steps_lem) × Ready 2 pic (length image.old) }
+    requires bx_bound { (bx < 0x10000) × (by < 0x10000) × Spans span }
+    ensures { PaintsBlock 2 span.signed d.now pic bx by image.old image.new }
 {
     let half = &d[8..];
     let red_base = values::middle_of(d[0], span.signed);
@@ -175,9 +176,10 @@ fn paint_block(
     pic: Picture,
     image: &mut [u16],
 )
-    requires { ⌜ (lanes green * 8 ≤ length (now d)) × (now table ≡ alphaSteps) × Ready (lanes green) pic (length (now image)) ⌝ }
-    requires { ⌜ (bx < 0x10000) × (by < 0x10000) × Spans span ⌝ }
-    ensures { λ _. ⌜ PaintsBlock (lanes green) (span .signed) (now (d .entry)) pic bx by (now (image .entry)) (now (image .exit)) ⌝ }
+    requires green_in_bounds { (lanes green * 8 ≤ length d.now) × (table.now ≡ alpha_steps_lem)
+        × Ready (lanes green) pic (length image.old) }
+    requires bx_bound { (bx < 0x10000) × (by < 0x10000) × Spans span }
+    ensures { PaintsBlock (lanes green) span.signed d.now pic bx by image.old image.new }
 {
     if green {
         paint_red_green(span, d, table, bx, by, pic, image);
@@ -188,8 +190,8 @@ fn paint_block(
 
 // How many blocks of row by the picture has whole.
 fn whole_in(pic: Picture, by: usize) -> usize
-    requires { ⌜ by < 0x10000 ⌝ }
-    ensures { λ r. ⌜ (r * 4 ≤ pic .width) × (0 < r → by * 4 + 4 ≤ pic .height) ⌝ }
+    requires { by < 0x10000 }
+    ensures { (result * 4 ≤ pic.width) × (0 < result → by * 4 + 4 ≤ pic.height) }
 {
     if pic.height < by * 4 + 4 {
         return 0;
@@ -207,11 +209,11 @@ fn paint_whole(
     pic: Picture,
     image: &mut [u16],
 ) -> usize
-    requires { ⌜ (blocks pic * (lanes green * 8) ≤ length (now «data»)) × (by < across (pic .height)) × (pic .height ≤ limit)
-        × Spans span ⌝ }
-    requires { ⌜ Ready (lanes green) pic (length (now image)) ⌝ }
-    ensures { λ r. ⌜ (r ≤ across (pic .width)) × PaintsBlocks (lanes green) (span .signed) (now («data» .entry)) pic
-        (by * across (pic .width)) (by * across (pic .width) + r) (now (image .entry)) (now (image .exit)) ⌝ }
+    requires green_in_bounds { (blocks pic * (lanes green * 8) ≤ length «data».now) × (by < across pic.height) × (pic.height ≤ limit)
+        × Spans span }
+    requires ready { Ready (lanes green) pic (length image.old) }
+    ensures { (result ≤ across pic.width) × PaintsBlocks (lanes green) span.signed «data».now pic
+        (by * across pic.width) (by * across pic.width + result) image.old image.new }
 {
     let row = checks::across(pic.width);
     let n = whole_in(pic, by);
@@ -230,11 +232,11 @@ fn paint_whole(
 
 // Paints the blocks of row by.
 fn paint_row(green: bool, span: Span, data: &[u8], by: usize, pic: Picture, image: &mut [u16])
-    requires { ⌜ (blocks pic * (lanes green * 8) ≤ length (now «data»)) × (by < across (pic .height)) × (pic .height ≤ limit)
-        × Spans span ⌝ }
-    requires { ⌜ Ready (lanes green) pic (length (now image)) ⌝ }
-    ensures { λ _. ⌜ PaintsBlocks (lanes green) (span .signed) (now («data» .entry)) pic (by * across (pic .width))
-        (by * across (pic .width) + across (pic .width)) (now (image .entry)) (now (image .exit)) ⌝ }
+    requires green_in_bounds { (blocks pic * (lanes green * 8) ≤ length «data».now) × (by < across pic.height) × (pic.height ≤ limit)
+        × Spans span }
+    requires ready { Ready (lanes green) pic (length image.old) }
+    ensures { PaintsBlocks (lanes green) span.signed «data».now pic (by * across pic.width)
+        (by * across pic.width + across pic.width) image.old image.new }
 {
     let row = checks::across(pic.width);
     let table = consts::alpha_steps();
@@ -251,8 +253,8 @@ fn paint_row(green: bool, span: Span, data: &[u8], by: usize, pic: Picture, imag
 
 // Paints the whole of a picture that has passed the checks.
 fn paint(green: bool, signed: bool, data: &[u8], pic: Picture, image: &mut [u16])
-    requires { ⌜ Passed (lanes green * 8) pic (length (now «data»)) (length (now image) / lanes green) ⌝ }
-    ensures { λ _. ⌜ now (image .exit) ≡ wholePicture signed (lanes green) pic (now («data» .entry)) (now (image .entry)) ⌝ }
+    requires { Passed (lanes green * 8) pic (length «data».now) (length image.old / lanes green) }
+    ensures { image.new ≡ whole_picture signed (lanes green) pic «data».now image.old }
 {
     let rows = checks::across(pic.height);
     let span = values::span_of(signed);
@@ -265,7 +267,7 @@ fn paint(green: bool, signed: bool, data: &[u8], pic: Picture, image: &mut [u16]
 
 // Reads a picture of whole values: red, or red and green. The answer and every element of the image, for all inputs.
 pub fn read_whole(green: bool, signed: bool, data: &[u8], pic: Picture, image: &mut [u16]) -> Answer
-    ensures { λ r. ⌜ ReadsWhole signed (lanes green) (now («data» .entry)) pic (now (image .entry)) r (now (image .exit)) ⌝ }
+    ensures { ReadsWhole signed (lanes green) «data».now pic image.old result image.new }
 {
     let answer = checks::verify(
         lanes_of(green) * 8,

@@ -463,10 +463,10 @@ fn antt_reader(case: &Case) -> String {
     match case.reader {
         STRICT => "strict".to_string(),
         OPAQUE => "opaque".to_string(),
-        BLOCK_A8 => "alphaHalf".to_string(),
+        BLOCK_A8 => "alpha_half".to_string(),
         BLOCK_EAC => format!("channel false {}", case.channel),
         BLOCK_EAC_SIGNED => format!("channel true {}", case.channel),
-        BLOCK_BC3_ALPHA => format!("alphaInto {}", case.channel),
+        BLOCK_BC3_ALPHA => format!("alpha_into {}", case.channel),
         reader if !is_block(reader) => format!("picture {}", antt_format(reader)),
         reader => format!("block {}", antt_format(picture_of(reader))),
     }

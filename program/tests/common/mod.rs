@@ -10,10 +10,10 @@ use yalivucu::typed::{Format, Picture};
 
 pub const PROGRAM: &str = env!("CARGO_BIN_EXE_yalivucu");
 
-/// The top of the checkout. The folder of the build has links to its files.
+/// The top of the checkout. The folder of the build names this file by its whole path.
 pub fn top() -> PathBuf {
-    let sources = fs::canonicalize(concat!(env!("CARGO_MANIFEST_DIR"), "/src")).expect("the sources");
-    sources.ancestors().nth(2).expect("the top").to_owned()
+    let here = fs::canonicalize(file!()).expect("this file");
+    here.ancestors().nth(4).expect("the top").to_owned()
 }
 
 pub fn example(name: &str) -> String {
@@ -292,7 +292,7 @@ pub struct Seen {
 /// Reads a PNG with libraries that nobody here wrote; tests/png_samples says how.
 #[track_caller]
 pub fn seen(png: &Path) -> Seen {
-    let script = fs::canonicalize(concat!(env!("CARGO_MANIFEST_DIR"), "/tests/png_samples")).expect("the script");
+    let script = top().join("program/tests/png_samples");
     let output = Command::new("sh").arg(script).arg(png).output().expect("sh runs");
     assert!(output.status.success(), "{}", String::from_utf8_lossy(&output.stderr));
     let line = output.stdout.iter().position(|byte| *byte == b'\n').expect("a line");

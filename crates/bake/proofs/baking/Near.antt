@@ -1,29 +1,29 @@
 -- How near a block is to a tile: what the checker's test says of each channel, and from which tolerance on it holds.
 -- Assumes nothing.
-use mathlib.Core.Path.{_≡_, _∙_, ap}
-use mathlib.Core.Bool.{Bool, _&&_}
+use mathlib.Core.Path.{◌≡◌, ◌∙◌, ap}
+use mathlib.Core.Bool.{Bool, ◌&&◌}
 use mathlib.Core.List.{List}
-use Prim.Native.Nat.{ℕ, _≤_, max}
+use Prim.Native.Nat.{ℕ, ◌≤◌, max}
 use native.Mathlib.Omega.{arith}
 use lib.Dec.{leb}
-use lib.ListN.{getD}
-use Rattle·rules.specs.Pixel.{redOf, greenOf, blueOf}
-use Rattle·rules.specs.Checking.{apart, near, farthest, differ, pixel, like, largest}
-use Rattle·bake·proofs.proofs.baking.Each.{both-most, each-most, each-same}
+use lib.ListN.{get_or}
+use Rattle.rules.specs.Pixel.{red_of, green_of, blue_of}
+use Rattle.rules.specs.Checking.{apart, near, farthest, differ, pixel, like, largest}
+use Rattle.bake.proofs.baking.Each.{both_most, each_most, each_same}
 
-pub near-farthest : (t a b : ℕ) → near t a b ≡ leb (farthest a b) t
+pub near_farthest : (t a b : ℕ) → near t a b ≡ leb (farthest a b) t
 unfolding near farthest
-near-farthest t a b =
-    let r = apart (redOf a) (redOf b) in
-    let g = apart (greenOf a) (greenOf b) in
-    let u = apart (blueOf a) (blueOf b) in
-    ap (λ (x : Bool). leb r t && x) (both-most g u t) ∙ both-most r (max g u) t
+near_farthest t a b =
+    let r = apart (red_of a) (red_of b) in
+    let g = apart (green_of a) (green_of b) in
+    let u = apart (blue_of a) (blue_of b) in
+    ap (λ (x : Bool). leb r t && x) (both_most g u t) ∙ both_most r (max g u) t
 
-pub like-largest : (t : ℕ) (d tile : List ℕ) → like t d tile ≡ leb (largest d tile) t
-like-largest t d tile =
-    each-same (λ k. near t (pixel d k) (getD tile k 0)) (λ k. leb (farthest (pixel d k) (getD tile k 0)) t) 16 (λ k h. near-farthest t (pixel d k) (getD tile k 0))
-    ∙ each-most (λ k. farthest (pixel d k) (getD tile k 0)) t 16
+pub like_largest : (t : ℕ) (d tile : List ℕ) → like t d tile ≡ leb (largest d tile) t
+like_largest t d tile =
+    each_same (λ k. near t (pixel d k) (get_or tile k 0)) (λ k. leb (farthest (pixel d k) (get_or tile k 0)) t) 16 (λ k h. near_farthest t (pixel d k) (get_or tile k 0))
+    ∙ each_most (λ k. farthest (pixel d k) (get_or tile k 0)) t 16
 
-pub differ-most : (a b : ℕ) → differ a b ≤ 765
+pub differ_most : (a b : ℕ) → differ a b ≤ 765
 unfolding differ
-differ-most a b = omega arith
+differ_most a b = omega arith

@@ -1,10 +1,8 @@
 -- A base colour of four bits a channel.
 -- Assumes nothing.
-use mathlib.Core.List.{List}
-use Prim.Native.Nat.{ℕ, _<_}
-use lib.ListN.{getD}
+use Rattle.std.specs.Prelude.{List, ℕ, ◌<◌, get_or}
 
 pub record Four (c : List ℕ) : Type 0 where
-  pub red : getD c 0 0 < 16
-  pub green : getD c 1 0 < 16
-  pub blue : getD c 2 0 < 16
+  pub red : get_or c 0 0 < 16
+  pub green : get_or c 1 0 < 16
+  pub blue : get_or c 2 0 < 16

@@ -1,11 +1,11 @@
 -- Sevenths and fifths by a product and a shift, the eight alphas of both orders, and the word of a known channel.
 -- Assumes nothing.
-use mathlib.Core.Path.{_≡_, _∙_, sym, ap}
+use mathlib.Core.Path.{◌≡◌, ◌∙◌, sym, ap}
 use mathlib.Core.Bool.{Bool, true, false, cond}
-use mathlib.Core.List.{[], _∷_}
-use Prim.Native.Nat.{ℕ, _+_, _*_, _/_, _<_, _≤_}
+use mathlib.Core.List.{[], ◌∷◌}
+use Prim.Native.Nat.{ℕ, ◌+◌, ◌*◌, ◌/◌, ◌<◌, ◌≤◌}
 use native.Mathlib.Omega.{arith}
-use Rattle·rules.specs.Desktop.{alphas, replaced}
+use Rattle.rules.specs.Desktop.{alphas, replaced}
 
 pub eight : {a b c d e f g h a' b' c' d' e' f' g' h' : ℕ} → a ≡ a' → b ≡ b' → c ≡ c' → d ≡ d' → e ≡ e' → f ≡ f' → g ≡ g' → h ≡ h'
     → a ∷ b ∷ c ∷ d ∷ e ∷ f ∷ g ∷ h ∷ [] ≡ a' ∷ b' ∷ c' ∷ d' ∷ e' ∷ f' ∷ g' ∷ h' ∷ []
@@ -19,10 +19,10 @@ pub shared : (s : Bool) (n : ℕ) → n ≤ 1785 → (n * cond s 9363 13108 ≤ 
 shared true n h = (omega arith, omega arith)
 shared false n h = (omega arith, omega arith)
 
-pub shared-or : (s : Bool) (n f : ℕ) → n ≤ 1785 → f < 256
+pub shared_or : (s : Bool) (n f : ℕ) → n ≤ 1785 → f < 256
     → (n * cond s 9363 0 ≤ 0x2000000) × (n * cond s 9363 0 / 0x10000 + cond s 0 f ≤ 0x1000) × (n * cond s 9363 0 / 0x10000 + cond s 0 f ≡ cond s (n / 7) f)
-shared-or true n f h i = (omega arith, omega arith, omega arith)
-shared-or false n f h i = (omega arith, omega arith, omega arith)
+shared_or true n f h i = (omega arith, omega arith, omega arith)
+shared_or false n f h i = (omega arith, omega arith, omega arith)
 
 -- two parts more, or none
 pub few : (s : Bool) (p : ℕ) → p < 256 → cond s (2 * p) 0 ≤ 510

@@ -1,19 +1,19 @@
 -- The lanes of four colours, put together, are the palette.
 -- Assumes nothing.
-use mathlib.Core.Path.{_≡_, _∙_, refl, ap}
+use mathlib.Core.Path.{◌≡◌, ◌∙◌, refl, ap}
 use mathlib.Core.Bool.{Bool, true, false, cond}
-use mathlib.Core.List.{List, [], _∷_}
-use Prim.Native.Nat.{ℕ, _+_, _-_, _*_, _/_, _%_, _<_, _≤_}
+use mathlib.Core.List.{List, [], ◌∷◌}
+use Prim.Native.Nat.{ℕ, ◌+◌, ◌-◌, ◌*◌, ◌/◌, ◌%◌, ◌<◌, ◌≤◌}
 use native.Mathlib.Omega.{arith}
 use borrow.Author.Tests.{ltb-true, ltb-false}
 use lib.Dec.{ltb}
-use lib.ListN.{getD}
-use Rattle·rules.specs.Notation.{build, bits}
-use Rattle·rules.specs.Pixel.{word}
-use Rattle·rules.specs.Colour.{five}
-use Rattle·rules.specs.Modes.{six}
-use Rattle·rules.specs.Desktop.{mix, rgb565, palette}
-use Rattle·bc·specs.specs.bc1.Lanes.{channel, sixths, lane, wordAt, wordsOf}
+use lib.ListN.{get_or}
+use Rattle.rules.specs.Notation.{build, bits}
+use Rattle.rules.specs.Pixel.{word}
+use Rattle.rules.specs.Colour.{five}
+use Rattle.rules.specs.Modes.{six}
+use Rattle.rules.specs.Desktop.{mix, rgb565, palette}
+use Rattle.bc.specs.bc1.Lanes.{channel, sixths, lane, word_at, words_of}
 
 fits : (n : ℕ) → n < 65536 → n % 65536 ≡ n
 fits n h = omega arith
@@ -22,58 +22,58 @@ fits n h = omega arith
 five-part : (n : ℕ) → n * 132 / 16 ≡ five n
 five-part n = omega arith
 
-six-part : (n : ℕ) → n * 65 / 16 ≡ six n
-six-part n = omega arith
+six_part : (n : ℕ) → n * 65 / 16 ≡ six n
+six_part n = omega arith
 
-five-wide : (n : ℕ) → n < 32 → n * 132 % 65536 / 16 ≡ five n
-five-wide n h = ap (λ (t : ℕ). t / 16) (fits (n * 132) (omega arith)) ∙ five-part n
+five_wide : (n : ℕ) → n < 32 → n * 132 % 65536 / 16 ≡ five n
+five_wide n h = ap (λ (t : ℕ). t / 16) (fits (n * 132) (omega arith)) ∙ five-part n
 
-six-wide : (n : ℕ) → n < 64 → n * 65 % 65536 / 16 ≡ six n
-six-wide n h = ap (λ (t : ℕ). t / 16) (fits (n * 65) (omega arith)) ∙ six-part n
+six_wide : (n : ℕ) → n < 64 → n * 65 % 65536 / 16 ≡ six n
+six_wide n h = ap (λ (t : ℕ). t / 16) (fits (n * 65) (omega arith)) ∙ six_part n
 
 -- the channels of a colour
 module _ (q : ℕ) where
-  blue-up : q * 2048 % 65536 ≡ bits 4 0 q * 2048
-  blue-up = omega arith
+  blue_up : q * 2048 % 65536 ≡ bits 4 0 q * 2048
+  blue_up = omega arith
 
-  blue-down : (n : ℕ) → n * 2048 * 32 / 65536 ≡ n
-  blue-down n = omega arith
+  blue_down : (n : ℕ) → n * 2048 * 32 / 65536 ≡ n
+  blue_down n = omega arith
 
   pub blue : channel q 0 ≡ five (bits 4 0 q)
   blue =
-      ap (λ (t : ℕ). t * 32 / 65536 * 132 % 65536 / 16) blue-up
-      ∙ ap (λ (t : ℕ). t * 132 % 65536 / 16) (blue-down (bits 4 0 q))
-      ∙ five-wide (bits 4 0 q) (omega arith)
+      ap (λ (t : ℕ). t * 32 / 65536 * 132 % 65536 / 16) blue_up
+      ∙ ap (λ (t : ℕ). t * 132 % 65536 / 16) (blue_down (bits 4 0 q))
+      ∙ five_wide (bits 4 0 q) (omega arith)
 
-  green-up : q * 32 % 65536 ≡ q % 2048 * 32
-  green-up = omega arith
+  green_up : q * 32 % 65536 ≡ q % 2048 * 32
+  green_up = omega arith
 
-  green-down : (m : ℕ) → m * 32 * 64 / 65536 ≡ m / 32
-  green-down m = omega arith
+  green_down : (m : ℕ) → m * 32 * 64 / 65536 ≡ m / 32
+  green_down m = omega arith
 
-  green-bits : q % 2048 / 32 ≡ bits 10 5 q
-  green-bits = omega arith
+  green_bits : q % 2048 / 32 ≡ bits 10 5 q
+  green_bits = omega arith
 
   pub green : channel q 1 ≡ six (bits 10 5 q)
   green =
-      ap (λ (t : ℕ). t * 64 / 65536 * 65 % 65536 / 16) green-up
-      ∙ ap (λ (t : ℕ). t * 65 % 65536 / 16) (green-down (q % 2048) ∙ green-bits)
-      ∙ six-wide (bits 10 5 q) (omega arith)
+      ap (λ (t : ℕ). t * 64 / 65536 * 65 % 65536 / 16) green_up
+      ∙ ap (λ (t : ℕ). t * 65 % 65536 / 16) (green_down (q % 2048) ∙ green_bits)
+      ∙ six_wide (bits 10 5 q) (omega arith)
 
-  red-up : q * 1 % 65536 ≡ q % 65536
-  red-up = omega arith
+  red_up : q * 1 % 65536 ≡ q % 65536
+  red_up = omega arith
 
-  red-down : (m : ℕ) → m * 32 / 65536 ≡ m / 2048
-  red-down m = omega arith
+  red_down : (m : ℕ) → m * 32 / 65536 ≡ m / 2048
+  red_down m = omega arith
 
-  red-bits : q % 65536 / 2048 ≡ bits 15 11 q
-  red-bits = omega arith
+  red_bits : q % 65536 / 2048 ≡ bits 15 11 q
+  red_bits = omega arith
 
   pub red : channel q 2 ≡ five (bits 15 11 q)
   red =
-      ap (λ (t : ℕ). t * 32 / 65536 * 132 % 65536 / 16) red-up
-      ∙ ap (λ (t : ℕ). t * 132 % 65536 / 16) (red-down (q % 65536) ∙ red-bits)
-      ∙ five-wide (bits 15 11 q) (omega arith)
+      ap (λ (t : ℕ). t * 32 / 65536 * 132 % 65536 / 16) red_up
+      ∙ ap (λ (t : ℕ). t * 132 % 65536 / 16) (red_down (q % 65536) ∙ red_bits)
+      ∙ five_wide (bits 15 11 q) (omega arith)
 
   none : channel q 3 ≡ 0
   none = omega arith
@@ -97,10 +97,10 @@ gives x y g f =
     record {
       at = λ a b h i.
           let t = f a b h i in
-          ap (λ (s : ℕ). (s * 10923 / 65536 + 0) % 65536 % 256) (sums (a * x) (b * y) (omega (arith, t .0)))
-          ∙ ap (λ (s : ℕ). (s + 0) % 65536 % 256) (sixth (a * x + b * y) (t .0))
-          ∙ byte (a * x + b * y) (t .0)
-          ∙ t .1;
+          ap (λ (s : ℕ). (s * 10923 / 65536 + 0) % 65536 % 256) (sums (a * x) (b * y) (omega (arith, t.0)))
+          ∙ ap (λ (s : ℕ). (s + 0) % 65536 % 256) (sixth (a * x + b * y) t.0)
+          ∙ byte (a * x + b * y) t.0
+          ∙ t.1;
     }
 
 ones : Gives 6 0 (λ a b. a)
@@ -121,22 +121,22 @@ halves = gives 3 3 _ (λ a b h i. (omega arith, omega arith))
 nothing : Gives 0 0 (λ a b. 0)
 nothing = gives 0 0 _ (λ a b h i. (omega arith, omega arith))
 
-put : (l : List ℕ) (i a r g b : ℕ) → getD l i 0 ≡ b → getD l (i + 1) 0 ≡ g → getD l (i + 2) 0 ≡ r → getD l (i + 3) 0 ≡ a → wordAt l i ≡ word a r g b
+put : (l : List ℕ) (i a r g b : ℕ) → get_or l i 0 ≡ b → get_or l (i + 1) 0 ≡ g → get_or l (i + 2) 0 ≡ r → get_or l (i + 3) 0 ≡ a → word_at l i ≡ word a r g b
 put l i a r g b e f h k = omega (arith, e, f, h, k)
 
 -- four lanes of such sixths are the word of the two colours' channels
 colour : (l : List ℕ) (i x y a p q : ℕ) (g : ℕ → ℕ → ℕ) → Gives x y g
-    → getD l i 0 ≡ (sixths (channel p 0) (channel q 0) x y + 0) % 65536 % 256
-    → getD l (i + 1) 0 ≡ (sixths (channel p 1) (channel q 1) x y + 0) % 65536 % 256
-    → getD l (i + 2) 0 ≡ (sixths (channel p 2) (channel q 2) x y + 0) % 65536 % 256
-    → getD l (i + 3) 0 ≡ a
-    → wordAt l i ≡ word a (g (five (bits 15 11 p)) (five (bits 15 11 q))) (g (six (bits 10 5 p)) (six (bits 10 5 q)))
+    → get_or l i 0 ≡ (sixths (channel p 0) (channel q 0) x y + 0) % 65536 % 256
+    → get_or l (i + 1) 0 ≡ (sixths (channel p 1) (channel q 1) x y + 0) % 65536 % 256
+    → get_or l (i + 2) 0 ≡ (sixths (channel p 2) (channel q 2) x y + 0) % 65536 % 256
+    → get_or l (i + 3) 0 ≡ a
+    → word_at l i ≡ word a (g (five (bits 15 11 p)) (five (bits 15 11 q))) (g (six (bits 10 5 p)) (six (bits 10 5 q)))
     (g (five (bits 4 0 p)) (five (bits 4 0 q)))
 colour l i x y a p q g s e f h k =
     put l i a _ _ _
-    (e ∙ rw (blue p, blue q) (s .at (five (bits 4 0 p)) (five (bits 4 0 q)) (omega arith) (omega arith)))
-    (f ∙ rw (green p, green q) (s .at (six (bits 10 5 p)) (six (bits 10 5 q)) (omega arith) (omega arith)))
-    (h ∙ rw (red p, red q) (s .at (five (bits 15 11 p)) (five (bits 15 11 q)) (omega arith) (omega arith)))
+    (e ∙ rw (blue p, blue q) (s.at (five (bits 4 0 p)) (five (bits 4 0 q)) (omega arith) (omega arith)))
+    (f ∙ rw (green p, green q) (s.at (six (bits 10 5 p)) (six (bits 10 5 q)) (omega arith) (omega arith)))
+    (h ∙ rw (red p, red q) (s.at (five (bits 15 11 p)) (five (bits 15 11 q)) (omega arith) (omega arith)))
     k
 
 pub each : {a b c d x y z w : ℕ} → a ≡ x → b ≡ y → c ≡ z → d ≡ w → a ∷ b ∷ c ∷ d ∷ [] ≡ x ∷ y ∷ z ∷ w ∷ []
@@ -152,19 +152,19 @@ clear p q x y = rw (none p, none q)
 abbrev sixteen : ℕ → ℕ → ℕ → ℕ → List ℕ
 sixteen f t p q = build 16 (lane f t p q)
 
-four-colours : (alpha : Bool) (p q : ℕ) → wordsOf (sixteen 1 0 p q) ≡ palette true alpha (rgb565 p) (rgb565 q)
+four_colours_lem : (alpha : Bool) (p q : ℕ) → words_of (sixteen 1 0 p q) ≡ palette true alpha (rgb565 p) (rgb565 q)
 unfolding lane
-four-colours alpha p q =
+four_colours_lem alpha p q =
     each (colour (sixteen 1 0 p q) 0 6 0 255 p q _ ones refl refl refl (opaque p q 6 0))
     (colour (sixteen 1 0 p q) 4 0 6 255 p q _ others refl refl refl (opaque p q 0 6))
     (colour (sixteen 1 0 p q) 8 4 2 255 p q _ near refl refl refl (opaque p q 4 2))
     (colour (sixteen 1 0 p q) 12 2 4 255 p q _ far refl refl refl (opaque p q 2 4))
 
 pub listed : (four alpha : Bool) (p q : ℕ)
-    → wordsOf (sixteen (cond four 1 0) (cond alpha (1 - cond four 1 0) 0) p q) ≡ palette four alpha (rgb565 p) (rgb565 q)
+    → words_of (sixteen (cond four 1 0) (cond alpha (1 - cond four 1 0) 0) p q) ≡ palette four alpha (rgb565 p) (rgb565 q)
 unfolding lane
-listed true true p q = four-colours true p q
-listed true false p q = four-colours false p q
+listed true true p q = four_colours_lem true p q
+listed true false p q = four_colours_lem false p q
 listed false true p q =
     each (colour (sixteen 0 1 p q) 0 6 0 255 p q _ ones refl refl refl (opaque p q 6 0))
     (colour (sixteen 0 1 p q) 4 0 6 255 p q _ others refl refl refl (opaque p q 0 6))
@@ -184,6 +184,6 @@ sign p q h i = by (ltb q p) refl
     by true e = omega (arith, ltb-true q p e)
     by false e = omega (arith, ltb-false q p e)
 
-pub at-most : (t : Bool) (f : ℕ) → f ≡ cond t 1 0 → f ≤ 1
-at-most true f e = omega (arith, e)
-at-most false f e = omega (arith, e)
+pub at_most : (t : Bool) (f : ℕ) → f ≡ cond t 1 0 → f ≤ 1
+at_most true f e = omega (arith, e)
+at_most false f e = omega (arith, e)

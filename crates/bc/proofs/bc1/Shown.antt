@@ -1,22 +1,22 @@
 -- The picks of a half's word are the block's pixels.
 -- Assumes nothing.
-use mathlib.Core.Path.{_≡_, ap}
+use mathlib.Core.Path.{◌≡◌, ap}
 use mathlib.Core.Bool.{Bool}
 use mathlib.Core.List.{List}
-use Prim.Native.Nat.{ℕ, _+_, _*_, _/_, _%_}
+use Prim.Native.Nat.{ℕ, ◌+◌, ◌*◌, ◌/◌, ◌%◌}
 use native.Mathlib.Omega.{arith}
-use lib.ListN.{getD}
-use Rattle·rules.specs.Notation.{build}
-use Rattle·rules.specs.Places.{tile}
-use Rattle·rules.specs.Desktop.{halfWord, paletteIn, colourIndex, bc1Pixel}
-use Rattle·laws.proofs.Filled.{build-same}
+use lib.ListN.{get_or}
+use Rattle.rules.specs.Notation.{build}
+use Rattle.rules.specs.Places.{tile}
+use Rattle.rules.specs.Desktop.{half_word_lem, palette_in_lem, colour_index, bc1_pixel}
+use Rattle.laws.proofs.Filled.{build_same}
 
 -- a place of sixteen, by its row and its column
-pub by-row : (k : ℕ) → k ≡ 4 * (k / 4) + k % 4
-by-row k = omega arith
+pub by_row : (k : ℕ) → k ≡ 4 * (k / 4) + k % 4
+by_row k = omega arith
 
-pub shown : (always alpha : Bool) (d : List ℕ) → build 16 (λ k. getD (paletteIn always alpha (halfWord d)) (colourIndex (halfWord d) k) 0) ≡ tile (bc1Pixel always alpha) d
-unfolding bc1Pixel
+pub shown : (always alpha : Bool) (d : List ℕ) → build 16 (λ k. get_or (palette_in_lem always alpha (half_word_lem d)) (colour_index (half_word_lem d) k) 0) ≡ tile (bc1_pixel always alpha) d
+unfolding bc1_pixel
 shown always alpha d =
-    build-same 0 _ _ 16
-    (λ k h. ap (λ (i : ℕ). getD (paletteIn always alpha (halfWord d)) (colourIndex (halfWord d) i) 0) (by-row k))
+    build_same 0 _ _ 16
+    (λ k h. ap (λ (i : ℕ). get_or (palette_in_lem always alpha (half_word_lem d)) (colour_index (half_word_lem d) i) 0) (by_row k))

@@ -1,9 +1,7 @@
 -- The eight alphas as lanes of vector code: alpha k is a formula of k in numbers of sixteen bits, the same for all.
 -- Assumes nothing.
-use mathlib.Core.Bool.{cond}
-use Prim.Native.Nat.{ℕ, _+_, _*_, _/_, _%_}
-use lib.Dec.{eqb}
-use Rattle·bc·specs.specs.bc1.Lanes.{sum}
+use Rattle.std.specs.Prelude.{cond, ℕ, ◌+◌, ◌*◌, ◌/◌, ◌%◌, eqb}
+use Rattle.bc.specs.bc1.Lanes.{sum}
 
 -- five times alpha k, where it is one of the fifths
 abbrev pub fifths : ℕ → ℕ → ℕ → ℕ
@@ -17,5 +15,5 @@ more a b k =
     sum a b (cond (eqb k 1) 0 (cond (eqb k 7) 1 2)) (cond (eqb k 1) 2 (cond (eqb k 6) 5 (cond (eqb k 7) 6 0)))
 
 -- c and d are a and b where sevenths are asked for, and else 0; m is a seventh or a fifth of 65,536; g is added to the last
-unfoldable pub alphaLane : ℕ → ℕ → ℕ → ℕ → ℕ → ℕ → ℕ → ℕ
-alphaLane a b c d m g k = ((fifths a b k + more c d k) % 65536 * m / 65536 + g * cond (eqb k 7) 1 0 % 65536) % 65536
+unfoldable pub alpha_lane_lem : ℕ → ℕ → ℕ → ℕ → ℕ → ℕ → ℕ → ℕ
+alpha_lane_lem a b c d m g k = ((fifths a b k + more c d k) % 65536 * m / 65536 + g * cond (eqb k 7) 1 0 % 65536) % 65536

@@ -1,11 +1,7 @@
 -- Four colours as sixteen bytes, the lanes of vector code: blue, green, red and alpha of each in turn. Lane i is a formula of i in
 -- numbers of sixteen bits, the same for all lanes, so that eight of them are computed at once.
 -- Assumes nothing.
-use mathlib.Core.Bool.{cond}
-use mathlib.Core.List.{List, [], _∷_}
-use Prim.Native.Nat.{ℕ, _+_, _*_, _/_, _%_}
-use lib.Dec.{eqb}
-use lib.ListN.{getD}
+use Rattle.std.specs.Prelude.{cond, List, [], ◌∷◌, ℕ, ◌+◌, ◌*◌, ◌/◌, ◌%◌, eqb, get_or}
 
 -- what moves the bits of channel c to the top of sixteen, from there to the bottom, and widens them to eight, times 16
 abbrev pub lift : ℕ → ℕ
@@ -30,23 +26,24 @@ abbrev pub sixths : ℕ → ℕ → ℕ → ℕ → ℕ
 sixths a b x y = sum a b x y * 10923 / 65536
 
 -- the parts of the first and of the second colour in colour k: f is 1 where there are four
-abbrev pub firstParts : ℕ → ℕ → ℕ
-firstParts f k = (cond (eqb k 0) 6 (cond (eqb k 2) 3 0) + f * cond (eqb k 2) 1 (cond (eqb k 3) 2 0) % 65536) % 65536
+abbrev pub first_parts_lem : ℕ → ℕ → ℕ
+first_parts_lem f k = (cond (eqb k 0) 6 (cond (eqb k 2) 3 0) + f * cond (eqb k 2) 1 (cond (eqb k 3) 2 0) % 65536) % 65536
 
-abbrev pub secondParts : ℕ → ℕ → ℕ
-secondParts f k = (cond (eqb k 1) 6 (cond (eqb k 2) 3 0) + f * cond (eqb k 2) 65535 (cond (eqb k 3) 4 0) % 65536) % 65536
+abbrev pub second_parts_lem : ℕ → ℕ → ℕ
+second_parts_lem f k = (cond (eqb k 1) 6 (cond (eqb k 2) 3 0) + f * cond (eqb k 2) 65535 (cond (eqb k 3) 4 0) % 65536) % 65536
 
 -- 255 in the lanes of alpha; where t is 1, one more in the last of them, which then is 0
-abbrev pub alphaLane : ℕ → ℕ → ℕ
-alphaLane t i = (cond (eqb (i % 4) 3) 255 0 + t * cond (eqb i 15) 1 0 % 65536) % 65536
+abbrev pub alpha_lane_lem : ℕ → ℕ → ℕ
+alpha_lane_lem t i = (cond (eqb (i % 4) 3) 255 0 + t * cond (eqb i 15) 1 0 % 65536) % 65536
 
 unfoldable pub lane : ℕ → ℕ → ℕ → ℕ → ℕ → ℕ
 lane f t p q i =
-    (sixths (channel p (i % 4)) (channel q (i % 4)) (firstParts f (i / 4)) (secondParts f (i / 4)) + alphaLane t i) % 65536 % 256
+    (sixths (channel p (i % 4)) (channel q (i % 4)) (first_parts_lem f (i / 4)) (second_parts_lem f (i / 4))
+    + alpha_lane_lem t i) % 65536 % 256
 
 -- four bytes of a list, the first lowest
-abbrev pub wordAt : List ℕ → ℕ → ℕ
-wordAt l i = getD l i 0 + getD l (i + 1) 0 * 256 + getD l (i + 2) 0 * 65536 + getD l (i + 3) 0 * 16777216
+abbrev pub word_at : List ℕ → ℕ → ℕ
+word_at l i = get_or l i 0 + get_or l (i + 1) 0 * 256 + get_or l (i + 2) 0 * 65536 + get_or l (i + 3) 0 * 16777216
 
-abbrev pub wordsOf : List ℕ → List ℕ
-wordsOf l = wordAt l 0 ∷ wordAt l 4 ∷ wordAt l 8 ∷ wordAt l 12 ∷ []
+abbrev pub words_of : List ℕ → List ℕ
+words_of l = word_at l 0 ∷ word_at l 4 ∷ word_at l 8 ∷ word_at l 12 ∷ []

@@ -1,23 +1,23 @@
 -- The state in the two arrays: what starting writes is the fresh one, and what a piece writes is the one after it.
 -- Assumes nothing.
-use mathlib.Core.Path.{_≡_, _∙_, refl, sym, ap, subst}
+use mathlib.Core.Path.{◌≡◌, ◌∙◌, refl, sym, ap, subst}
 use mathlib.Core.Bool.{Bool, true, false, cond}
-use mathlib.Core.List.{List, [], _∷_}
+use mathlib.Core.List.{List, [], ◌∷◌}
 use Prim.Native.Nat.{ℕ}
-use Rattle·rules.specs.Answers.{accepts}
-use Rattle·rules.specs.Pieces.{after, pieceVerdict, Starts, Takes}
-use Rattle·rules.specs.FileFormats.{formatAt, formatNumber}
-use Rattle·rules.specs.declared.Format.{Format}
-use Rattle·rules.specs.declared.Format.the-variants.{Etc1, Etc2Rgb, Etc2Rgba1, Etc2Rgba8, EacR, EacRSigned, EacRg, EacRgSigned, Bc1, Bc1Alpha, Bc3, Bc7, Bc2, Bc4, Bc4Signed, Bc5, Bc5Signed}
-use Rattle·rules.specs.declared.Picture.{Picture}
-use Rattle·rules.specs.declared.Progress.{Progress}
-use Rattle·rules.specs.declared.Started.{Started}
-use Rattle·rules.specs.declared.Taken.{Taken}
-use Rattle·capi·specs.specs.pieces_lent.Lent.{stateIn, withTaken, StartLent, PieceLent}
+use Rattle.rules.specs.Answers.{accepts}
+use Rattle.rules.specs.Pieces.{after, piece_verdict, Starts, Takes}
+use Rattle.rules.specs.FileFormats.{format_at_lem, format_number}
+use Rattle.rules.specs.declared.Format.{Format}
+use Rattle.rules.specs.declared.Format.TheVariants.{Etc1, Etc2Rgb, Etc2Rgba1, Etc2Rgba8, EacR, EacRSigned, EacRg, EacRgSigned, Bc1, Bc1Alpha, Bc3, Bc7, Bc2, Bc4, Bc4Signed, Bc5, Bc5Signed}
+use Rattle.rules.specs.declared.Picture.{Picture}
+use Rattle.rules.specs.declared.Progress.{Progress}
+use Rattle.rules.specs.declared.Started.{Started}
+use Rattle.rules.specs.declared.Taken.{Taken}
+use Rattle.capi.specs.pieces_lent.Lent.{state_in_lem, with_taken, StartLent, PieceLent}
 
 -- each format is that of its number
-numbered : (f : Format) → formatAt (formatNumber f) ≡ f
-unfolding formatAt
+numbered : (f : Format) → format_at_lem (format_number f) ≡ f
+unfolding format_at_lem
 numbered Etc1 = refl
 numbered Etc2Rgb = refl
 numbered Etc2Rgba1 = refl
@@ -36,17 +36,17 @@ numbered Bc4Signed = refl
 numbered Bc5 = refl
 numbered Bc5Signed = refl
 
-pub begun : (f : Format) (p : Picture) (n m : ℕ) (t : Started) → Starts f p n t → m ≡ formatNumber f → StartLent f p n (t .answer) (m ∷ p .width ∷ p .height ∷ p .pitch ∷ 0 ∷ []) (t .progress .kept)
+pub begun : (f : Format) (p : Picture) (n m : ℕ) (t : Started) → Starts f p n t → m ≡ format_number f → StartLent f p n t.answer (m ∷ p.width ∷ p.height ∷ p.pitch ∷ 0 ∷ []) t.progress.kept
 begun f p n m t a e =
     record {
       starts =
           record {
-            says = a .says;
+            says = a.says;
             state =
-                ap (λ (g : Format). make g (t .progress .kept)) (ap formatAt e ∙ numbered f)
-                ∙ ap (make f) (ap (λ (q : Progress). q .kept) (a .state));
+                ap (λ (g : Format). make g t.progress.kept) (ap format_at_lem e ∙ numbered f)
+                ∙ ap (make f) (ap (λ (q : Progress). q.kept) a.state);
           };
-      these = ap (λ (x : ℕ). x ∷ p .width ∷ p .height ∷ p .pitch ∷ 0 ∷ []) e;
+      these = ap (λ (x : ℕ). x ∷ p.width ∷ p.height ∷ p.pitch ∷ 0 ∷ []) e;
     }
   where
     make : Format → List ℕ → Progress
@@ -54,26 +54,26 @@ begun f p n m t a e =
 
 -- a piece changes neither the format nor the description
 abbrev with : Progress → ℕ → List ℕ → Progress
-with p t k = record { format = p .format; picture = p .picture; taken = t; kept = k }
+with p t k = record { format = p.format; picture = p.picture; taken = t; kept = k }
 
-stays : (p q : Progress) (e : List ℕ) (b : Bool) → q ≡ cond b (after p e) p → with p (q .taken) (q .kept) ≡ q
-stays p q e true h = ap (λ (x : Progress). with p (x .taken) (x .kept)) h ∙ sym h
-stays p q e false h = ap (λ (x : Progress). with p (x .taken) (x .kept)) h ∙ sym h
+stays : (p q : Progress) (e : List ℕ) (b : Bool) → q ≡ cond b (after p e) p → with p q.taken q.kept ≡ q
+stays p q e true h = ap (λ (x : Progress). with p x.taken x.kept) h ∙ sym h
+stays p q e false h = ap (λ (x : Progress). with p x.taken x.kept) h ∙ sym h
 
 pub carried : (numbers kept e image : List ℕ) (p : Progress) (r : Taken) (new : List ℕ)
-    → p ≡ stateIn numbers kept → Takes p e image r new
-    → PieceLent numbers kept e image (r .answer) (withTaken numbers (r .progress .taken)) (r .progress .kept) (r .painted) (r .unused) new
+    → p ≡ state_in_lem numbers kept → Takes p e image r new
+    → PieceLent numbers kept e image r.answer (with_taken numbers r.progress.taken) r.progress.kept r.painted r.unused new
 carried numbers kept e image q r new h u =
-    let p = stateIn numbers kept in
+    let p = state_in_lem numbers kept in
     let t = subst (λ (x : Progress). Takes x e image r new) h u in
     record {
       takes =
           record {
-            says = t .says;
-            state = stays p (r .progress) e (accepts (pieceVerdict p image)) (t .state) ∙ t .state;
-            painted = t .painted;
-            unused = t .unused;
-            leaves = t .leaves;
+            says = t.says;
+            state = stays p r.progress e (accepts (piece_verdict p image)) t.state ∙ t.state;
+            painted = t.painted;
+            unused = t.unused;
+            leaves = t.leaves;
           };
       only = refl;
     }

@@ -1,11 +1,6 @@
 -- Counts in the room lent for them, where they fit.
 -- Assumes nothing.
-use mathlib.Core.Path.{_≡_}
-use mathlib.Core.Bool.{cond}
-use mathlib.Core.List.{List, _++_}
-use Prim.Native.Nat.{ℕ}
-use lib.Dec.{ltb}
-use lib.ListN.{length, drop}
+use Rattle.std.specs.Prelude.{◌≡◌, cond, List, ◌++◌, ℕ, ltb, length, drop}
 
 -- the counts come first in the room, and what lies behind them keeps its value
 abbrev pub laid : List ℕ → List ℕ → List ℕ

@@ -1,25 +1,25 @@
 -- The range of the rules, by the two comparisons that code makes: both hold exactly at the numbers that lie in -n to n, at no NaN
 -- and at no infinity.
 -- Assumes nothing.
-use mathlib.Core.Path.{_≡_, refl, sym, _∙_, ap}
-use mathlib.Core.Bool.{Bool, true, false, _&&_, _||_}
-use Prim.Native.Nat.{ℕ, _+_, _*_, _^_, _<_, _≤_}
-use native.Mathlib.Nat.{mul-one, mul-pos, le-of-lt}
+use mathlib.Core.Path.{◌≡◌, refl, sym, ◌∙◌, ap}
+use mathlib.Core.Bool.{Bool, true, false, ◌&&◌, ◌||◌}
+use Prim.Native.Nat.{ℕ, ◌+◌, ◌*◌, ◌^◌, ◌<◌, ◌≤◌}
+use native.Mathlib.Nat.{mul-one, mul-pos, le_of_lt}
 use native.Mathlib.Omega.{arith}
-use borrow.Author.Tests.{lt-ltb, le-leb, lt-leb, eq-eqb, ne-eqb, ltb-true, ltb-false, eqb-true, eqb-false}
+use borrow.Author.Tests.{lt-ltb, le-leb, lt-leb, eq-eqb, ne_eqb, ltb-true, ltb-false, eqb-true, eqb-false}
 use lib.Dec.{leb, ltb, eqb}
 use lib.IntN.{ℤ, pos}
 use lib.Ieee.{Float, nan, inf, fin, up, down, neg, le}
-use lib.Ieee.Fits.{down-pos}
-use Rattle·rules.specs.Floats.{within}
+use lib.Ieee.Fits.{down_pos}
+use Rattle.rules.specs.Floats.{within}
 
 -- less or equal is at most, whichever way round the equality is tested
-pub at-most : (a b : ℕ) (q : Bool) → (a ≡ b → q ≡ true) → ((a ≡ b → ⊥) → q ≡ false) → (ltb a b || q) ≡ leb a b
-at-most a b q y n = go (ltb a b) refl (eqb a b) refl
+pub at_most : (a b : ℕ) (q : Bool) → (a ≡ b → q ≡ true) → ((a ≡ b → ⊥) → q ≡ false) → (ltb a b || q) ≡ leb a b
+at_most a b q y n = go (ltb a b) refl (eqb a b) refl
   where
     go : (u : Bool) → ltb a b ≡ u → (v : Bool) → eqb a b ≡ v → (ltb a b || q) ≡ leb a b
     go true h v k =
-        let l : a ≤ b = le-of-lt (ltb-true a b h) in
+        let l : a ≤ b = le_of_lt (ltb-true a b h) in
         rw (h, le-leb a b l)
     go false h true k =
         let l : a ≤ b = omega (arith, eqb-true a b k) in
@@ -42,25 +42,25 @@ module _ (n m k : ℕ) (some : 0 < n) (is : m * 2 ^ k ≡ n) (a : ℕ) (d : ℤ)
   limit = ap (λ (z : ℕ). z * down d) is
 
   above : 0 < m * 2 ^ k * down d
-  above = rw limit (mul-pos some (down-pos d))
+  above = rw limit (mul-pos some (down_pos d))
 
   -- a number is never beyond the limit of the other sign
   holds : (s : ℕ) (q : Bool) → m * 2 ^ k * down d ≤ s → (ltb 0 s || q) ≡ true
   holds s q h = let l : 0 < s = omega (arith, above) in rw (lt-ltb 0 s l)
 
-  one-side :
+  one_side :
       (q : Bool)
       → (a * up d * 1 ≡ m * 2 ^ k * down d → q ≡ true)
       → ((a * up d * 1 ≡ m * 2 ^ k * down d → ⊥) → q ≡ false)
       → (ltb (a * up d * 1) (m * 2 ^ k * down d) || q) ≡ leb (a * up d) (n * down d)
-  one-side q y z = at-most (a * up d * 1) (m * 2 ^ k * down d) q y z ∙ rw (limit, mul-one (a * up d))
+  one_side q y z = at_most (a * up d * 1) (m * 2 ^ k * down d) q y z ∙ rw (limit, mul-one (a * up d))
 
   negative : (le (fin true m (pos k)) (fin true a d) && le (fin true a d) (fin false m (pos k))) ≡ leb (a * up d) (n * down d)
   unfolding le
   negative =
       let x = a * up d * 1 in
       let l = m * 2 ^ k * down d in
-      right _ _ _ (one-side (eqb l x && true) (λ h. rw (eq-eqb l x (sym h))) (λ h. rw (ne-eqb l x (λ e. h (sym e)))))
+      right _ _ _ (one_side (eqb l x && true) (λ h. rw (eq-eqb l x (sym h))) (λ h. rw (ne_eqb l x (λ e. h (sym e)))))
       (holds (x + l) _ (omega arith))
 
   positive : (le (fin true m (pos k)) (fin false a d) && le (fin false a d) (fin false m (pos k))) ≡ leb (a * up d) (n * down d)
@@ -69,7 +69,7 @@ module _ (n m k : ℕ) (some : 0 < n) (is : m * 2 ^ k ≡ n) (a : ℕ) (d : ℤ)
       let x = a * up d * 1 in
       let l = m * 2 ^ k * down d in
       left _ _ _ (holds (l + x) _ (omega arith))
-      (one-side (eqb x l && true) (λ h. rw (eq-eqb x l h)) (λ h. rw (ne-eqb x l h)))
+      (one_side (eqb x l && true) (λ h. rw (eq-eqb x l h)) (λ h. rw (ne_eqb x l h)))
 
 pub spans : (n m k : ℕ) → 0 < n → m * 2 ^ k ≡ n → (x : Float) → (le (neg (fin false m (pos k))) x && le x (fin false m (pos k))) ≡ within n x
 unfolding le neg

@@ -1,15 +1,12 @@
 -- The steps of a code are small.
 -- Assumes nothing.
-use Prim.Native.Nat.{ℕ, _<_}
-use lib.Dec.{lit<}
-use lib.IntN.{pos}
-use lib.ListN.{getD}
+use Rattle.std.proofs.Common.{ℕ, ◌<◌, get_or, pos, lit<}
 use lib.Signed.{mag}
-use Rattle·laws.proofs.Every.{below}
-use Rattle·laws.proofs.Signed.{small, small-at}
-use Rattle·rules.specs.Colour.{stepsOf}
-use Rattle·tables.specs.consts.Tables.{fourSteps}
+use Rattle.laws.proofs.Every.{below}
+use Rattle.laws.proofs.Signed.{small, small_at}
+use Rattle.rules.specs.Colour.{steps_of}
+use Rattle.tables.specs.consts.Tables.{four_steps}
 
-pub small-step : (code k : ℕ) → code < 8 → mag (getD (fourSteps (stepsOf code)) k (pos 0)) < 1024
-small-step code k h =
-    small-at 1024 (fourSteps (stepsOf code)) (lit< tt) (below (λ j. small 1024 (fourSteps (stepsOf j))) 8 tt code h) k
+pub small_step : (code k : ℕ) → code < 8 → mag (get_or (four_steps (steps_of code)) k (pos 0)) < 1024
+small_step code k h =
+    small_at 1024 (four_steps (steps_of code)) (lit< tt) (below (λ j. small 1024 (four_steps (steps_of j))) 8 tt code h) k

@@ -1,10 +1,8 @@
 -- The wrapped sum with no signs, at each byte: one test that antt computes.
 -- Assumes nothing.
-use mathlib.Core.Path.{_≡_}
-use Prim.Native.Nat.{ℕ, _+_, _-_, _*_, _/_, _%_, _<_}
-use lib.Dec.{eqb, eqb→eq}
-use Rattle·rules.specs.Colour.{wrapped}
-use Rattle·laws.proofs.Every.{below}
+use Rattle.std.proofs.Common.{◌≡◌, ℕ, ◌+◌, ◌-◌, ◌*◌, ◌/◌, ◌%◌, ◌<◌, eqb, eqb→eq}
+use Rattle.rules.specs.Colour.{wrapped}
+use Rattle.laws.proofs.Every.{below}
 
 abbrev plain : ℕ → ℕ
 plain b = (8 * (b / 8) + 8 * (b % 4) + (256 - 32 * (b / 4 % 2))) % 256 / 8

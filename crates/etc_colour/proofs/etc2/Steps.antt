@@ -1,47 +1,40 @@
 -- The steps of a code, in a block that is opaque and in one that is not, and the colours that they make.
 -- Assumes nothing.
-use mathlib.Core.Path.{_≡_, refl}
-use mathlib.Core.Bool.{Bool, true, false, cond}
-use mathlib.Core.List.{List, []}
-use Prim.Native.Nat.{ℕ, _+_, _<_}
-use native.Mathlib.Nat.{zero-add}
-use lib.Dec.{lit<}
-use lib.IntN.{ℤ, pos}
-use lib.ListN.{getD}
+use Rattle.std.proofs.Common.{◌≡◌, ℕ, ◌+◌, ◌<◌, Bool, true, false, cond, List, [], get_or, ℤ, pos, refl, zero-add, lit<}
 use lib.Signed.{mag}
-use Rattle·laws.proofs.Every.{below}
-use Rattle·laws.proofs.Signed.{small, small-at}
-use Rattle·rules.specs.Colour.{stepsOf, halfColours}
-use Rattle·tables.specs.consts.Tables.{fourSteps, clearFour, signedSteps}
-use Rattle·tables.proofs.consts.Order.{clear-at, steps-at}
-use Rattle·etc_colour·specs.specs.shade.Pick.{eight}
-use Rattle·etc_colour·specs.specs.shade.Tone.{punched, Steps}
-use Rattle·etc_colour·proofs.proofs.shade.Tone.{steps-opaque, steps-clear}
-use Rattle·etc_colour·specs.specs.etc1.Halves.{shades, ofHalf}
-use Rattle·etc_colour·proofs.proofs.etc1.Steps.{small-step}
-use Rattle·etc_colour·specs.specs.etc2.Colours.{stepsWhere}
+use Rattle.laws.proofs.Every.{below}
+use Rattle.laws.proofs.Signed.{small, small_at}
+use Rattle.rules.specs.Colour.{steps_of, half_colours}
+use Rattle.tables.specs.consts.Tables.{four_steps, clear_four, signed_steps}
+use Rattle.tables.proofs.consts.Order.{clear_at, steps_at}
+use Rattle.etc_colour.specs.shade.Pick.{eight}
+use Rattle.etc_colour.specs.shade.Tone.{punched, Steps}
+use Rattle.etc_colour.proofs.shade.Tone.{steps_opaque, steps_clear}
+use Rattle.etc_colour.specs.etc1.Halves.{shades, of_half_lem}
+use Rattle.etc_colour.proofs.etc1.Steps.{small_step}
+use Rattle.etc_colour.specs.etc2.Colours.{steps_where}
 
 -- the steps of a code
-abbrev pub rowWhere : Bool → ℕ → List ℤ
-rowWhere opaque code = cond opaque (fourSteps (stepsOf code)) (clearFour (stepsOf code))
+abbrev pub row_where : Bool → ℕ → List ℤ
+row_where opaque code = cond opaque (four_steps (steps_of code)) (clear_four (steps_of code))
 
 -- where the table has them
-pub row-at : (opaque : Bool) (t : List (List ℤ)) (code : ℕ) → t ≡ signedSteps → code < 8 → getD t (cond opaque 8 0 + code) [] ≡ rowWhere opaque code
-row-at true t code e h = steps-at t e code h
-row-at false t code e h = rw (zero-add code) (clear-at t e code h)
+pub row_at : (opaque : Bool) (t : List (List ℤ)) (code : ℕ) → t ≡ signed_steps → code < 8 → get_or t (cond opaque 8 0 + code) [] ≡ row_where opaque code
+row_at true t code e h = steps_at t e code h
+row_at false t code e h = rw (zero-add code) (clear_at t e code h)
 
-small-clear : (code k : ℕ) → code < 8 → mag (getD (clearFour (stepsOf code)) k (pos 0)) < 1024
-small-clear code k h =
-    small-at 1024 (clearFour (stepsOf code)) (lit< tt) (below (λ j. small 1024 (clearFour (stepsOf j))) 8 tt code h) k
+small_clear : (code k : ℕ) → code < 8 → mag (get_or (clear_four (steps_of code)) k (pos 0)) < 1024
+small_clear code k h =
+    small_at 1024 (clear_four (steps_of code)) (lit< tt) (below (λ j. small 1024 (clear_four (steps_of j))) 8 tt code h) k
 
-pub steps-where : (opaque : Bool) (code : ℕ) → code < 8 → Steps opaque (rowWhere opaque code)
-steps-where true code h = steps-opaque (fourSteps (stepsOf code)) (λ k. small-step code k h)
-steps-where false code h = steps-clear (clearFour (stepsOf code)) (λ k. small-clear code k h) refl
+pub steps_where_lem : (opaque : Bool) (code : ℕ) → code < 8 → Steps opaque (row_where opaque code)
+steps_where_lem true code h = steps_opaque (four_steps (steps_of code)) (λ k. small_step code k h)
+steps_where_lem false code h = steps_clear (clear_four (steps_of code)) (λ k. small_clear code k h) refl
 
 -- the colours of both halves
 pub coloured : (opaque : Bool) (c : List (List ℕ)) (code : ℕ → ℕ) (first second : List ℤ)
-    → first ≡ rowWhere opaque (code 0)
-    → second ≡ rowWhere opaque (code 1)
-    → eight (λ h. shades opaque (getD c h []) (ofHalf first second h)) ≡ eight (λ h. punched opaque (halfColours (getD c h []) (stepsWhere opaque (code h))))
+    → first ≡ row_where opaque (code 0)
+    → second ≡ row_where opaque (code 1)
+    → eight (λ h. shades opaque (get_or c h []) (of_half_lem first second h)) ≡ eight (λ h. punched opaque (half_colours (get_or c h []) (steps_where opaque (code h))))
 coloured true c code first second p q = rw (p, q)
 coloured false c code first second p q = rw (p, q)

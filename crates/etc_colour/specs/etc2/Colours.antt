@@ -1,59 +1,56 @@
 -- The colours of a block as the code makes them, and a pixel of ETC1, RGB or RGBA1.
 -- Assumes nothing.
-use mathlib.Core.Bool.{Bool, true, cond}
-use mathlib.Core.List.{List, []}
-use Prim.Native.Nat.{ℕ}
-use lib.ListN.{getD}
-use Rattle·rules.specs.Pixel.{Shows}
-use Rattle·rules.specs.Colour.{individual, wrapping, code, half, index, differs, kindBySums, kindOf, halfColours, stepsOf}
-use Rattle·rules.specs.Modes.{tBases, tDistance, tColours, hBases, hDistance, hColours}
-use Rattle·rules.specs.Modes.{planarBases, planarPixel, isPlanar, clearSteps, etc1Pixel, rgbPixel, rgba1Pixel}
-use Rattle·rules.specs.declared.Kind.{Kind}
-use Rattle·rules.specs.declared.Kind.the-variants.{Individual, Differential, T, H, Planar}
-use Rattle·etc_colour·specs.specs.shade.Tone.{punched}
+use Rattle.std.specs.Prelude.{ℕ, Bool, true, cond, List, [], slice_index, slice_index_or}
+use Rattle.rules.specs.Pixel.{Shows}
+use Rattle.rules.specs.Colour.{individual, wrapping, code, half, index, differs, kind_by_sums_lem, kind_of, half_colours, steps_of}
+use Rattle.rules.specs.Modes.{t_bases, t_distance, t_colours_lem, h_bases, h_distance, h_colours_lem}
+use Rattle.rules.specs.Modes.{planar_bases_lem, planar_pixel_lem, is_planar, clear_steps, etc1_pixel, rgb_pixel, rgba1_pixel}
+use Rattle.rules.specs.declared.Kind.{Kind}
+use Rattle.rules.specs.declared.Kind.TheVariants.{Individual, Differential, T, H, Planar}
+use Rattle.etc_colour.specs.shade.Tone.{punched}
 
 -- what a code stands for, in a block that is opaque and in one that is not
-abbrev pub stepsWhere : Bool → ℕ → List ℕ
-stepsWhere opaque code = cond opaque (stepsOf code) (clearSteps code)
+abbrev pub steps_where : Bool → ℕ → List ℕ
+steps_where opaque code = cond opaque (steps_of code) (clear_steps code)
 
 -- the base colours of a block of two halves; a differential one's second base wraps
-abbrev pub halfBases : Kind → List ℕ → List (List ℕ)
-halfBases Individual d = individual d
-halfBases Differential d = wrapping d
-halfBases T d = wrapping d
-halfBases H d = wrapping d
-halfBases Planar d = wrapping d
+abbrev pub half_bases : Kind → List ℕ → List (List ℕ)
+half_bases Individual d = individual d
+half_bases Differential d = wrapping d
+half_bases T d = wrapping d
+half_bases H d = wrapping d
+half_bases Planar d = wrapping d
 
 -- the four colours of half h of such a block
-abbrev pub halvesColours : Bool → Kind → List ℕ → ℕ → List ℕ
-halvesColours opaque kind d h = punched opaque (halfColours (getD (halfBases kind d) h []) (stepsWhere opaque (code d h)))
+abbrev pub halves_colours : Bool → Kind → List ℕ → ℕ → List ℕ
+halves_colours opaque kind d h = punched opaque (half_colours (slice_index_or (half_bases kind d) h []) (steps_where opaque (code d h)))
 
--- `coloursOf` of the rules, but for a differential block's second base, which wraps
-unfoldable pub madeColours : (ℕ → List ℕ) → Kind → List ℕ → ℕ → List ℕ
-madeColours steps Individual d h = halfColours (getD (individual d) h []) (steps (code d h))
-madeColours steps Differential d h = halfColours (getD (wrapping d) h []) (steps (code d h))
-madeColours steps T d h = tColours (tBases d) (tDistance d)
-madeColours steps H d h = hColours (hBases d) (hDistance d)
-madeColours steps Planar d h = []
+-- `colours_of_lem` of the rules, but for a differential block's second base, which wraps
+unfoldable pub made_colours : (ℕ → List ℕ) → Kind → List ℕ → ℕ → List ℕ
+made_colours steps Individual d h = half_colours (slice_index_or (individual d) h []) (steps (code d h))
+made_colours steps Differential d h = half_colours (slice_index_or (wrapping d) h []) (steps (code d h))
+made_colours steps T d h = t_colours_lem (t_bases d) (t_distance d)
+made_colours steps H d h = h_colours_lem (h_bases d) (h_distance d)
+made_colours steps Planar d h = []
 
 -- a pixel of a block of a kind that is opaque or not, as it is made
-unfoldable pub madePixel : Kind → Bool → Shows
-madePixel kind opaque d x y =
-    cond (isPlanar kind) (planarPixel (planarBases d) x y)
-    (getD (punched opaque (madeColours (stepsWhere opaque) kind d (half d x y))) (index d x y) 0)
+unfoldable pub made_pixel : Kind → Bool → Shows
+made_pixel kind opaque d x y =
+    cond (is_planar kind) (planar_pixel_lem (planar_bases_lem d) x y)
+    (slice_index (punched opaque (made_colours (steps_where opaque) kind d (half d x y))) (index d x y))
 
 -- "ETC1: the sum wraps": no other kind than these two
-abbrev pub etc1Kind : List ℕ → Kind
-etc1Kind d = cond (differs d) Differential Individual
+abbrev pub etc1_kind_lem : List ℕ → Kind
+etc1_kind_lem d = cond (differs d) Differential Individual
 
 -- how the kind is told, in ETC1, in RGBA1 and in RGB
-abbrev pub kindIn : Bool → Bool → List ℕ → Kind
-kindIn plain punch d = cond punch (kindBySums d) (cond plain (etc1Kind d) (kindOf d))
+abbrev pub kind_in_lem : Bool → Bool → List ℕ → Kind
+kind_in_lem plain punch d = cond punch (kind_by_sums_lem d) (cond plain (etc1_kind_lem d) (kind_of d))
 
 -- "b3 bit 1 is the difference bit (in RGBA1: the opaque bit ..)"
-abbrev pub opaqueIn : Bool → List ℕ → Bool
-opaqueIn punch d = cond punch (differs d) true
+abbrev pub opaque_in_lem : Bool → List ℕ → Bool
+opaque_in_lem punch d = cond punch (differs d) true
 
 -- a pixel of one of the three
-abbrev pub colourPixel : Bool → Bool → Shows
-colourPixel plain punch = cond punch rgba1Pixel (cond plain etc1Pixel rgbPixel)
+abbrev pub colour_pixel : Bool → Bool → Shows
+colour_pixel plain punch = cond punch rgba1_pixel (cond plain etc1_pixel rgb_pixel)

@@ -1,15 +1,13 @@
 -- The rules' fields of T and H over the bytes that they stand in, which is how the leaves take them.
 -- Assumes nothing.
-use mathlib.Core.List.{List, [], _∷_}
-use Prim.Native.Nat.{ℕ}
-use lib.ListN.{getD}
-use Rattle·rules.specs.Modes.{tBases, hBases, distances}
+use Rattle.std.specs.Prelude.{ℕ, List, [], ◌∷◌, slice_index}
+use Rattle.rules.specs.Modes.{t_bases, h_bases, distances}
 
-abbrev pub tFields : ℕ → ℕ → ℕ → ℕ → List (List ℕ)
-tFields a b c d = tBases (a ∷ b ∷ c ∷ d ∷ [])
+abbrev pub t_fields_lem : ℕ → ℕ → ℕ → ℕ → List (List ℕ)
+t_fields_lem a b c d = t_bases (a ∷ b ∷ c ∷ d ∷ [])
 
-abbrev pub hFields : ℕ → ℕ → ℕ → ℕ → List (List ℕ)
-hFields a b c d = hBases (a ∷ b ∷ c ∷ d ∷ [])
+abbrev pub h_fields_lem : ℕ → ℕ → ℕ → ℕ → List (List ℕ)
+h_fields_lem a b c d = h_bases (a ∷ b ∷ c ∷ d ∷ [])
 
-abbrev pub distanceAt : ℕ → ℕ
-distanceAt n = getD distances n 0
+abbrev pub distance_at : ℕ → ℕ
+distance_at n = slice_index distances n

@@ -1,16 +1,16 @@
 -- The first elements of a part of an image, one after another, and the first sixteen of an image.
 -- Assumes nothing.
-use mathlib.Core.Path.{_≡_, refl, ap}
-use mathlib.Core.List.{List, _++_}
-use mathlib.Core.Logic.{inl, inr, ⊎-elim}
-use Prim.Native.Nat.{ℕ, _+_, _<_, _≤_}
+use mathlib.Core.Path.{◌≡◌, refl, ap}
+use mathlib.Core.List.{List, ◌++◌}
+use mathlib.Core.Logic.{inl, inr, ⊎_elim}
+use Prim.Native.Nat.{ℕ, ◌+◌, ◌<◌, ◌≤◌}
 use native.Mathlib.Omega.{arith}
-use native.Mathlib.Nat.{eq-or-lt-of-le}
+use native.Mathlib.Nat.{eq-or-lt_of_le}
 use lib.Dec.{T, ltb, ltb→lt, lt→ltb}
-use lib.ListN.{length, getD, set, take, drop, length-take}
-use Rattle·rules.specs.Places.{painted}
-use Rattle·laws.specs.Painted.{Painted}
-use Rattle·laws.proofs.Paint.{none, said, one, lent, is-painted}
+use lib.ListN.{length, get_or, set, take, drop, length-take}
+use Rattle.rules.specs.Places.{painted}
+use Rattle.laws.specs.Painted.{Painted}
+use Rattle.laws.proofs.Paint.{none, said, one, lent, is_painted}
 
 -- the first i of the elements of a list, painted over old
 abbrev pub Begun : (ℕ → ℕ) → List ℕ → List ℕ → ℕ → Type 0
@@ -20,26 +20,26 @@ module _ (v : ℕ → ℕ) where
   pub begin : (l : List ℕ) → Begun v l l 0
   begin l = (omega arith, none _ _ l (λ k z. omega arith))
 
-  pub go-on : (old new : List ℕ) (i : ℕ) → i < length new → Begun v old new i → Begun v old (set new i (v i)) (i + 1)
-  go-on old new i h a = (
-    omega (arith, a .1 .same),
-    one (λ k. k < i) (λ k. k < i + 1) v old new i (v i) (a .1) h (omega arith) refl
+  pub go_on : (old new : List ℕ) (i : ℕ) → i < length new → Begun v old new i → Begun v old (set new i (v i)) (i + 1)
+  go_on old new i h a = (
+    omega (arith, a.1.same),
+    one (λ k. k < i) (λ k. k < i + 1) v old new i (v i) a.1 h (omega arith) refl
         (λ k z. omega arith)
-        (λ k z. ⊎-elim (λ e. inr e) (λ m. inl (m, λ e. omega arith)) (eq-or-lt-of-le {n = k} {m = i} (omega arith))),
+        (λ k z. ⊎_elim (λ e. inr e) (λ m. inl (m, λ e. omega arith)) (eq-or-lt_of_le {n = k} {m = i} (omega arith))),
   )
 
   pub ended : (old new : List ℕ) (i : ℕ) → length new ≤ i → Begun v old new i → Painted (λ k. k < length old) v old new
   ended old new i h a =
-      said _ _ _ _ old new (a .1) (λ k z. omega (arith, a .1 .same)) (λ k z. omega (arith, a .0)) (λ k z. refl)
+      said _ _ _ _ old new a.1 (λ k z. omega (arith, a.1.same)) (λ k z. omega (arith, a.0)) (λ k z. refl)
 
 -- sixteen pixels, written through the first sixteen elements
 pub sixteen : (t old part : List ℕ) → 16 ≤ length old
-    → Painted (λ k. k < length (take 16 old)) (λ k. getD t (0 + k) 0) (take 16 old) part
-    → part ++ drop 16 old ≡ painted (λ k. ltb k 16) (λ k. getD t k 0) old
+    → Painted (λ k. k < length (take 16 old)) (λ k. get_or t (0 + k) 0) (take 16 old) part
+    → part ++ drop 16 old ≡ painted (λ k. ltb k 16) (λ k. get_or t k 0) old
 sixteen t old part h p =
     let s : length (take 16 old) ≡ 16 = simp length-take (omega arith) in
-    is-painted _ (λ k. ltb k 16) (λ k. getD t k 0) old (part ++ drop 16 old) (λ k z. z) (λ k z. z)
+    is_painted _ (λ k. ltb k 16) (λ k. get_or t k 0) old (part ++ drop 16 old) (λ k z. z) (λ k z. z)
     (said _ (λ k. T (ltb k 16)) _ _ old _ (lent _ _ 0 16 old part h p)
     (λ k z. let l = ltb→lt k 16 z in (omega arith, omega arith, omega arith))
-    (λ k z. lt→ltb k 16 (omega (arith, z .1)))
-    (λ k z. ap (λ (m : ℕ). getD t m 0) (omega arith)))
+    (λ k z. lt→ltb k 16 (omega (arith, z.1)))
+    (λ k z. ap (λ (m : ℕ). get_or t m 0) (omega arith)))

@@ -1,20 +1,20 @@
 -- A picture whose rows have no gap, "pitch equal to width": its own elements are the first width * height of the image, and as many are
 -- needed. So what was said of a width and a height alone is said as before.
 -- Assumes nothing.
-use mathlib.Core.Path.{_≡_, _∙_, refl, sym, ap}
-use mathlib.Core.Bool.{Bool, true, false, cond, _&&_}
+use mathlib.Core.Path.{◌≡◌, ◌∙◌, refl, sym, ap}
+use mathlib.Core.Bool.{Bool, true, false, cond, ◌&&◌}
 use mathlib.Core.List.{List}
-use mathlib.Core.Logic.{⊎-elim}
-use Prim.Native.Nat.{ℕ, zero, suc, _+_, _-_, _*_, _/_, _%_, _<_}
-use native.Mathlib.Nat.{div-add-mod', div-lt-iff-lt-mul, mod-lt, mul-comm, mul-zero, zero-mul, suc-mul, eq-zero-or-pos}
-use native.Mathlib.Decide.{decLt}
+use mathlib.Core.Logic.{⊎_elim}
+use Prim.Native.Nat.{ℕ, zero, suc, ◌+◌, ◌-◌, ◌*◌, ◌/◌, ◌%◌, ◌<◌}
+use native.Mathlib.Nat.{div-add-mod', div-lt_iff_lt-mul, mod-lt, mul_comm, mul-zero, zero-mul, suc-mul, eq-zero-or-pos}
+use native.Mathlib.Decide.{dec_lt}
 use native.Mathlib.Omega.{arith}
-use borrow.Author.Tests.{lt-ltb, le-ltb, ne-eqb, ltb-true}
+use borrow.Author.Tests.{lt-ltb, le-ltb, ne_eqb, ltb-true}
 use lib.Dec.{ltb}
-use lib.ListN.{length, getD}
-use Rattle·rules.specs.Places.{sized, inside, needed, painted}
-use Rattle·laws.proofs.Filled.{build-same}
-use Rattle·pixel·proofs.proofs.place.Grid.{before, wide}
+use lib.ListN.{length, get_or}
+use Rattle.rules.specs.Places.{sized, inside, needed, painted}
+use Rattle.laws.proofs.Filled.{build_same}
+use Rattle.pixel.proofs.place.Grid.{before, wide}
 
 -- two tests that do not hold together
 neither : (s t : Bool) → (s ≡ true → t ≡ true → ⊥) → (s && t) ≡ false
@@ -26,34 +26,34 @@ neither true true h = absurd (h refl refl)
 rows : (w h : ℕ) → 0 < h → (h - 1) * w + w ≡ w * h
 rows w (suc h) p =
     let e : suc h - 1 ≡ h = omega arith in
-    ap (λ (z : ℕ). z * w + w) e ∙ sym (suc-mul h w) ∙ mul-comm (suc h) w
+    ap (λ (z : ℕ). z * w + w) e ∙ sym (suc-mul h w) ∙ mul_comm (suc h) w
 rows w zero p = absurd (omega arith)
 
 module _ (w h : ℕ) where
-  pub needed-plain : needed (sized w h) ≡ w * h
+  pub needed_plain : needed (sized w h) ≡ w * h
   unfolding needed
-  needed-plain =
-      ⊎-elim (λ e. rw e (sym (zero-mul h)))
+  needed_plain =
+      ⊎_elim (λ e. rw e (sym (zero-mul h)))
       (λ p.
-      ⊎-elim (λ e. rw (ne-eqb w 0 (λ z. omega (arith, z)), e) (sym (mul-zero w)))
-      (λ q. rw (ne-eqb w 0 (λ z. omega (arith, z)), ne-eqb h 0 (λ z. omega (arith, z))) (rows w h q))
+      ⊎_elim (λ e. rw (ne_eqb w 0 (λ z. omega (arith, z)), e) (sym (mul-zero w)))
+      (λ q. rw (ne_eqb w 0 (λ z. omega (arith, z)), ne_eqb h 0 (λ z. omega (arith, z))) (rows w h q))
       (eq-zero-or-pos h))
       (eq-zero-or-pos w)
 
-  pub inside-plain : (k : ℕ) → inside (sized w h) k ≡ ltb k (w * h)
-  inside-plain k =
-      elim (decLt k (w * h)) [
+  pub inside_plain : (k : ℕ) → inside (sized w h) k ≡ ltb k (w * h)
+  inside_plain k =
+      elim (dec_lt k (w * h)) [
         | yes l ↦
-            let m : k < h * w = omega (arith, l, mul-comm w h) in
+            let m : k < h * w = omega (arith, l, mul_comm w h) in
             let p = wide w h k m in
-            rw (lt-ltb (k % w) w (mod-lt k p), lt-ltb (k / w) h (div-lt-iff-lt-mul p .1 m), lt-ltb k (w * h) l)
+            rw (lt-ltb (k % w) w (mod-lt k p), lt-ltb (k / w) h ((div-lt_iff_lt-mul p).1 m), lt-ltb k (w * h) l)
         | no l ↦
             neither (ltb (k % w) w) (ltb (k / w) h)
-            (λ a b. omega (arith, l, before w (k % w) (k / w) h (ltb-true (k % w) w a) (ltb-true (k / w) h b), div-add-mod' k w, mul-comm w h))
+            (λ a b. omega (arith, l, before w (k % w) (k / w) h (ltb-true (k % w) w a) (ltb-true (k / w) h b), div-add-mod' k w, mul_comm w h))
             ∙ sym (le-ltb k (w * h) (omega (arith, l)))
       ]
 
   -- so a picture without gaps is painted over the first width * height elements
-  pub painted-plain : (v : ℕ → ℕ) (old : List ℕ) → painted (inside (sized w h)) v old ≡ painted (λ k. ltb k (w * h)) v old
+  pub painted_plain : (v : ℕ → ℕ) (old : List ℕ) → painted (inside (sized w h)) v old ≡ painted (λ k. ltb k (w * h)) v old
   unfolding painted
-  painted-plain v old = build-same 0 _ _ (length old) (λ k l. ap (λ (t : Bool). cond t (v k) (getD old k 0)) (inside-plain k))
+  painted_plain v old = build_same 0 _ _ (length old) (λ k l. ap (λ (t : Bool). cond t (v k) (get_or old k 0)) (inside_plain k))

@@ -1,19 +1,19 @@
 -- A row piece of a picture, and the row pieces of a tile one after another.
 -- Assumes nothing.
-use mathlib.Core.Path.{_≡_, _∙_, refl, sym, ap, subst}
-use mathlib.Core.List.{List, _++_}
-use mathlib.Core.Logic.{inl, inr, ⊎-elim}
-use Prim.Native.Nat.{ℕ, _+_, _-_, _*_, _/_, _%_, _<_, _≤_}
+use mathlib.Core.Path.{◌≡◌, ◌∙◌, refl, sym, ap, subst}
+use mathlib.Core.List.{List, ◌++◌}
+use mathlib.Core.Logic.{inl, inr, ⊎_elim}
+use Prim.Native.Nat.{ℕ, ◌+◌, ◌-◌, ◌*◌, ◌/◌, ◌%◌, ◌<◌, ◌≤◌}
 use native.Mathlib.Omega.{arith}
-use native.Mathlib.Nat.{eq-or-lt-of-le}
+use native.Mathlib.Nat.{eq-or-lt_of_le}
 use lib.Dec.{T}
-use lib.ListN.{length, getD, take, drop, length-take, length-drop}
-use Rattle·rules.specs.Places.{element, column, row, inside}
-use Rattle·rules.specs.declared.Picture.{Picture}
-use Rattle·laws.specs.Painted.{Painted}
-use Rattle·laws.proofs.Paint.{none, said, also, lent}
-use Rattle·pixel·specs.specs.place.Tile.{InPiece, InTile, Room, numberIn, shown, inRow}
-use Rattle·pixel·proofs.proofs.place.Grid.{column-at, row-at, inside-at, only, column-in, row-in, beside, reached-all}
+use lib.ListN.{length, get_or, take, drop, length-take, length-drop}
+use Rattle.rules.specs.Places.{element, column, row, inside}
+use Rattle.rules.specs.declared.Picture.{Picture}
+use Rattle.laws.specs.Painted.{Painted}
+use Rattle.laws.proofs.Paint.{none, said, also, lent}
+use Rattle.pixel.specs.place.Tile.{InPiece, InTile, Room, number_in, shown, in_row}
+use Rattle.pixel.proofs.place.Grid.{column_at, row_at, inside_at, only, column_in, row_in, beside, reached_all}
 
 -- x in column bx of fours is bx * 4 and its place there
 four : (x bx : ℕ) → x / 4 ≡ bx → x ≡ bx * 4 + x % 4
@@ -21,39 +21,39 @@ four x bx e = omega arith
 
 module _ (pic : Picture) where
   -- the elements of a row piece: the n pixels from the first of column bx of tiles on
-  module _ (bx y n : ℕ) (w : bx * 4 < pic .width) (e : n ≡ shown (pic .width) bx) (j : y < pic .height) where
+  module _ (bx y n : ℕ) (w : bx * 4 < pic.width) (e : n ≡ shown pic.width bx) (j : y < pic.height) where
     pub enough : (m : ℕ) → Room pic m → element pic (bx * 4) y + n ≤ m
-    enough m r = reached-all pic (bx * 4) y n m r (omega arith) (omega arith) j
+    enough m r = reached_all pic (bx * 4) y n m r (omega arith) (omega arith) j
 
     at : (k : ℕ) → InPiece pic bx y k → (k ≡ element pic (bx * 4) y + column pic k % 4) × (column pic k % 4 < n)
     at k z =
-        let f = four (column pic k) bx (z .across) in (
-          only pic k (bx * 4 + column pic k % 4) y f (z .down) ∙ beside pic (bx * 4) y (column pic k % 4),
-          omega (arith, column-in pic k (z .within)),
+        let f = four (column pic k) bx z.across in (
+          only pic k (bx * 4 + column pic k % 4) y f z.down ∙ beside pic (bx * 4) y (column pic k % 4),
+          omega (arith, column_in pic k z.within),
         )
 
-    back : pic .width ≤ pic .pitch → (k : ℕ) → element pic (bx * 4) y ≤ k → k < element pic (bx * 4) y + n → InPiece pic bx y k
+    back : pic.width ≤ pic.pitch → (k : ℕ) → element pic (bx * 4) y ≤ k → k < element pic (bx * 4) y + n → InPiece pic bx y k
     back f k l h =
         let i = k - element pic (bx * 4) y in
-        let x : bx * 4 + i < pic .width = omega arith in
+        let x : bx * 4 + i < pic.width = omega arith in
         let s : k ≡ element pic (bx * 4 + i) y = omega (arith, beside pic (bx * 4) y i) in
         record {
-          within = subst (λ (m : ℕ). T (inside pic m)) (sym s) (inside-at pic f (bx * 4 + i) y x j);
-          across = ap (λ (m : ℕ). column pic m / 4) s ∙ ap (λ (m : ℕ). m / 4) (column-at pic (bx * 4 + i) y (omega arith)) ∙ omega arith;
-          down = ap (row pic) s ∙ row-at pic (bx * 4 + i) y (omega arith);
+          within = subst (λ (m : ℕ). T (inside pic m)) (sym s) (inside_at pic f (bx * 4 + i) y x j);
+          across = ap (λ (m : ℕ). column pic m / 4) s ∙ ap (λ (m : ℕ). m / 4) (column_at pic (bx * 4 + i) y (omega arith)) ∙ omega arith;
+          down = ap (row pic) s ∙ row_at pic (bx * 4 + i) y (omega arith);
         }
 
     -- row i of a tile, written through the piece
     pub pieced : (t : List ℕ) (i m : ℕ) (old part : List ℕ) → Room pic (length old) → m ≡ n
-        → Painted (λ k. k < length (take m (drop (element pic (bx * 4) y) old))) (λ k. getD t (i * 4 + k) 0) (take m (drop (element pic (bx * 4) y) old)) part
-        → Painted (InPiece pic bx y) (inRow pic t i) old (take (element pic (bx * 4) y) old ++ (part ++ drop m (drop (element pic (bx * 4) y) old)))
+        → Painted (λ k. k < length (take m (drop (element pic (bx * 4) y) old))) (λ k. get_or t (i * 4 + k) 0) (take m (drop (element pic (bx * 4) y) old)) part
+        → Painted (InPiece pic bx y) (in_row pic t i) old (take (element pic (bx * 4) y) old ++ (part ++ drop m (drop (element pic (bx * 4) y) old)))
     pieced t i m old part r q p =
         let o = enough (length old) r in
         let s : length (take m (drop (element pic (bx * 4) y) old)) ≡ n = simp (length-take, length-drop) (omega arith) in
         said _ _ _ _ old _ (lent _ _ (element pic (bx * 4) y) m old part (omega arith) p)
         (λ k z. let u = at k z in (omega arith, omega arith, omega arith))
-        (λ k z. back (r .fits) k (z .0) (omega (arith, z .1)))
-        (λ k z. let u = at k z in ap (λ (m : ℕ). getD t (i * 4 + m) 0) (omega arith))
+        (λ k z. back r.fits k z.0 (omega (arith, z.1)))
+        (λ k z. let u = at k z in ap (λ (m : ℕ). get_or t (i * 4 + m) 0) (omega arith))
 
   -- the pixels of a tile that are painted with the first i rows of it
   abbrev pub First : ℕ → ℕ → ℕ → ℕ → Type 0
@@ -61,34 +61,34 @@ module _ (pic : Picture) where
 
   -- what holds before turn i of m: so many rows of the tile t have been painted, over old
   abbrev pub Turned : ℕ → ℕ → ℕ → List ℕ → List ℕ → List ℕ → ℕ → Type 0
-  Turned bx by m t old new i = (i ≤ m) × Painted (First bx by i) (λ k. getD t (numberIn pic k) 0) old new
+  Turned bx by m t old new i = (i ≤ m) × Painted (First bx by i) (λ k. get_or t (number_in pic k) 0) old new
 
   pub start : (bx by m : ℕ) (t l : List ℕ) → Turned bx by m t l l 0
-  start bx by m t l = (omega arith, none _ _ l (λ k z. omega (arith, z .1, z .0 .down)))
+  start bx by m t l = (omega arith, none _ _ l (λ k z. omega (arith, z.1, z.0.down)))
 
   -- one turn
-  pub turn : (bx by i m : ℕ) (t old mid new : List ℕ) → i < m → m ≤ 4 → Turned bx by m t old mid i → Painted (InPiece pic bx (by * 4 + i)) (inRow pic t i) mid new → Turned bx by m t old new (i + 1)
+  pub turn : (bx by i m : ℕ) (t old mid new : List ℕ) → i < m → m ≤ 4 → Turned bx by m t old mid i → Painted (InPiece pic bx (by * 4 + i)) (in_row pic t i) mid new → Turned bx by m t old new (i + 1)
   turn bx by i m t old mid new n f a b = (
     omega arith,
-    also (First bx by i) (InPiece pic bx (by * 4 + i)) (First bx by (i + 1)) (λ k. getD t (numberIn pic k) 0) old mid new (a .1)
-        (said _ _ (inRow pic t i) (λ k. getD t (numberIn pic k) 0) mid new b (λ k z. z) (λ k z. z)
-        (λ k z. let d = z .down in ap (λ (j : ℕ). getD t (j * 4 + column pic k % 4) 0) (place (row pic k) d)))
-        (λ k z. (z .0, omega (arith, z .1)))
-        (λ k z. let d = z .down in (record { within = z .within; across = z .across; down = omega arith }, omega arith))
+    also (First bx by i) (InPiece pic bx (by * 4 + i)) (First bx by (i + 1)) (λ k. get_or t (number_in pic k) 0) old mid new a.1
+        (said _ _ (in_row pic t i) (λ k. get_or t (number_in pic k) 0) mid new b (λ k z. z) (λ k z. z)
+        (λ k z. let d = z.down in ap (λ (j : ℕ). get_or t (j * 4 + column pic k % 4) 0) (place (row pic k) d)))
+        (λ k z. (z.0, omega (arith, z.1)))
+        (λ k z. let d = z.down in (record { within = z.within; across = z.across; down = omega arith }, omega arith))
         (λ k z.
-        ⊎-elim (λ e. inr (record { within = z .0 .within; across = z .0 .across; down = e }))
-        (λ l. inl ((z .0, l), λ o. omega (arith, o .down)))
-        (eq-or-lt-of-le {n = row pic k} {m = by * 4 + i} (omega (arith, z .1)))),
+        ⊎_elim (λ e. inr (record { within = z.0.within; across = z.0.across; down = e }))
+        (λ l. inl ((z.0, l), λ o. omega (arith, o.down)))
+        (eq-or-lt_of_le {n = row pic k} {m = by * 4 + i} (omega (arith, z.1)))),
   )
     where
       place : (y : ℕ) → y ≡ by * 4 + i → i ≡ y % 4
       place y e = omega arith
 
   -- after the last turn, the tile
-  pub whole : (bx by i m : ℕ) (t old new : List ℕ) → m ≡ shown (pic .height) by → m ≤ i → Turned bx by m t old new i → Painted (InTile pic bx by) (λ k. getD t (numberIn pic k) 0) old new
+  pub whole : (bx by i m : ℕ) (t old new : List ℕ) → m ≡ shown pic.height by → m ≤ i → Turned bx by m t old new i → Painted (InTile pic bx by) (λ k. get_or t (number_in pic k) 0) old new
   whole bx by i m t old new e h a =
-      said _ _ _ _ old new (a .1) (λ k z. (z, omega (arith, row-in pic k (z .within), z .down))) (λ k z. z .0) (λ k z. refl)
+      said _ _ _ _ old new a.1 (λ k z. (z, omega (arith, row_in pic k z.within, z.down))) (λ k z. z.0) (λ k z. refl)
 
   -- a tile beside the picture has no pixel
-  pub nothing : (bx by : ℕ) (v : ℕ → ℕ) (l : List ℕ) → pic .width ≤ bx * 4 → Painted (InTile pic bx by) v l l
-  nothing bx by v l o = none _ _ l (λ k z. omega (arith, column-in pic k (z .within), z .across))
+  pub nothing : (bx by : ℕ) (v : ℕ → ℕ) (l : List ℕ) → pic.width ≤ bx * 4 → Painted (InTile pic bx by) v l l
+  nothing bx by v l o = none _ _ l (λ k z. omega (arith, column_in pic k z.within, z.across))

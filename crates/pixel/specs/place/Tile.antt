@@ -1,12 +1,8 @@
 -- One row piece of a picture, and one tile: what placement promises to the crates above.
 -- Assumes nothing.
-use mathlib.Core.Path.{_≡_}
-use mathlib.Core.List.{List}
-use Prim.Native.Nat.{ℕ, _+_, _-_, _*_, _/_, _%_, _<_, _≤_, min}
-use lib.Dec.{T}
-use lib.ListN.{getD}
-use Rattle·rules.specs.Places.{column, row, inside}
-use Rattle·rules.specs.declared.Picture.{Picture}
+use Rattle.std.specs.Prelude.{◌≡◌, List, ℕ, ◌+◌, ◌-◌, ◌*◌, ◌/◌, ◌%◌, ◌<◌, ◌≤◌, min, T, get_or}
+use Rattle.rules.specs.Places.{column, row, inside}
+use Rattle.rules.specs.declared.Picture.{Picture}
 
 -- element k is a pixel of row y, in the column bx of tiles: these are the row piece
 pub record InPiece (pic : Picture) (bx y k : ℕ) : Type 0 where
@@ -21,12 +17,12 @@ pub record InTile (pic : Picture) (bx by k : ℕ) : Type 0 where
   pub down : row pic k / 4 ≡ by
 
 -- the number of element k in its own tile, row by row
-abbrev pub numberIn : Picture → ℕ → ℕ
-numberIn pic k = row pic k % 4 * 4 + column pic k % 4
+abbrev pub number_in : Picture → ℕ → ℕ
+number_in pic k = row pic k % 4 * 4 + column pic k % 4
 
 -- and what row i of a tile holds for it
-abbrev pub inRow : Picture → List ℕ → ℕ → ℕ → ℕ
-inRow pic tile i k = getD tile (i * 4 + column pic k % 4) 0
+abbrev pub in_row : Picture → List ℕ → ℕ → ℕ → ℕ
+in_row pic tile i k = get_or tile (i * 4 + column pic k % 4) 0
 
 -- how many of the four columns (or rows) of tile b a picture has that is so wide (or high)
 abbrev pub shown : ℕ → ℕ → ℕ
@@ -34,5 +30,5 @@ shown side b = min 4 (side - b * 4)
 
 -- a row fits into the pitch, and an image of n elements has every element of the picture
 pub record Room (pic : Picture) (n : ℕ) : Type 0 where
-  pub fits : pic .width ≤ pic .pitch
+  pub fits : pic.width ≤ pic.pitch
   pub reach : (k : ℕ) → T (inside pic k) → k < n

@@ -1,33 +1,33 @@
 -- What the writer owes where it refuses, and where it is done.
 -- Assumes nothing.
-use mathlib.Core.Path.{_≡_, _∙_, sym, ap}
+use mathlib.Core.Path.{◌≡◌, ◌∙◌, sym, ap}
 use mathlib.Core.Bool.{Bool, false, cond}
 use mathlib.Core.List.{List}
-use Prim.Native.Nat.{ℕ, _+_}
+use Prim.Native.Nat.{ℕ, ◌+◌}
 use lib.ListN.{length}
-use Rattle·rules.specs.Answers.{said, accepts}
-use Rattle·rules.specs.declared.Answer.{Answer}
-use Rattle·rules.specs.declared.Answer.the-variants.{Done}
-use Rattle·rules.specs.declared.Picture.{Picture}
-use Rattle·laws.proofs.Outcome.{unchanged, done}
-use Rattle·rules.specs.Sheets.{sheetOf, writeVerdict, sheetOver, WritesSheet}
-use Rattle·sheet·proofs.proofs.Checks.{sheet-length}
+use Rattle.rules.specs.Answers.{said, accepts}
+use Rattle.rules.specs.declared.Answer.{Answer}
+use Rattle.rules.specs.declared.Answer.TheVariants.{Done}
+use Rattle.rules.specs.declared.Picture.{Picture}
+use Rattle.laws.proofs.Outcome.{unchanged, done}
+use Rattle.rules.specs.Sheets.{sheet_of, write_verdict, sheet_over, WritesSheet}
+use Rattle.sheet.proofs.Checks.{sheet_length}
 
 module _ (f : ℕ) (p : Picture) (b out : List ℕ) where
   abbrev verdict : List ℕ
-  verdict = writeVerdict f p b (length out)
+  verdict = write_verdict f p b (length out)
 
   pub refuses : (a : Answer) → said a ≡ verdict → accepts (said a) ≡ false → WritesSheet f p b out (record { answer = a; bytes = 0 }) out
   refuses a e r =
       record {
-        outcome = unchanged verdict (sheetOver f p b out) out a e r;
-        bytes = sym (ap (λ (t : Bool). cond t (length (sheetOf f p b)) 0) (sym (ap accepts e) ∙ r));
+        outcome = unchanged verdict (sheet_over f p b out) out a e r;
+        bytes = sym (ap (λ (t : Bool). cond t (length (sheet_of f p b)) 0) (sym (ap accepts e) ∙ r));
       }
 
-  pub writes : (new : List ℕ) → said Done ≡ verdict → new ≡ sheetOver f p b out → WritesSheet f p b out (record { answer = Done; bytes = 21 + length b }) new
+  pub writes : (new : List ℕ) → said Done ≡ verdict → new ≡ sheet_over f p b out → WritesSheet f p b out (record { answer = Done; bytes = 21 + length b }) new
   writes new e i =
       record {
-        outcome = done verdict (sheetOver f p b out) out new e i;
+        outcome = done verdict (sheet_over f p b out) out new e i;
         bytes =
-            sym (sheet-length f p b) ∙ ap (λ (v : List ℕ). cond (accepts v) (length (sheetOf f p b)) 0) e;
+            sym (sheet_length f p b) ∙ ap (λ (v : List ℕ). cond (accepts v) (length (sheet_of f p b)) 0) e;
       }

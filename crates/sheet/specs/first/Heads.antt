@@ -1,27 +1,23 @@
 -- What is promised of a sheet's first record.
 -- Assumes nothing.
-use mathlib.Core.Path.{_≡_}
-use mathlib.Core.Bool.{true, false}
-use mathlib.Core.List.{List}
-use Prim.Native.Nat.{ℕ, _≤_}
-use lib.ListN.{length, drop}
-use Rattle·rules.specs.Answers.{tooLarge}
-use Rattle·rules.specs.declared.Head.{Head}
-use Rattle·rules.specs.Records.{more, recordsOf}
-use Rattle·rules.specs.Sheets.{sheetLimit, blockBytes, sizeIn, isHead, headIn}
-use Rattle·sheet·specs.specs.Shown.{walk, Refuses, sizeOfHead, Begins}
-use Rattle·sheet·specs.specs.declared.first.Found as found
+use Rattle.std.specs.Prelude.{◌≡◌, true, false, List, ℕ, ◌≤◌, length, drop}
+use Rattle.rules.specs.Answers.{too_large_lem}
+use Rattle.rules.specs.declared.Head.{Head}
+use Rattle.rules.specs.Records.{more, records_of}
+use Rattle.rules.specs.Sheets.{sheet_limit, block_bytes_lem, size_in, is_head, head_in}
+use Rattle.sheet.specs.Shown.{walk, Refuses, size_of_head, Begins}
+use Rattle.sheet.specs.declared.first.Found as found
 
 -- a head, with the place behind it and how many bytes its blocks are
 pub record Headed (d : List ℕ) (h : Head) (from n : ℕ) : Type 0 where
   pub begins : Begins d h
-  pub is-head : isHead (headIn d) ≡ true
-  pub fits : tooLarge sheetLimit (sizeIn (headIn d)) ≡ false
-  pub meets : recordsOf d ≡ more (headIn d) (recordsOf (drop from d))
+  pub is_head_lem : is_head (head_in d) ≡ true
+  pub fits : too_large_lem sheet_limit (size_in (head_in d)) ≡ false
+  pub meets : records_of d ≡ more (head_in d) (records_of (drop from d))
   pub within : from ≤ length d
   pub fifteen : from ≡ 15
-  pub bytes : n ≡ blockBytes (h .format) (sizeOfHead h)
+  pub bytes : n ≡ block_bytes_lem h.format (size_of_head h)
 
 abbrev pub Heads : List ℕ → found.Found → Type 0
-Heads d (found.the-variants.At h from n) = Headed d h from n
-Heads d (found.the-variants.Refused a) = Refuses (walk d) a
+Heads d (found.TheVariants.At h from n) = Headed d h from n
+Heads d (found.TheVariants.Refused a) = Refuses (walk d) a

@@ -1,16 +1,12 @@
 -- What is promised of the records behind a sheet's head: each says what the walk says from a place on.
 -- Assumes nothing.
-use mathlib.Core.Path.{_≡_}
-use mathlib.Core.Bool.{cond}
-use mathlib.Core.List.{List}
-use Prim.Native.Nat.{ℕ, _+_, _≤_}
-use lib.ListN.{length, take, drop}
-use Rattle·rules.specs.Answers.{said, accepts}
-use Rattle·rules.specs.declared.Answer.{Answer}
-use Rattle·rules.specs.Records.{recordsOf, first, kept, payloadAt}
-use Rattle·rules.specs.Sheets.{afterHead}
-use Rattle·sheet·specs.specs.Shown.{Passes, Refuses}
-use Rattle·sheet·specs.specs.declared.later.Blocks as blocks
+use Rattle.std.specs.Prelude.{◌≡◌, cond, List, ℕ, ◌+◌, ◌≤◌, length, take, drop}
+use Rattle.rules.specs.Answers.{said, accepts}
+use Rattle.rules.specs.declared.Answer.{Answer}
+use Rattle.rules.specs.Records.{records_of, first, kept, payload_at}
+use Rattle.rules.specs.Sheets.{after_head}
+use Rattle.sheet.specs.Shown.{Passes, Refuses}
+use Rattle.sheet.specs.declared.later.Blocks as blocks
 
 -- an answer stands for a verdict: Done where no fault was found, and a refusal where it is said
 abbrev pub Judges : (List ℕ → List ℕ) → Answer → Type 0
@@ -18,15 +14,15 @@ Judges verdict a = (then : List ℕ) → verdict then ≡ cond (accepts (said a)
 
 -- the verdict of the walk behind a head whose blocks are n bytes
 abbrev pub behind : List ℕ → ℕ → ℕ → List ℕ → List ℕ
-behind d from n then = afterHead n then (kept (recordsOf (drop from d)))
+behind d from n then = after_head n then (kept (records_of (drop from d)))
 
 -- the block record, behind a head
 pub record Blocked (d : List ℕ) (from n s : ℕ) : Type 0 where
   pub passes : Passes (behind d from n)
-  pub payload : first (kept (recordsOf (drop from d))) .payload ≡ take n (drop s d)
+  pub payload : (first (kept (records_of (drop from d)))).payload ≡ take n (drop s d)
   pub within : s + n ≤ length d
-  pub start : payloadAt from (recordsOf (drop from d)) ≡ s
+  pub start : payload_at from (records_of (drop from d)) ≡ s
 
 abbrev pub Follows : List ℕ → ℕ → ℕ → blocks.Blocks → Type 0
-Follows d from n (blocks.the-variants.At s) = Blocked d from n s
-Follows d from n (blocks.the-variants.Refused a) = Refuses (behind d from n) a
+Follows d from n (blocks.TheVariants.At s) = Blocked d from n s
+Follows d from n (blocks.TheVariants.Refused a) = Refuses (behind d from n) a

@@ -1,12 +1,9 @@
 -- One turn of the walk over records: what it meets from a place on.
 -- Assumes nothing.
-use mathlib.Core.Path.{_≡_}
-use mathlib.Core.List.{List}
-use Prim.Native.Nat.{ℕ, _+_, _≤_, _<_}
-use lib.ListN.{length, take, drop}
-use Rattle·rules.specs.Records.{Record, Records, more, ended, short, recordsOf, kept, payloadAt}
-use Rattle·sheet·specs.specs.declared.records.Met.{Met}
-use Rattle·sheet·specs.specs.declared.records.Met.the-variants.{Whole, End, Cut}
+use Rattle.std.specs.Prelude.{◌≡◌, List, ℕ, ◌+◌, ◌≤◌, ◌<◌, length, take, drop}
+use Rattle.rules.specs.Records.{Record, Records, more, ended, short, records_of, kept, payload_at}
+use Rattle.sheet.specs.declared.records.Met.{Met}
+use Rattle.sheet.specs.declared.records.Met.TheVariants.{Whole, End, Cut}
 
 -- the record of kind k whose payload is the n bytes from place s on
 abbrev pub at : List ℕ → ℕ → ℕ → ℕ → Record
@@ -14,19 +11,19 @@ at d k s n = record { kind = k; payload = take n (drop s d) }
 
 -- a record is met, of all records or of those that `see` leaves: which, and where it ends
 pub record Turn (see : Records → Records) (d : List ℕ) (from k s n : ℕ) : Type 0 where
-  pub meets : see (recordsOf (drop from d)) ≡ more (at d k s n) (see (recordsOf (drop (s + n) d)))
+  pub meets : see (records_of (drop from d)) ≡ more (at d k s n) (see (records_of (drop (s + n) d)))
   pub within : s + n ≤ length d
   pub beyond : from < s
   -- it begins six bytes before its payload, and all before it is skipped
   pub front : ℕ
   pub six : s ≡ front + 6
-  pub there : recordsOf (drop front d) ≡ more (at d k s n) (recordsOf (drop (s + n) d))
-  pub passed : payloadAt from (recordsOf (drop from d)) ≡ payloadAt front (recordsOf (drop front d))
+  pub there : records_of (drop front d) ≡ more (at d k s n) (records_of (drop (s + n) d))
+  pub passed : payload_at from (records_of (drop from d)) ≡ payload_at front (records_of (drop front d))
 
 abbrev pub Sees : (Records → Records) → List ℕ → ℕ → Met → Type 0
 Sees see d from (Whole k s n) = Turn see d from k s n
-Sees see d from End = see (recordsOf (drop from d)) ≡ ended
-Sees see d from Cut = see (recordsOf (drop from d)) ≡ short
+Sees see d from End = see (records_of (drop from d)) ≡ ended
+Sees see d from Cut = see (records_of (drop from d)) ≡ short
 
 -- what stands at a place
 abbrev pub all : Records → Records

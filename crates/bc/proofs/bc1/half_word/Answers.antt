@@ -1,0 +1,9 @@
+-- By four bytes and four.
+-- Assumes nothing.
+use native.Mathlib.Omega.{arith}
+use Rattle.numbers.specs.Numbers.{little}
+use Rattle.bc.proofs.bc1.half_word.Goals as goal
+
+pub returns : goal.returns
+unfolding little
+returns c = omega (arith, c.four-2.ensures)

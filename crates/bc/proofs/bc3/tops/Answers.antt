@@ -1,0 +1,40 @@
+-- One product a turn.
+-- Assumes nothing.
+use mathlib.Core.Path.{refl}
+use native.Mathlib.Omega.{arith}
+use Rattle.laws.proofs.Filling.{in_order_lem, begun, stored_next, filled_all}
+use Rattle.bc.proofs.bc3.tops.Goals as goal
+
+pub loop-i-init : goal.loop-i-init
+loop-i-init c = begun in_order_lem _ 0 8 _ refl
+
+pub offset_bounds-a-i : goal.offset_bounds-a-i
+offset_bounds-a-i c = omega arith
+
+pub bounds-a-i : goal.bounds-a-i
+bounds-a-i c = omega arith
+
+pub overflow_cast-out : goal.overflow_cast-out
+overflow_cast-out c = omega arith
+
+pub overflow_mul-out : goal.overflow_mul-out
+overflow_mul-out c = omega arith
+
+pub offset_bounds-out-i : goal.offset_bounds-out-i
+offset_bounds-out-i c = omega arith
+
+pub bounds-out-i : goal.bounds-out-i
+bounds-out-i c = omega arith
+
+pub overflow_add-i : goal.overflow_add-i
+overflow_add-i c = omega arith
+
+pub loop-i-smaller : goal.loop-i-smaller
+loop-i-smaller c = omega arith
+
+pub loop-i-preserved : goal.loop-i-preserved
+loop-i-preserved c =
+    stored_next _ 0 8 c.loop-i.out c.loop-i.i c.loop-i.invariant _ (omega arith) refl
+
+pub returns : goal.returns
+returns c = filled_all _ 0 8 c.loop-i.out c.loop-i.i c.loop-i.invariant (omega arith)

@@ -1,0 +1,11 @@
+-- The eight reds of the half, and the pick of each pixel.
+-- Assumes nothing.
+use mathlib.Core.Path.{◌∙◌}
+use Rattle.bc.proofs.rgtc.Values.{shown_red}
+use Rattle.bc.proofs.rgtc.bc4_block.Goals as goal
+
+pub returns : goal.returns
+returns c =
+    let a = c.args in
+    c.picked.ensures
+    ∙ shown_red a.signed a.d.now c.values_in.result c.half_word-w.result c.half_word-w.ensures c.values_in.ensures

@@ -1,0 +1,14 @@
+-- The invariant and the measure of the loop of `bc::rgtc::picked`.
+use mathlib.Core.Path.{◌≡◌}
+use Prim.Native.Nat.{◌-◌, ◌*◌, ◌/◌, ◌^◌}
+use lib.ListN.{get_or}
+use Rattle.laws.proofs.Filling.{Filling, in_order_lem}
+use Rattle.rules.specs.Desktop.{alpha_index_in}
+use Rattle.bc.proofs.rgtc.picked.Given as goal
+
+abbrev pub invariant-loop-i : goal.invariant-loop-i
+invariant-loop-i s =
+    (s.l ≡ s.initial.l / 2 ^ (3 * s.i)) × Filling in_order_lem (λ k. get_or s.set (alpha_index_in s.w k) 0) 0 16 s.i s.out
+
+abbrev pub decreases-loop-i : goal.decreases-loop-i
+decreases-loop-i s = 16 - s.i

@@ -1,0 +1,11 @@
+-- The invariant and the measure of the loop of `blocks::run_bc7`.
+use Prim.Native.Nat.{◌-◌}
+use Rattle.rules.specs.Bc7.{bc7_pixel}
+use Rattle.blocks.proofs.Beside.{Turned}
+use Rattle.blocks.proofs.run_bc7.Given as goal
+
+abbrev pub invariant-loop-i : goal.invariant-loop-i
+invariant-loop-i l = Turned bc7_pixel 16 l.«data» l.pic l.bx l.by l.n l.initial.image l.image l.i
+
+abbrev pub decreases-loop-i : goal.decreases-loop-i
+decreases-loop-i l = l.n - l.i

@@ -1,0 +1,58 @@
+-- `census::rgb` meets its contract: each way out knows the checks that led to it.
+-- Assumes nothing.
+use mathlib.Core.Path.{◌≡◌, ◌∙◌, sym, ap}
+use mathlib.Core.Bool.{false}
+use mathlib.Core.List.{List, ◌∷◌}
+use Prim.Native.Nat.{ℕ, ◌*◌, ◌≤◌}
+use native.Mathlib.Omega.{arith}
+use borrow.Author.Tests.{ltb-false}
+use borrow.Author.Rules.{rules}
+use lib.Dec.{ltb}
+use lib.ListN.{length}
+use Rattle.rules.specs.Places.{blocks, bytes_of}
+use Rattle.rules.specs.Answers.{limit, too_large_lem}
+use Rattle.rules.specs.Census.{counts, rgb_tests}
+use Rattle.census.proofs.Answered.{too_large, too_short, passes, five}
+use Rattle.checks.proofs.Checks.{within}
+use Rattle.census.proofs.rgb.Goals as goal
+
+pub returns-then-too_large : goal.returns-then-too_large
+returns-then-too_large c =
+    let a = c.args in
+    too_large rgb_tests a.«data».now a.pic (sym c.too_large.ensures ∙ c.if-too_large.true)
+
+pub short_data-requires : goal.short_data-requires
+short_data-requires c =
+    let small : too_large_lem limit c.args.pic ≡ false = sym c.too_large.ensures ∙ c.if-too_large.false in
+    let sides : (c.args.pic.width ≤ limit) × (c.args.pic.height ≤ limit) = within limit c.args.pic small in
+    let t = sides in search rules
+
+pub returns-then-short_data : goal.returns-then-short_data
+returns-then-short_data c =
+    let small : too_large_lem limit c.args.pic ≡ false = sym c.too_large.ensures ∙ c.if-too_large.false in
+    let a = c.args in
+    too_short rgb_tests a.«data».now a.pic small (sym c.short_data.ensures ∙ c.if-short_data.true)
+
+pub blocks_of-n-requires : goal.blocks_of-n-requires
+blocks_of-n-requires c =
+    let small : too_large_lem limit c.args.pic ≡ false = sym c.too_large.ensures ∙ c.if-too_large.false in
+    let sides : (c.args.pic.width ≤ limit) × (c.args.pic.height ≤ limit) = within limit c.args.pic small in
+    let t = sides in search rules
+
+pub tally-requires : goal.tally-requires
+tally-requires c =
+    let enough : ltb (length c.args.«data».now) (blocks c.args.pic * 8) ≡ false = sym c.short_data.ensures ∙ c.if-short_data.false in
+    let a = c.args in
+    omega (arith, ltb-false (length a.«data».now) (blocks a.pic * 8) enough, c.blocks_of-n.ensures.0)
+
+pub returns : goal.returns
+returns c =
+    let small : too_large_lem limit c.args.pic ≡ false = sym c.too_large.ensures ∙ c.if-too_large.false in
+    let enough : ltb (length c.args.«data».now) (blocks c.args.pic * 8) ≡ false = sym c.short_data.ensures ∙ c.if-short_data.false in
+    let a = c.args in
+    let d = a.«data».now in
+    ap (λ (l : List ℕ). 0 ∷ l)
+    (c.rgb_counts.ensures
+    ∙ five (bytes_of 8 d) c.blocks_of-n.result c.tally.result c.tally.ensures
+    ∙ ap (λ (m : ℕ). counts (bytes_of 8 d) m rgb_tests) c.blocks_of-n.ensures.0)
+    ∙ passes rgb_tests d a.pic small enough

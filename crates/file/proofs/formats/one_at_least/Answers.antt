@@ -1,0 +1,10 @@
+-- `file::formats::one_at_least` meets its contract, by its test.
+-- Assumes nothing.
+use borrow.Author.Tests.{eq-eqb, ne_eqb}
+use Rattle.file.proofs.formats.one_at_least.Goals as goal
+
+pub returns-then-n-eq0 : goal.returns-then-n-eq0
+returns-then-n-eq0 c = simp (eq-eqb _ _ c.if-n-eq0.true)
+
+pub returns : goal.returns
+returns c = simp (ne_eqb _ _ c.if-n-eq0.false)

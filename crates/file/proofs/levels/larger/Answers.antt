@@ -1,0 +1,10 @@
+-- `file::levels::larger` meets its contract, by its test.
+-- Assumes nothing.
+use borrow.Author.Tests.{lt-ltb, le-ltb}
+use Rattle.file.proofs.levels.larger.Goals as goal
+
+pub returns-then-a-b : goal.returns-then-a-b
+returns-then-a-b c = simp (lt-ltb _ _ c.if-a-b.true)
+
+pub returns : goal.returns
+returns c = simp (le-ltb _ _ c.if-a-b.false)
