@@ -90,9 +90,10 @@ LIBRARY = {
     "leb": (2, "({0} <= {1})"), "eqb": (2, "({0} == {1})"), "min": (2, "min({0}, {1})"), "max": (2, "max({0}, {1})"),
     "suc": (1, "({0} + 1)"), "pos": (1, "{0}"),
     "negsuc": (1, "(-1 - {0})"), "nat_abs": (1, "abs({0})"), "neg_ℤ": (1, "(-{0})"), "lt_z": (2, "({0} < {1})"),
-    "shr_z": (2, "shifted({0}, {1})"),
+    "shr_z": (2, "shifted({0}, {1})"), "result_unwrap_or": (2, "({0}.parts[0] if {0}.name == 'Ok' else {1})"),
     "bit_or": (2, "({0} | {1})"), "true": (0, "True"), "false": (0, "False"), "zero": (0, "0"), "[]": (0, "()"),
 }
+MADE = {"Ok", "Err", "Some", "None", "tt"}  # the kit's constructors that the definitions use
 INFIX = {
     "+": "({} + {})", "-": "minus({}, {})", "*": "({} * {})", "/": "quotient({}, {})", "%": "remainder({}, {})", "^": "power({}, {})",
     "++": "({} + {})", "+ℤ": "({} + {})", "-ℤ": "({} - {})", "*ℤ": "({} * {})", "&&": "({} and {})", "||": "({} or {})",
@@ -156,6 +157,8 @@ class Writer:
             return home, own
         if own in LIBRARY:
             return "kit", own
+        if own in MADE:
+            return "made", own
         raise Unreadable(f"'{name}'")
 
     def definition(self, name):
@@ -331,8 +334,10 @@ class Rows:
         source = HOLD.sub(r"\g<name> : Bool\n\g<name> = \g<test>\n", file.module.text)
         stated = File(file.part, Module(file.module.path, source))
         for match in HOLD.finditer(file.module.text):
+            test = python(file.part, file.module.name, match["name"])
+            self.uses.pop(test, None)  # of `hold = tt`
             self.define(stated, match["name"])
-            self.tests.append(python(file.part, file.module.name, match["name"]))
+            self.tests.append(test)
 
     # Whether a test needs a function.
     def leans(self, test, function):

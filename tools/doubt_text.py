@@ -107,10 +107,15 @@ class Reader:
         kind = "number" if NUMERAL.fullmatch(token.text) else "name"
         return Node(kind, token.start, token.end, [], token.text)
 
+    # A pair, or more values than two, is a record whose fields are 0, 1 and so on.
     def grouped(self, opening):
-        inner = self.expression(0)
+        parts = [self.expression(0)]
+        while self.peek() == ",":
+            self.take()
+            parts.append(self.expression(0))
         closing = self.take(")")
-        return Node("group", opening.start, closing.end, [inner], "")
+        kind, names = ("record", map(str, range(len(parts)))) if len(parts) > 1 else ("group", "")
+        return Node(kind, opening.start, closing.end, parts, " ".join(names))
 
     def function(self, opening):
         names = []

@@ -3,8 +3,9 @@ ghost use Rattle.std.specs.Prelude.{◌≡◌, ◌+◌, ◌*◌, ◌≤◌, ◌<
 ghost use Rattle.rules.specs.Baking.{seventeen, baked_block, above as above_of, eight_over, Bakes};
 ghost use Rattle.bake.specs.baking.Four.{Four};
 
+use super::tile::Tile;
 use super::{codes, indices};
-use rules::Baking;
+use rules::BakingRefusal;
 
 // A base colour of four bits a channel, as eight.
 fn widened(c: [u8; 3]) -> [u8; 3]
@@ -39,12 +40,14 @@ fn baked(first: [u8; 3], second: [u8; 3], flip: usize, tile: &[u32]) -> [u8; 8]
 {
     let a = widened(first);
     let b = widened(second);
-    let first_code = codes::best_code(a, flip, tile, 0);
-    let second_code = codes::best_code(b, flip, tile, 1);
+    let tile = Tile { flip, pixels: tile };
+    let first_code = codes::best_code(a, tile, 0);
+    let second_code = codes::best_code(b, tile, 1);
     let w = indices::index_words(
-        codes::colours(a, first_code),
-        codes::colours(b, second_code),
-        flip,
+        [
+            codes::colours(a, first_code),
+            codes::colours(b, second_code),
+        ],
         tile,
     );
     [
@@ -63,13 +66,7 @@ fn baked(first: [u8; 3], second: [u8; 3], flip: usize, tile: &[u32]) -> [u8; 8]
 fn above(c: [u8; 3]) -> bool
     ensures { result ≡ above_of c }
 {
-    if 15 < c[0] {
-        return true;
-    }
-    if 15 < c[1] {
-        return true;
-    }
-    15 < c[2]
+    15 < c[0] || 15 < c[1] || 15 < c[2]
 }
 
 // Writes eight bytes, and no other.
@@ -81,24 +78,30 @@ fn write(eight: [u8; 8], block: &mut [u8])
 }
 
 // Bakes the individual block with these bases and this flip that has the least sum of differences from the tile.
-pub fn bake(first: [u8; 3], second: [u8; 3], flip: usize, tile: &[u32], block: &mut [u8]) -> Baking
+pub fn bake(
+    first: [u8; 3],
+    second: [u8; 3],
+    flip: usize,
+    tile: &[u32],
+    block: &mut [u8],
+) -> Result<(), BakingRefusal>
     ensures { Bakes first second flip tile.now result block.old block.new }
 {
     if above(first) {
-        return Baking::NoBase;
+        return Err(BakingRefusal::NoBase);
     }
     if above(second) {
-        return Baking::NoBase;
+        return Err(BakingRefusal::NoBase);
     }
     if 1 < flip {
-        return Baking::NoBase;
+        return Err(BakingRefusal::NoBase);
     }
     if block.len() < 8 {
-        return Baking::ShortBlock;
+        return Err(BakingRefusal::ShortBlock);
     }
     if tile.len() < 16 {
-        return Baking::ShortTile;
+        return Err(BakingRefusal::ShortTile);
     }
     write(baked(first, second, flip, tile), block);
-    Baking::Done
+    Ok(())
 }

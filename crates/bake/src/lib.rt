@@ -7,3 +7,4 @@ mod codes;
 pub mod distance;
 mod indices;
 mod nearest;
+mod tile;

@@ -1,9 +1,9 @@
 // The nearest of four colours to a pixel, and the least sum of a half with them: the inner search of the baker of blocks.
-ghost use Rattle.std.specs.Prelude.{◌≡◌, cond, ◌≤◌, ◌<◌, ltb, length};
-ghost use Rattle.rules.specs.Baking.{own as own_of};
+ghost use Rattle.std.specs.Prelude.{◌≡◌, cond, ◌≤◌, ◌<◌, ltb};
 ghost use Rattle.bake.specs.nearest.Search.{away, nearest_of, cost_of};
 
 use super::distance;
+use super::tile::Tile;
 
 // The best so far: where it is, and how much it is there.
 #[derive(Clone, Copy)]
@@ -32,38 +32,21 @@ pub fn nearest(colours: [u32; 4], v: u32) -> Best
         at: 0,
         value: distance::differ(colours[0], v),
     };
-    let mut i: usize = 1;
-    while i < 4 {
+    for i in 1..4 {
         b = better(b, i, distance::differ(colours[i], v));
-        i += 1;
     }
     b
 }
 
-// The place of pixel j of half h.
-fn own(flip: usize, h: usize, j: usize) -> usize
-    requires { (h < 2) × (j < 8) }
-    ensures { (result ≡ own_of flip h j) × (result < 16) }
-{
-    if flip == 1 {
-        8 * h + j
-    } else {
-        4 * (j / 2) + 2 * h + j % 2
-    }
-}
-
 // The least sum of half h with these colours.
-pub fn half_cost(colours: [u32; 4], flip: usize, tile: &[u32], h: usize) -> u32
-    requires { (h < 2) × (16 ≤ length tile.now) }
-    ensures { result ≡ cost_of colours flip tile.now h }
+pub fn half_cost(colours: [u32; 4], tile: Tile, h: usize) -> u32
+    requires { h < 2 }
+    ensures { result ≡ cost_of colours tile.entry.flip tile.entry.pixels.now h }
 {
     let mut sum: u32 = 0;
-    let mut j: usize = 0;
-    while j < 8 {
-        let k = own(flip, h, j);
-        let near = nearest(colours, tile[k]);
+    for j in 0..8 {
+        let near = nearest(colours, tile.pixels[tile.own(h, j)]);
         sum += near.value;
-        j += 1;
     }
     sum
 }

@@ -5,7 +5,7 @@ use Rattle.rules.specs.Places.{pitched, across, blocks, bytes_of}
 use Rattle.rules.specs.Answers.{first_of}
 use Rattle.rules.specs.Formats.{size_of}
 use Rattle.rules.specs.Readers.{ReadsPicture}
-use Rattle.rules.specs.declared.Answer.{Answer}
+use Rattle.rules.specs.Answers.{Answer}
 use Rattle.rules.specs.declared.Format.{Format}
 use Rattle.rules.specs.declared.Picture.{Picture}
 

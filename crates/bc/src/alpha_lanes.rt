@@ -4,7 +4,8 @@ ghost use Rattle.rules.specs.Notation.{build};
 ghost use Rattle.rules.specs.Desktop.{alphas as alphas_of};
 ghost use Rattle.bc.specs.alpha_lanes.Lanes.{fifths as fifths_of, more as more_of, alpha_lane_lem};
 
-use super::{alphas, bc1};
+use super::bc1;
+use std::hint::select_unpredictable;
 
 // Five times alpha k, where it is one of the fifths.
 fn fifths(a: u16, b: u16, k: u16) -> u16
@@ -29,52 +30,57 @@ fn more(a: u16, b: u16, k: u16) -> u16
     bc1::weighed(a, b, x, y)
 }
 
-// Alpha k: c and d are a and b where sevenths are asked for, and else 0, m divides by seven or five, and g goes to the last.
-fn alpha_lane(a: u16, b: u16, c: u16, d: u16, m: u16, g: u16, k: u16) -> u16
-    ensures { result ≡ alpha_lane_lem a b c d m g k }
-{
-    let sum = bc1::plus(fifths(a, b, k), more(c, d, k));
-    bc1::plus(bc1::high(sum, m), bc1::times(g, bc1::pick(k, 7, 1, 0)))
+// The two alphas and what their order asks for: c and d are a and b where it is sevenths, and else 0; m divides by seven or by five; and g
+// goes to the last.
+#[derive(Clone, Copy)]
+struct Order {
+    a: u16,
+    b: u16,
+    c: u16,
+    d: u16,
+    m: u16,
+    g: u16,
 }
 
-// The eight alphas twice: a loop of eight turns would be unrolled before it becomes vector code, and the second eight are not used.
-fn alpha_lanes(a: u16, b: u16, c: u16, d: u16, m: u16, g: u16) -> [u16; 16]
-    ensures { result ≡ build 16 (λ i. alpha_lane_lem a b c d m g (i % 8)) }
-{
-    let mut out = [0u16; 16];
-    let mut i: usize = 0;
-    while i < 16 {
-        out[i] = alpha_lane(a, b, c, d, m, g, (i % 8) as u16);
-        i += 1;
+impl Order {
+    // Alpha k.
+    #[tactic(auto, unfolding(crate::specs::alpha_lanes::Lanes::alpha_lane_lem))]
+    fn lane(self, k: u16) -> u16
+        ensures { result ≡ alpha_lane_lem self.a self.b self.c self.d self.m self.g k }
+    {
+        let sum = bc1::plus(fifths(self.a, self.b, k), more(self.c, self.d, k));
+        bc1::plus(
+            bc1::high(sum, self.m),
+            bc1::times(self.g, bc1::pick(k, 7, 1, 0)),
+        )
     }
-    out
-}
 
-fn either_lane(t: bool, x: u16, y: u16) -> u16
-    ensures { result ≡ cond t x y }
-{
-    if t { x } else { y }
-}
-
-fn wide(b: u8) -> u16
-    ensures { (result ≡ b) × (result < 256) }
-{
-    b as u16
+    // The eight alphas twice: a loop of eight turns would be unrolled before it becomes vector code, and the second eight are not used.
+    fn lanes(self) -> [u16; 16]
+        ensures { result ≡ build 16 (λ i. alpha_lane_lem self.a self.b self.c self.d self.m self.g (i % 8)) }
+    {
+        let mut out = [0u16; 16];
+        for i in 0..16 {
+            out[i] = self.lane((i % 8) as u16);
+        }
+        out
+    }
 }
 
 // The alphas of both orders, by one formula.
 pub fn all_alphas(a: u8, b: u8) -> [u16; 16]
     ensures { (k : ℕ) → k < 8 → get_or result k 0 ≡ get_or (alphas_of (ltb b a) a b) k 0 }
 {
-    let p = wide(a);
-    let q = wide(b);
-    let sevenths = alphas::is_above(a, b);
-    alpha_lanes(
-        p,
-        q,
-        either_lane(sevenths, p, 0),
-        either_lane(sevenths, q, 0),
-        either_lane(sevenths, 9363, 13108),
-        either_lane(sevenths, 0, 255),
-    )
+    let p = u16::from(a);
+    let q = u16::from(b);
+    let sevenths = a > b;
+    let order = Order {
+        a: p,
+        b: q,
+        c: select_unpredictable(sevenths, p, 0),
+        d: select_unpredictable(sevenths, q, 0),
+        m: select_unpredictable(sevenths, 9363, 13108),
+        g: select_unpredictable(sevenths, 0, 255),
+    };
+    order.lanes()
 }

@@ -1,27 +1,15 @@
 // The alphas of a BC3 half (src/bcn/bc3.rs): the eight that its first two bytes make, and a byte put in place of a channel.
 ghost use Rattle.std.specs.Prelude.{◌≡◌, cond, ℕ, ◌/◌, ◌≤◌, ◌<◌, ltb, get_or};
-ghost use Rattle.rules.specs.Notation.{bits};
 ghost use Rattle.rules.specs.Desktop.{alphas as alphas_of, alphas_in_lem, replaced};
 
-fn byte(b: u8) -> u32
-    ensures { (result ≡ b) × (result < 256) }
-{
-    b as u32
-}
+use std::hint::select_unpredictable;
 
-// One of two numbers, both of which are at hand: no branch, which in pictures would often be foretold wrongly.
-fn either(t: bool, x: u32, y: u32) -> u32
-    ensures { result ≡ cond t x y }
-{
-    if t { x } else { y }
-}
-
-// A seventh or a fifth of a sum, by a product and a shift.
+// A seventh or a fifth of a sum, by a product and a shift, and by no branch, which in pictures would often be foretold wrongly.
 fn share(sevenths: bool, sum: u32) -> u32
     requires { sum ≤ 1785 }
     ensures { result ≡ cond sevenths (sum / 7) (sum / 5) }
 {
-    sum * either(sevenths, 9363, 13108) / 0x10000
+    sum * select_unpredictable(sevenths, 9363, 13108) / 0x10000
 }
 
 // A seventh of a sum, or what stands there beside fifths.
@@ -29,13 +17,8 @@ fn share_or(sevenths: bool, sum: u32, fixed: u32) -> u32
     requires { (sum ≤ 1785) × (fixed < 256) }
     ensures { result ≡ cond sevenths (sum / 7) fixed }
 {
-    sum * either(sevenths, 9363, 0) / 0x10000 + either(sevenths, 0, fixed)
-}
-
-pub fn is_above(a: u8, b: u8) -> bool
-    ensures { result ≡ ltb b a }
-{
-    b < a
+    sum * select_unpredictable(sevenths, 9363, 0) / 0x10000
+        + select_unpredictable(sevenths, 0, fixed)
 }
 
 // The eight alphas, by index: the two, and the sevenths between them; or the fifths, none and all. Two parts more of the first make
@@ -43,10 +26,10 @@ pub fn is_above(a: u8, b: u8) -> bool
 pub fn alphas(a: u8, b: u8) -> [u32; 8]
     ensures { result ≡ alphas_of (ltb b a) a b }
 {
-    let p = byte(a);
-    let q = byte(b);
-    let sevenths = is_above(a, b);
-    let more = either(sevenths, 2 * p, 0);
+    let p = u32::from(a);
+    let q = u32::from(b);
+    let sevenths = a > b;
+    let more = select_unpredictable(sevenths, 2 * p, 0);
     [
         p,
         q,
@@ -59,26 +42,16 @@ pub fn alphas(a: u8, b: u8) -> [u32; 8]
     ]
 }
 
-pub fn first(w: u64) -> u8
-    ensures { result ≡ bits 7 0 w }
-{
-    (w % 256) as u8
-}
-
-pub fn second(w: u64) -> u8
-    ensures { result ≡ bits 15 8 w }
-{
-    (w / 256 % 256) as u8
-}
-
 // The eight alphas of a half, each a byte.
 pub fn alphas_in(w: u64) -> [u32; 8]
     ensures { (result ≡ alphas_in_lem w) × ((k : ℕ) → get_or result k 0 < 256) }
 {
-    alphas(first(w), second(w))
+    let [first, second, ..] = w.to_le_bytes();
+    alphas(first, second)
 }
 
-// A word with the byte of a channel replaced.
+// A word with the byte of a channel replaced. The channel is a number, as C gives it and `replaced` takes it. By arms, since an array of
+// bytes with the channel as its index may be stored to the stack for each pixel (docs/PERFORMANCE.md, decode_bc3_alpha).
 pub fn replace(channel: usize, p: u32, b: u32) -> u32
     requires { (b < 256) × (channel < 4) }
     ensures { result ≡ replaced channel p b }

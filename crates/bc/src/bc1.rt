@@ -1,51 +1,41 @@
-// The BC1 block of src/bcn/bc1.rs, and `rgb565_le` of src/color.rs. Four colours first, and then a pick of two bits for each pixel. BC3
-// takes its colours from here too.
-ghost use Rattle.std.specs.Prelude.{◌≡◌, false, cond, ◌+◌, ◌-◌, ◌*◌, ◌/◌, ◌%◌, ◌≤◌, ◌<◌, ltb, eqb, length, get_or};
+// The BC1 block of src/bcn/bc1.rs, and `rgb565_le` of src/color.rs. Four colours first, and then a pick of two bits for each pixel. BC2
+// and BC3 take their colours from here too.
+ghost use Rattle.std.specs.Prelude.{◌≡◌, true, false, cond, ◌+◌, ◌-◌, ◌*◌, ◌/◌, ◌%◌, ◌≤◌, ◌<◌, ltb, eqb, length, get_or};
 ghost use Rattle.rules.specs.Notation.{build, bits};
 ghost use Rattle.rules.specs.Places.{tile};
 ghost use Rattle.rules.specs.Desktop.{half_word_lem, palette_in_lem, colour_index, bc1_pixel};
-ghost use Rattle.bc.specs.bc1.Lanes.{channel, sum, sixths, first_parts_lem, second_parts_lem, alpha_lane_lem, lane as lane_of, words_of};
+ghost use Rattle.bc.specs.bc1.Lanes.{channel, sum, sixths, parts_lem, alpha_lane_lem, lane as lane_of, words_of};
 
-fn wide(b: u8) -> u64
-    ensures { (result ≡ b) × (result < 256) }
-{
-    b as u64
-}
+use super::picks;
 
-// Four bytes, the first lowest.
-fn four(a: u8, b: u8, c: u8, d: u8) -> u64
-    ensures { (result ≡ a + b * 256 + c * 65536 + d * 16777216) × (result < 4294967296) }
-{
-    wide(a) + wide(b) * 256 + wide(c) * 65536 + wide(d) * 16777216
-}
-
-// The eight bytes of a half, the first lowest.
+// The eight bytes of a half, the first lowest. The bytes of a block are lent as they are here and below, since `&[u8; 8]` would ask more
+// of callers of `bc1_block`.
 pub fn half_word(d: &[u8]) -> u64
     requires { 8 ≤ length d.now }
     ensures { result ≡ half_word_lem d.now }
 {
-    four(d[0], d[1], d[2], d[3]) + four(d[4], d[5], d[6], d[7]) * 4294967296
+    u64::from_le_bytes([d[0], d[1], d[2], d[3], d[4], d[5], d[6], d[7]])
 }
 
 // A product's low sixteen bits; `times`, `high` and `plus` are what vector code has for numbers of sixteen bits.
 pub fn times(a: u16, b: u16) -> u16
     ensures { result ≡ a * b % 65536 }
 {
-    (a as u32 * b as u32 % 65536) as u16
+    a.wrapping_mul(b)
 }
 
 // A product's high sixteen bits.
 pub fn high(a: u16, b: u16) -> u16
     ensures { result ≡ a * b / 65536 }
 {
-    (a as u32 * b as u32 / 65536) as u16
+    (u32::from(a) * u32::from(b) / 65536) as u16
 }
 
 // A sum's low sixteen bits.
 pub fn plus(a: u16, b: u16) -> u16
     ensures { result ≡ (a + b) % 65536 }
 {
-    ((a as u32 + b as u32) % 65536) as u16
+    a.wrapping_add(b)
 }
 
 // One number where i is n, and another elsewhere: of these a loop over lanes makes constant vectors, where a table would be stored to
@@ -80,29 +70,14 @@ fn mixed(a: u16, b: u16, x: u16, y: u16) -> u16
     high(weighed(a, b, x, y), 10923)
 }
 
-// 1 where p is above q, and 0 elsewhere, by no branch, which in pictures would often be foretold wrongly.
-fn above(p: u16, q: u16) -> u16
-    ensures { result ≡ cond (ltb q p) 1 0 }
-{
-    ((65535 + p as u32 - q as u32) / 65536) as u16
-}
-
-// The parts of the first colour in colour k, and of the second: thirds where there are four colours, and f is 1; or a half, and black.
-fn first_parts(f: u16, k: u16) -> u16
-    ensures { result ≡ first_parts_lem f k }
+// The parts of one of the two colours in colour k: all of it in colour OWN, and in colours 2 and 3 a half and none; where there are four
+// colours, f is 1, and these two have THIRD and LAST more, which makes thirds.
+fn parts<const OWN: u16, const THIRD: u16, const LAST: u16>(f: u16, k: u16) -> u16
+    ensures { result ≡ parts_lem OWN THIRD LAST f k }
 {
     plus(
-        pick(k, 0, 6, pick(k, 2, 3, 0)),
-        times(f, pick(k, 2, 1, pick(k, 3, 2, 0))),
-    )
-}
-
-fn second_parts(f: u16, k: u16) -> u16
-    ensures { result ≡ second_parts_lem f k }
-{
-    plus(
-        pick(k, 1, 6, pick(k, 2, 3, 0)),
-        times(f, pick(k, 2, 65535, pick(k, 3, 4, 0))),
+        pick(k, OWN, 6, pick(k, 2, 3, 0)),
+        times(f, pick(k, 2, THIRD, pick(k, 3, LAST, 0))),
     )
 }
 
@@ -113,7 +88,9 @@ fn alpha_lane(t: u16, i: u16) -> u16
     plus(pick(i % 4, 3, 255, 0), times(t, pick(i, 15, 1, 0)))
 }
 
-// Lane i of the four colours: a byte of colour i / 4.
+// Lane i of the four colours: a byte of colour i / 4. Its numbers are parameters and no struct, since docs/CLAIMS.md names this function;
+// `lanes` is its one caller.
+#[tactic(auto, unfolding(crate::specs::bc1::Lanes::lane))]
 pub fn lane(f: u16, t: u16, p: u16, q: u16, i: u16) -> u8
     ensures { result ≡ lane_of f t p q i }
 {
@@ -122,34 +99,21 @@ pub fn lane(f: u16, t: u16, p: u16, q: u16, i: u16) -> u8
     let colour = mixed(
         widened(p, c),
         widened(q, c),
-        first_parts(f, k),
-        second_parts(f, k),
+        parts::<0, 1, 2>(f, k),
+        parts::<1, 65535, 4>(f, k),
     );
     (plus(colour, alpha_lane(t, i)) % 256) as u8
 }
 
+#[inline(always)]
 fn lanes(f: u16, t: u16, p: u16, q: u16) -> [u8; 16]
     ensures { result ≡ build 16 (lane_of f t p q) }
 {
     let mut out = [0u8; 16];
-    let mut i: usize = 0;
-    while i < 16 {
+    for i in 0..16 {
         out[i] = lane(f, t, p, q, i as u16);
-        i += 1;
     }
     out
-}
-
-fn byte(b: u8) -> u32
-    ensures { (result ≡ b) × (result < 256) }
-{
-    b as u32
-}
-
-fn word_of(a: u8, b: u8, c: u8, d: u8) -> u32
-    ensures { result ≡ a + b * 256 + c * 65536 + d * 16777216 }
-{
-    byte(a) + byte(b) * 256 + byte(c) * 65536 + byte(d) * 16777216
 }
 
 // The words of sixteen lanes.
@@ -157,10 +121,10 @@ pub fn words(l: [u8; 16]) -> [u32; 4]
     ensures { result ≡ words_of l }
 {
     [
-        word_of(l[0], l[1], l[2], l[3]),
-        word_of(l[4], l[5], l[6], l[7]),
-        word_of(l[8], l[9], l[10], l[11]),
-        word_of(l[12], l[13], l[14], l[15]),
+        u32::from_le_bytes([l[0], l[1], l[2], l[3]]),
+        u32::from_le_bytes([l[4], l[5], l[6], l[7]]),
+        u32::from_le_bytes([l[8], l[9], l[10], l[11]]),
+        u32::from_le_bytes([l[12], l[13], l[14], l[15]]),
     ]
 }
 
@@ -185,36 +149,44 @@ fn clear(f: u16, alpha: bool) -> u16
     if alpha { 1 - f } else { 0 }
 }
 
-// The four colours of a half: `alpha` makes the last of three transparent.
-pub fn palette_in(w: u64, alpha: bool) -> [u32; 4]
-    ensures { result ≡ palette_in_lem false alpha w }
+// Colours without their top bytes.
+#[inline(always)]
+pub(crate) fn hues(c: [u32; 4]) -> [u32; 4]
+    ensures { result ≡ build 4 (λ k. get_or c k 0 % 0x1000000) }
 {
-    let p = first(w);
-    let q = second(w);
-    let f = above(p, q);
-    words(lanes(f, clear(f, alpha), p, q))
-}
-
-// The colour of each pixel, row by row: its two bits stand from bit 32 on, the first pixel's lowest.
-fn picked(w: u64, colours: [u32; 4]) -> [u32; 16]
-    ensures { result ≡ build 16 (λ k. get_or colours (colour_index w k) 0) }
-{
-    let mut l = (w / 0x100000000) as u32;
-    let mut out = [0u32; 16];
-    let mut i: usize = 0;
-    while i < 16 {
-        out[i] = colours[(l % 4) as usize];
-        l = l / 4;
-        i += 1;
+    let mut out = [0u32; 4];
+    for i in 0..4 {
+        out[i] = c[i] % 0x1000000;
     }
     out
 }
 
-// The sixteen pixels of a BC1 block, opaque or with one bit of alpha.
+// The four colours of a half: four where the first is above the second or `always`, and else three and black, which `alpha` makes
+// transparent. It is made part of each block's code, since else the colours would be handed on in memory. There is no branch on the order
+// of the two, which in pictures would often be foretold wrongly.
+#[inline(always)]
+pub(crate) fn palette(w: u64, always: bool, alpha: bool) -> [u32; 4]
+    ensures { result ≡ palette_in_lem always alpha w }
+{
+    let p = first(w);
+    let q = second(w);
+    let f = u16::from(always | (p > q));
+    words(lanes(f, clear(f, alpha), p, q))
+}
+
+// Those of BC1: `alpha` makes the last of three transparent.
+pub fn palette_in(w: u64, alpha: bool) -> [u32; 4]
+    ensures { result ≡ palette_in_lem false alpha w }
+{
+    palette(w, false, alpha)
+}
+
+// The sixteen pixels of a BC1 block, opaque or with one bit of alpha. A flag says which and no enum, since `bc1_pixel`, by which the pixels
+// are promised, takes it.
 pub fn bc1_block(d: &[u8], alpha: bool) -> [u32; 16]
     requires { 8 ≤ length d.now }
     ensures { result ≡ tile (bc1_pixel false alpha) d.now }
 {
     let w = half_word(d);
-    picked(w, palette_in(w, alpha))
+    picks::picked(w / 0x100000000, palette(w, false, alpha))
 }

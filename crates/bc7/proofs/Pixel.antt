@@ -22,7 +22,8 @@ use Rattle.bc7.specs.bptc.Layout.{layout_of}
 use Rattle.bc7.proofs.bptc.Layouts.{subset_said}
 use Rattle.bc7.specs.declared.endpoints.Front.{Front}
 use Rattle.bc7.specs.declared.endpoints.Ends.{Ends}
-use Rattle.bc7.specs.endpoints.Stages.{Sane, Fronted, Ended}
+use Rattle.bc7.specs.row.Bounds.{Sane}
+use Rattle.bc7.specs.endpoints.Stages.{Fronted, Ended}
 use Rattle.bc7.specs.Shaded.{between, shaded}
 use Rattle.bc7.proofs.Steps.{same_rotated, each}
 use Rattle.laws.proofs.Shades.{weight_most}

@@ -1,14 +1,12 @@
 // The tables and the arithmetic of a BC7 block.
-ghost use Rattle.std.specs.Prelude.{◌≡◌, ℕ, ◌+◌, ◌-◌, ◌*◌, ◌/◌, ◌^◌, ◌<◌, ◌≤◌, get_or, [], ◌∷◌};
+ghost use Rattle.std.specs.Prelude.{◌≡◌, ℕ, ◌^◌, ◌<◌, ◌≤◌, get_or};
 ghost use Rattle.rules.specs.Bptc.{weights_of};
 ghost use Rattle.rules.specs.Notation.{build};
-ghost use Rattle.rules.specs.Bc7.{lowest, mode_at, expand as expand_to, blend as blend_of, row_of};
+ghost use Rattle.rules.specs.Bc7.{lowest, expand as expand_to, blend as blend_of};
 ghost use Rattle.bc7.specs.bptc.Layout.{layout_of};
 
-use rules::Mode;
-
 // Two subsets, and three: the subset of pixel i in bits 2i and 2i + 1, and a bit for each anchor from bit 32 on.
-const TWO: [u64; 64] = [
+static TWO: [u64; 64] = [
     0x800150505050,
     0x800140404040,
     0x800154545454,
@@ -75,7 +73,7 @@ const TWO: [u64; 64] = [
     0x800154540404,
 ];
 
-const THREE: [u64; 64] = [
+static THREE: [u64; 64] = [
     0x8009aa685050,
     0x01096a5a5040,
     0x81015a5a4200,
@@ -142,85 +140,23 @@ const THREE: [u64; 64] = [
     0x01092a4a5254,
 ];
 
-// The two tables, whole.
-fn of_two() -> [u64; 64]
-    ensures { result ≡ build 64 (layout_of 2) }
-{
-    TWO
-}
-
-fn of_three() -> [u64; 64]
-    ensures { result ≡ build 64 (layout_of 3) }
-{
-    THREE
-}
-
 // The layout of partition p of n subsets.
 pub fn layout(n: usize, p: usize) -> u64
     requires { (1 ≤ n) × (n ≤ 3) × (p < 64) }
     ensures { result ≡ layout_of n p }
 {
-    if n == 1 {
-        return 0x1_0000_0000;
+    match n {
+        1 => 0x1_0000_0000,
+        2 => TWO[p],
+        _ => THREE[p],
     }
-    if n == 2 {
-        let t = of_two();
-        return t[p];
-    }
-    let t = of_three();
-    t[p]
 }
 
 // How many bits 0 stand below the lowest 1.
 pub fn zeros_below(b: u8) -> usize
     ensures { result ≡ lowest 8 b 0 }
 {
-    u8::trailing_zeros(b) as usize
-}
-
-// The row of a mode.
-pub fn row(m: usize) -> Mode
-    requires { m < 8 }
-    ensures { result ≡ mode_at m }
-{
-    match m {
-        0 => made(3, 4, 0, 0, 4, 0, 1, 0, 3, 0),
-        1 => made(2, 6, 0, 0, 6, 0, 0, 1, 3, 0),
-        2 => made(3, 6, 0, 0, 5, 0, 0, 0, 2, 0),
-        3 => made(2, 6, 0, 0, 7, 0, 1, 0, 2, 0),
-        4 => made(1, 0, 2, 1, 5, 6, 0, 0, 2, 3),
-        5 => made(1, 0, 2, 0, 7, 8, 0, 0, 2, 2),
-        6 => made(1, 0, 0, 0, 7, 7, 1, 0, 4, 0),
-        _ => made(2, 6, 0, 0, 5, 5, 1, 0, 2, 0),
-    }
-}
-
-fn made(
-    subsets: usize,
-    partition: usize,
-    rotation: usize,
-    selection: usize,
-    colour: usize,
-    alpha: usize,
-    own: usize,
-    shared: usize,
-    index: usize,
-    second: usize,
-) -> Mode
-    ensures { result ≡ row_of (subsets ∷ partition ∷ rotation ∷ selection ∷ colour ∷ alpha ∷ own ∷ shared ∷ index ∷ second ∷ []) }
-{
-    Mode {
-        subsets,
-        partition,
-        rotation,
-        selection,
-        colour,
-        alpha,
-        own,
-        shared,
-        index,
-        second,
-    }
+    b.trailing_zeros() as usize
 }
 
 // w bits made eight.
@@ -228,7 +164,7 @@ pub fn expand(w: usize, v: u8) -> u8
     requires { (w ≤ 8) × (v < 2 ^ w) }
     ensures { result ≡ expand_to w v }
 {
-    let s = (v as u32) << (8 - w);
+    let s = u32::from(v) << (8 - w);
     (s + (s >> w)) as u8
 }
 
@@ -237,28 +173,15 @@ pub fn blend(a: u8, b: u8, w: u8) -> u32
     requires { w ≤ 64 }
     ensures { (result ≡ blend_of a b w) × (result < 256) }
 {
-    ((a as u32) * (64 - w as u32) + (b as u32) * (w as u32) + 32) / 64
+    (u32::from(a) * (64 - u32::from(w)) + u32::from(b) * u32::from(w) + 32) / 64
 }
 
-const TWO_BITS: [u8; 16] = [0, 21, 43, 64, 0, 0, 0, 0, 0, 0, 0, 0, 0, 0, 0, 0];
-
-const THREE_BITS: [u8; 16] = [0, 9, 18, 27, 37, 46, 55, 64, 0, 0, 0, 0, 0, 0, 0, 0];
-
-const FOUR_BITS: [u8; 16] = [0, 4, 9, 13, 17, 21, 26, 30, 34, 38, 43, 47, 51, 55, 60, 64];
-
-// The weights of an index of n bits, and 0 after them.
-fn weights(n: usize) -> [u8; 16]
-    requires { (2 ≤ n) × (n ≤ 4) }
-    ensures { result ≡ build 16 (λ i. get_or (weights_of n) i 0) }
-{
-    if n == 2 {
-        return TWO_BITS;
-    }
-    if n == 3 {
-        return THREE_BITS;
-    }
-    FOUR_BITS
-}
+// The weights of an index of two, three and four bits, and 0 after them.
+static WEIGHTS: [[u8; 16]; 3] = [
+    [0, 21, 43, 64, 0, 0, 0, 0, 0, 0, 0, 0, 0, 0, 0, 0],
+    [0, 9, 18, 27, 37, 46, 55, 64, 0, 0, 0, 0, 0, 0, 0, 0],
+    [0, 4, 9, 13, 17, 21, 26, 30, 34, 38, 43, 47, 51, 55, 60, 64],
+];
 
 // The weight of each of sixteen indices of n bits.
 pub fn weigh(indices: [u8; 16], n: usize) -> [u8; 16]
@@ -266,12 +189,10 @@ pub fn weigh(indices: [u8; 16], n: usize) -> [u8; 16]
     requires by_index { (k : ℕ) → get_or indices k 0 < 16 }
     ensures { result ≡ build 16 (λ i. get_or (weights_of n) (get_or indices i 0) 0) }
 {
-    let t = weights(n);
+    let t = WEIGHTS[n - 2];
     let mut out = [0u8; 16];
-    let mut i: usize = 0;
-    while i < 16 {
-        out[i] = t[indices[i] as usize];
-        i += 1;
+    for i in 0..16 {
+        out[i] = t[usize::from(indices[i])];
     }
     out
 }

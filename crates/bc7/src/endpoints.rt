@@ -2,11 +2,11 @@
 ghost use Rattle.std.specs.Prelude.{◌≡◌, cond, ℕ, ◌+◌, ◌*◌, ◌/◌, ◌^◌, ◌<◌, ◌≤◌, eqb, get_or};
 ghost use Rattle.rules.specs.Bc7.{colour_place, expand};
 ghost use Rattle.bc7.specs.rest.Whole.{whole};
-ghost use Rattle.bc7.specs.endpoints.Stages.{Sane, Fronted, Ended};
+ghost use Rattle.bc7.specs.endpoints.Stages.{Fronted, Ended};
 
-use super::rest::Rest;
-use super::{bptc, rest};
-use rules::Mode;
+use super::bptc;
+use super::rest::{Fields, Rest};
+use super::row::Row;
 
 // The fields in front of the endpoints, and what is left.
 #[derive(Clone, Copy)]
@@ -17,7 +17,8 @@ pub struct Front {
     pub rest: Rest,
 }
 
-// The endpoints of four channels, two for each subset, and what is left.
+// The endpoints of four channels, two for each subset, and what is left. `Ended` and `shaded` (specs/) speak of each channel's list, so
+// these are four lists and not one of colours.
 #[derive(Clone, Copy)]
 pub struct Ends {
     pub red: [u8; 8],
@@ -27,23 +28,23 @@ pub struct Ends {
     pub rest: Rest,
 }
 
-// The fields in front, of a block of mode m.
-pub fn front_of(r: Rest, m: usize, k: Mode) -> Front
-    requires { (m < 8) × Sane k }
-    ensures { Fronted (whole r) m k result }
-{
-    let a = rest::past(r, m + 1);
-    let partition = rest::next(a, k.partition);
-    let b = rest::past(a, k.partition);
-    let rotation = rest::next(b, k.rotation);
-    let c = rest::past(b, k.rotation);
-    let selection = rest::next(c, k.selection);
-    let rest = rest::past(c, k.selection);
-    Front {
-        partition,
-        rotation,
-        selection,
-        rest,
+impl Front {
+    // The fields in front, of a block of mode m.
+    pub fn read(r: Rest, m: usize, row: Row) -> Front
+        requires { m < 8 }
+        ensures { Fronted (whole r) m row.mode result }
+    {
+        let k = row.mode;
+        let mut rest = r.past(m + 1);
+        let partition = rest.take(k.partition);
+        let rotation = rest.take(k.rotation);
+        let selection = rest.take(k.selection);
+        Front {
+            partition,
+            rotation,
+            selection,
+            rest,
+        }
     }
 }
 
@@ -65,71 +66,74 @@ fn endpoint(v: u8, p: u8, w: usize, pb: usize) -> u8
     bptc::expand(w + pb, (v << pb) + p)
 }
 
-// The endpoints of one channel, which stand from `at` on.
-fn channel(
-    values: [u8; 24],
-    at: usize,
-    count: usize,
-    w: usize,
-    ps: [u8; 24],
+// The p-bits of a block: one under each endpoint, or one under both of a subset, or none.
+#[derive(Clone, Copy)]
+struct PBits {
+    bits: Fields,
     shared: usize,
-    pb: usize,
-) -> [u8; 8]
-    requires count_bound { (count ≤ 6) × (at ≤ 12) × (w + pb ≤ 8) × (pb ≤ 1) }
-    requires by_index { (k : ℕ) → get_or values k 0 < 2 ^ w }
-    requires by_index_2 { (k : ℕ) → get_or ps k 0 < 2 ^ pb }
+    ghost one: { bits.width ≤ 1 },
+}
+
+impl PBits {
+    // The p-bit under endpoint e.
+    fn under(&self, e: usize) -> u8
+        requires { e < 24 }
+        ensures bit { result ≡ get_or self.now.bits.values (cond (eqb self.now.shared 0) e (e / 2)) 0 }
+        ensures fits { result < 2 ^ self.now.bits.width }
+    {
+        self.bits.values[shared_or_own(self.shared, e)]
+    }
+}
+
+// The endpoints of one channel, which stand from `at` on.
+fn channel(fields: &Fields, at: usize, count: usize, ps: &PBits) -> [u8; 8]
+    requires { (count ≤ 6) × (at ≤ 12) × (fields.now.width + ps.now.bits.width ≤ 8) }
     ensures { (e : ℕ) → e < count → get_or result e 0
-        ≡ expand (w + pb) (get_or values (at + e) 0 * 2 ^ pb + get_or ps (cond (eqb shared 0) e (e / 2)) 0) }
+        ≡ expand (fields.now.width + ps.now.bits.width)
+        (get_or fields.now.values (at + e) 0 * 2 ^ ps.now.bits.width
+        + get_or ps.now.bits.values (cond (eqb ps.now.shared 0) e (e / 2)) 0) }
 {
     let mut out = [0u8; 8];
-    let mut e: usize = 0;
-    while e < count {
-        let j = shared_or_own(shared, e);
-        out[e] = endpoint(values[at + e], ps[j], w, pb);
-        e += 1;
+    for e in 0..count {
+        out[e] = endpoint(
+            fields.values[at + e],
+            ps.under(e),
+            fields.width,
+            ps.bits.width,
+        );
     }
     out
 }
 
-// How many p-bits there are, where there are any.
-fn p_count(k: Mode) -> usize
-    requires { Sane k }
-    ensures { (result ≡ cond (eqb k.shared 0) (2 * k.subsets) k.subsets) × (result ≤ 6) }
-{
-    if k.shared == 0 {
-        return 2 * k.subsets;
-    }
-    k.subsets
-}
-
-// The endpoints of every channel, wherever in a block they stand.
-pub fn ends_of(r: Rest, k: Mode) -> Ends
-    requires { Sane k }
-    ensures { (d m : ℕ) → whole r ≡ d / 2 ^ colour_place m k → Ended d m k result }
-{
-    let n = 2 * k.subsets;
-    let pb = k.own + k.shared;
-    let colours = rest::several(r, 3 * n, k.colour);
-    let alphas = rest::several(colours.rest, n, k.alpha);
-    let ps = rest::several(alphas.rest, p_count(k), pb);
-    let cv = colours.values;
-    let av = alphas.values;
-    let pv = ps.values;
-    let red = channel(cv, 0, n, k.colour, pv, k.shared, pb);
-    let green = channel(cv, n, n, k.colour, pv, k.shared, pb);
-    let blue = channel(cv, 2 * n, n, k.colour, pv, k.shared, pb);
-    let left = ps.rest;
-    let solid = k.alpha == 0;
-    let alpha = if solid {
-        [255u8; 8]
-    } else {
-        channel(av, 0, n, k.alpha, pv, k.shared, pb)
-    };
-    Ends {
-        red,
-        green,
-        blue,
-        alpha,
-        rest: left,
+impl Ends {
+    // The endpoints of every channel, wherever in a block they stand.
+    pub fn read(r: Rest, row: Row) -> Ends
+        ensures { (d m : ℕ) → whole r ≡ d / 2 ^ colour_place m row.mode → Ended d m row.mode result }
+    {
+        let k = row.mode;
+        let n = 2 * k.subsets;
+        let mut rest = r;
+        let colours = rest.several(3 * n, k.colour);
+        let alphas = rest.several(n, k.alpha);
+        let bits = rest.several(row.p_count(), k.own + k.shared);
+        let ps = PBits {
+            bits,
+            shared: k.shared,
+        };
+        let red = channel(&colours, 0, n, &ps);
+        let green = channel(&colours, n, n, &ps);
+        let blue = channel(&colours, 2 * n, n, &ps);
+        let alpha = if k.alpha == 0 {
+            [255u8; 8]
+        } else {
+            channel(&alphas, 0, n, &ps)
+        };
+        Ends {
+            red,
+            green,
+            blue,
+            alpha,
+            rest,
+        }
     }
 }

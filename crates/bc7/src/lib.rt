@@ -4,6 +4,7 @@
 mod bptc;
 mod endpoints;
 pub mod rest;
+mod row;
 
 ghost use Rattle.std.specs.Prelude.{◌≡◌, cond, ℕ, ◌-◌, ◌*◌, ◌/◌, ◌%◌, ◌^◌, ◌<◌, ◌≤◌, eqb, length, get_or, replicate};
 ghost use Rattle.rules.specs.Notation.{build};
@@ -11,13 +12,12 @@ ghost use Rattle.rules.specs.Places.{tile};
 ghost use Rattle.rules.specs.Bptc.{weights_of};
 ghost use Rattle.rules.specs.Bc7.{rotated, pixel_in, mode_at, pixel_of, bc7_pixel};
 ghost use Rattle.bc7.specs.rest.Whole.{whole, width_by, passed_by};
-ghost use Rattle.bc7.specs.endpoints.Stages.{Sane};
 ghost use Rattle.bc7.specs.Shaded.{shaded};
 
-use endpoints::Ends;
+use endpoints::{Ends, Front};
 use pixel::color;
 use rest::Rest;
-use rules::Mode;
+use row::Row;
 
 // The weights of sixteen indices of b bits, the first of which stands lowest.
 fn weights(v: u64, b: usize, mask: u64) -> [u8; 16]
@@ -28,19 +28,21 @@ fn weights(v: u64, b: usize, mask: u64) -> [u8; 16]
 }
 
 // The weights by a second index, or the first ones where there is none.
-fn second_weights(r: Rest, k: Mode, mask: u64, first: [u8; 16]) -> [u8; 16]
-    requires { Sane k }
-    ensures { result ≡ cond (eqb k.second 0) first (build 16 (λ i. get_or (weights_of k.second)
-        (whole r / 2 ^ (16 * k.index - k.subsets) % 2 ^ 64 / 2 ^ passed_by k.second mask i % 2 ^ width_by k.second mask i) 0)) }
+fn second_weights(r: Rest, row: Row, mask: u64, first: [u8; 16]) -> [u8; 16]
+    ensures { result ≡ cond (eqb row.mode.second 0) first (build 16 (λ i. get_or (weights_of row.mode.second)
+        (whole r / 2 ^ (16 * row.mode.index - row.mode.subsets) % 2 ^ 64
+        / 2 ^ passed_by row.mode.second mask i % 2 ^ width_by row.mode.second mask i) 0)) }
 {
+    let k = row.mode;
     if k.second == 0 {
         return first;
     }
-    let q = rest::past(r, 16 * k.index - k.subsets);
-    weights(rest::word_of(q), k.second, mask)
+    let q = r.past(16 * k.index - k.subsets);
+    weights(q.word(), k.second, mask)
 }
 
-// The weights of colour, or of alpha: the index selection changes the two about.
+// The weights of colour, or of alpha: the index selection changes the two about. It is a number, as a block stores it and
+// `pixel_in` (crates/rules) compares it.
 fn chosen(s: u8, a: [u8; 16], b: [u8; 16]) -> [u8; 16]
     ensures { result ≡ cond (eqb s 0) a b }
 {
@@ -55,16 +57,12 @@ fn turned(t: u8, a: u32, r: u32, g: u32, b: u32) -> u32
     requires { (a < 256) × (r < 256) × (g < 256) × (b < 256) }
     ensures { result ≡ rotated t a r g b }
 {
-    if t == 1 {
-        return color::color(a, g, b, r);
+    match t {
+        1 => color::color(a, g, b, r),
+        2 => color::color(r, a, b, g),
+        3 => color::color(r, g, a, b),
+        _ => color::color(r, g, b, a),
     }
-    if t == 2 {
-        return color::color(r, a, b, g);
-    }
-    if t == 3 {
-        return color::color(r, g, a, b);
-    }
-    color::color(r, g, b, a)
 }
 
 // Sixteen pixels out of the endpoints, the subset of each and its weights.
@@ -77,8 +75,7 @@ fn shade(t: u8, layout: u64, e: Ends, colour: [u8; 16], alpha: [u8; 16]) -> [u32
     let blue = e.blue;
     let clear = e.alpha;
     let mut out = [0u32; 16];
-    let mut i: usize = 0;
-    while i < 16 {
+    for i in 0..16 {
         let s = ((layout >> (2 * i)) % 4) as usize;
         let x = 2 * s;
         let y = x + 1;
@@ -88,7 +85,6 @@ fn shade(t: u8, layout: u64, e: Ends, colour: [u8; 16], alpha: [u8; 16]) -> [u32
         let b = bptc::blend(blue[x], blue[y], c);
         let a = bptc::blend(clear[x], clear[y], alpha[i]);
         out[i] = turned(t, a, r, g, b);
-        i += 1;
     }
     out
 }
@@ -98,14 +94,15 @@ fn in_mode(r: Rest, m: usize) -> [u32; 16]
     requires { m < 8 }
     ensures { result ≡ build 16 (pixel_in (whole r) m (mode_at m)) }
 {
-    let k = bptc::row(m);
-    let h = endpoints::front_of(r, m, k);
-    let e = endpoints::ends_of(h.rest, k);
-    let layout = bptc::layout(k.subsets, h.partition as usize);
+    let row = Row::of_mode(m);
+    let k = row.mode;
+    let h = Front::read(r, m, row);
+    let e = Ends::read(h.rest, row);
+    let layout = bptc::layout(k.subsets, usize::from(h.partition));
     let mask = layout / 4294967296;
     let left = e.rest;
-    let first = weights(rest::word_of(left), k.index, mask);
-    let second = second_weights(left, k, mask, first);
+    let first = weights(left.word(), k.index, mask);
+    let second = second_weights(left, row, mask, first);
     shade(
         h.rotation,
         layout,
@@ -138,5 +135,5 @@ pub fn bc7_block(d: &[u8]) -> [u32; 16]
     requires { 16 ≤ length d.now }
     ensures { result ≡ tile bc7_pixel d.now }
 {
-    of_words(rest::words(d))
+    of_words(Rest::of_block(d))
 }

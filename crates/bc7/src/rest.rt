@@ -13,14 +13,76 @@ pub struct Rest {
     pub hi: u64,
 }
 
-// The sixteen bytes of a block.
-pub fn words(d: &[u8]) -> Rest
-    requires { 16 ≤ length d.now }
-    ensures { whole result ≡ block_word d.now }
-{
-    let lo = bc1::half_word(d);
-    let hi = bc1::half_word(&d[8..]);
-    Rest { lo, hi }
+// Up to 24 fields of one width, and 0 after them.
+#[derive(Clone, Copy)]
+pub struct Fields {
+    pub values: [u8; 24],
+    pub width: usize,
+    ghost fit: { (k : ℕ) → get_or values k 0 < 2 ^ width },
+}
+
+impl Rest {
+    // The sixteen bytes of a block.
+    pub fn of_block(d: &[u8]) -> Rest
+        requires { 16 ≤ length d.now }
+        ensures { whole result ≡ block_word d.now }
+    {
+        let lo = bc1::half_word(d);
+        let hi = bc1::half_word(&d[8..]);
+        Rest { lo, hi }
+    }
+
+    // What is left after n bits more.
+    pub fn past(self, n: usize) -> Rest
+        requires { n < 64 }
+        ensures { whole result ≡ whole self / 2 ^ n }
+    {
+        Rest {
+            lo: next_low(self.lo, self.hi, n),
+            hi: self.hi >> n,
+        }
+    }
+
+    // The next n bits.
+    pub fn next(self, n: usize) -> u8
+        requires { n ≤ 8 }
+        ensures { result ≡ whole self % 2 ^ n }
+    {
+        lowest(self.lo, n)
+    }
+
+    // The next n bits, which are passed.
+    pub fn take(&mut self, n: usize) -> u8
+        requires { n ≤ 8 }
+        ensures bits { result ≡ whole self.old % 2 ^ n }
+        ensures passed { whole self.new ≡ whole self.old / 2 ^ n }
+    {
+        let bits = self.next(n);
+        *self = self.past(n);
+        bits
+    }
+
+    // The next 64 bits.
+    pub fn word(self) -> u64
+        ensures { result ≡ whole self % 2 ^ 64 }
+    {
+        self.lo
+    }
+
+    // The next count fields of b bits each, which are passed; the others are 0.
+    pub fn several(&mut self, count: usize, b: usize) -> Fields
+        requires { (count ≤ 24) × (b ≤ 8) }
+        ensures by_index { (k : ℕ) → k < count → get_or result.values k 0 ≡ field_of (whole self.old) b k }
+        ensures by_index_2 { (k : ℕ) → count ≤ k → get_or result.values k 0 ≡ 0 }
+        ensures width { result.width ≡ b }
+        ensures rest_value { whole self.new ≡ whole self.old / 2 ^ (count * b) }
+    {
+        let mut values = [0u8; 24];
+        for i in 0..count {
+            values[i] = self.take(b);
+        }
+        Fields { values, width: b }
+    }
 }
 
 // The low word after n bits are passed.
@@ -31,70 +93,12 @@ fn next_low(lo: u64, hi: u64, n: usize) -> u64
     ((hi << 1) << (63 - n)) + (lo >> n)
 }
 
-// What is left after n bits more.
-pub fn past(r: Rest, n: usize) -> Rest
-    requires { n < 64 }
-    ensures { whole result ≡ whole r / 2 ^ n }
-{
-    let lo = r.lo;
-    let hi = r.hi;
-    Rest {
-        lo: next_low(lo, hi, n),
-        hi: hi >> n,
-    }
-}
-
 // The lowest n bits of a word.
 fn lowest(v: u64, n: usize) -> u8
     requires { n ≤ 8 }
     ensures { result ≡ v % 2 ^ n }
 {
     (v % (1 << n)) as u8
-}
-
-// The next n bits.
-pub fn next(r: Rest, n: usize) -> u8
-    requires { n ≤ 8 }
-    ensures { result ≡ whole r % 2 ^ n }
-{
-    lowest(r.lo, n)
-}
-
-// The next 64 bits.
-pub fn word_of(r: Rest) -> u64
-    ensures { result ≡ whole r % 2 ^ 64 }
-{
-    r.lo
-}
-
-// Up to 24 fields of one width, and what is left.
-#[derive(Clone, Copy)]
-pub struct Fields {
-    pub values: [u8; 24],
-    pub rest: Rest,
-}
-
-// The next count fields of b bits each; the others are 0.
-pub fn several(r: Rest, count: usize, b: usize) -> Fields
-    requires { (count ≤ 24) × (b ≤ 8) }
-    ensures by_index { (k : ℕ) → k < count → get_or result.values k 0 ≡ field_of (whole r) b k }
-    ensures by_index_2 { (k : ℕ) → count ≤ k → get_or result.values k 0 ≡ 0 }
-    ensures rest_value { whole result.rest ≡ whole r / 2 ^ (count * b) }
-{
-    let mut lo = r.lo;
-    let mut hi = r.hi;
-    let mut out = [0u8; 24];
-    let mut i: usize = 0;
-    while i < count {
-        out[i] = lowest(lo, b);
-        lo = next_low(lo, hi, b);
-        hi = hi >> b;
-        i += 1;
-    }
-    Fields {
-        values: out,
-        rest: Rest { lo, hi },
-    }
 }
 
 // Sixteen indices of b bits, one less where the mask has a bit.
@@ -105,13 +109,11 @@ pub fn indices(v: u64, b: usize, mask: u64) -> [u8; 16]
     let mut w = v;
     let mut m = mask;
     let mut out = [0u8; 16];
-    let mut i: usize = 0;
-    while i < 16 {
+    for i in 0..16 {
         let n = b - (m % 2) as usize;
         out[i] = lowest(w, n);
-        w = w >> n;
-        m = m >> 1;
-        i += 1;
+        w >>= n;
+        m >>= 1;
     }
     out
 }

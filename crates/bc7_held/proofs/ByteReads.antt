@@ -1,81 +1,42 @@
--- When the bits of a block are there; and reads of eight bits put together.
+-- Reads of eight bits put together.
 -- Assumes nothing.
 use mathlib.Core.Path.{◌≡◌, ◌∙◌, refl, sym, ap}
-use mathlib.Core.Bool.{Bool, true, false, cond, ◌||◌, true≢false}
-use mathlib.Core.List.{List, [], ◌∷◌}
-use Prim.Native.Nat.{ℕ, ◌+◌, ◌*◌, ◌/◌, ◌%◌, ◌<◌, ◌≤◌}
-use native.Mathlib.Decide.{dec_lt}
+use mathlib.Core.List.{List}
+use Prim.Native.Nat.{ℕ, ◌+◌, ◌*◌}
 use native.Mathlib.Nat.{add_comm}
 use native.Mathlib.Omega.{arith}
-use lib.Dec.{ltb}
-use lib.ListN.{length, get_or}
-use borrow.Author.Tests.{lt-ltb, le-ltb, ltb-false}
-use Rattle.rules.specs.Bits.{lacks, refuses, bits_said, read_verdict, field_at}
-use Rattle.rules.specs.declared.Bits.{Bits}
-use Rattle.rules.specs.declared.Bits.TheVariants.{Value, Refused}
+use Rattle.rules.specs.Bits.{field_at}
 use Rattle.laws.proofs.Number.{joined}
-
-or-true : (a : Bool) → (a || true) ≡ true
-or-true true = refl
-or-true false = refl
-
-or-none : (a : Bool) → (a || false) ≡ a
-or-none true = refl
-or-none false = refl
-
-or-false : (a b : Bool) → (a || b) ≡ false → (a ≡ false) × (b ≡ false)
-or-false true b e = absurd (true≢false e)
-or-false false b e = (refl, e)
-
-module _ (d : List ℕ) (p n : ℕ) where
-  -- past what can be named; not past it; and what is known where nothing lacks
-  pub too_far : 18446744073709551615 < p + n → lacks d p n ≡ true
-  too_far h = rw (lt-ltb 18446744073709551615 (p + n) h) (or-true (ltb (length d * 8) (p + n)))
-
-  pub near : p + n ≤ 18446744073709551615 → lacks d p n ≡ ltb (length d * 8) (p + n)
-  near h = rw (le-ltb 18446744073709551615 (p + n) h) (or-none (ltb (length d * 8) (p + n)))
-
-  pub there : lacks d p n ≡ false → (p + n ≤ length d * 8) × (p + n ≤ 18446744073709551615)
-  there e =
-      let s = or-false (ltb (length d * 8) (p + n)) _ e in
-      (ltb-false (length d * 8) (p + n) s.0, ltb-false 18446744073709551615 (p + n) s.1)
-
--- the end of a block by whole bytes, without a product that could be too large
-pub same_end : (l p : ℕ) → ltb l (p / 8 + (p % 8 + 135) / 8) ≡ ltb (l * 8) (p + 128)
-same_end l p =
-    elim (dec_lt (l * 8) (p + 128)) [
-      | yes h ↦ lt-ltb l (p / 8 + (p % 8 + 135) / 8) (omega arith) ∙ sym (lt-ltb (l * 8) (p + 128) h)
-      | no h ↦ le-ltb l (p / 8 + (p % 8 + 135) / 8) (omega (arith, h)) ∙ sym (le-ltb (l * 8) (p + 128) (omega (arith, h)))
-    ]
-
--- what a read that is not refused has found
-module _ (d : List ℕ) (p : ℕ) (b : Bits) (r : refuses d p 8 ≡ false) (s : bits_said b ≡ read_verdict d p 8) where
-  told : bits_said b ≡ 0 ∷ field_at d p 8 ∷ []
-  told = s ∙ ap (λ (t : Bool). cond t (2 ∷ []) (0 ∷ field_at d p 8 ∷ [])) r
-
-  pub value : (v : ℕ) → b ≡ Value v → v ≡ field_at d p 8
-  value v e = ap (λ (l : List ℕ). get_or l 1 0) (sym (ap bits_said e) ∙ told)
-
-  pub not_refused : b ≡ Refused → ⊥
-  not_refused e =
-      let h : ◌≡◌ {A = ℕ} 2 0 = ap (λ (l : List ℕ). get_or l 0 0) (sym (ap bits_said e) ∙ told) in
-      omega (arith, h)
 
 -- four bytes are 32 bits
 put : (f g h a b c d : ℕ) → f ≡ g * 256 + a → g ≡ h * 256 + b → h ≡ d * 256 + c → a + b * 256 + c * 65536 + d * 16777216 ≡ f
 put f g h a b c d p q r = omega arith
 
-pub four : (d : List ℕ) (p : ℕ)
+four_from : (d : List ℕ) (p : ℕ)
     → field_at d p 8 + field_at d (p + 8) 8 * 256 + field_at d (p + 16) 8 * 65536 + field_at d (p + 24) 8 * 16777216 ≡ field_at d p 32
-four d p =
+four_from d p =
     let e : p + 8 + 8 ≡ p + 16 = omega arith in
     let f : p + 16 + 8 ≡ p + 24 = omega arith in
     put (field_at d p 32) (field_at d (p + 8) 24) (field_at d (p + 16) 16) _ _ _ (field_at d (p + 24) 8) (joined d p 8 24)
     (joined d (p + 8) 8 16 ∙ ap (λ (x : ℕ). field_at d x 16 * 256 + field_at d (p + 8) 8) e)
     (joined d (p + 16) 8 8 ∙ ap (λ (x : ℕ). field_at d x 8 * 256 + field_at d (p + 16) 8) f)
 
-pub below : (d : List ℕ) (p : ℕ) → field_at d p 32 < 4294967296
-below d p = omega arith
+-- the same by the places of the bytes
+four : (d : List ℕ) (p q r s : ℕ) → q ≡ p + 8 → r ≡ p + 16 → s ≡ p + 24
+    → field_at d p 8 + field_at d q 8 * 256 + field_at d r 8 * 65536 + field_at d s 8 * 16777216 ≡ field_at d p 32
+four d p q r s e f g = rw (e, f, g) (four_from d p)
+
+-- eight bytes, put together from the lowest on, are 64 bits
+put_two : (a b c d e f g h lo hi w : ℕ) → a + b * 256 + c * 65536 + d * 16777216 ≡ lo → e + f * 256 + g * 65536 + h * 16777216 ≡ hi → w ≡ hi * 4294967296 + lo
+    → a + b * 256 + c * 65536 + d * 16777216 + e * 4294967296 + f * 1099511627776 + g * 281474976710656 + h * 72057594037927936 ≡ w
+put_two a b c d e f g h lo hi w p q r = omega arith
+
+pub eight : (d : List ℕ) (p : ℕ)
+    → field_at d p 8 + field_at d (p + 8) 8 * 256 + field_at d (p + 16) 8 * 65536 + field_at d (p + 24) 8 * 16777216 + field_at d (p + 32) 8 * 4294967296
+    + field_at d (p + 40) 8 * 1099511627776 + field_at d (p + 48) 8 * 281474976710656 + field_at d (p + 56) 8 * 72057594037927936 ≡ field_at d p 64
+eight d p =
+    put_two _ _ _ _ _ _ _ _ (field_at d p 32) (field_at d (p + 32) 32) _ (four d p (p + 8) (p + 16) (p + 24) refl refl refl)
+    (four d (p + 32) (p + 40) (p + 48) (p + 56) (omega arith) (omega arith) (omega arith)) (joined d p 32 32)
 
 -- two words
 pub both : (lo hi a b f k : ℕ) → lo ≡ a → hi ≡ b → f ≡ b * k + a → lo + hi * k ≡ f

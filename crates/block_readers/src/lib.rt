@@ -11,43 +11,37 @@ ghost use Rattle.block_readers.specs.Joins.{join_of, byte_of};
 use bc::bc3;
 use etc_alpha::channel;
 use pixel::fill;
-use rules::{Answer, Format};
+use rules::{Format, Refusal};
 
 // The checks that all block readers share, whatever the numbers.
-fn verify(size: usize, bytes: usize, elements: usize) -> Answer
+fn verify(size: usize, bytes: usize, elements: usize) -> Result<(), Refusal>
     ensures { said result ≡ verdict (block_checks size bytes elements) }
 {
     if bytes < size {
-        return Answer::ShortData;
+        return Err(Refusal::ShortData);
     }
     if elements < 16 {
-        return Answer::ShortImage;
+        return Err(Refusal::ShortImage);
     }
-    Answer::Done
+    Ok(())
 }
 
 // Reads a block of any format.
-pub fn read_block(f: Format, data: &[u8], image: &mut [u32]) -> Answer
+pub fn read_block(f: Format, data: &[u8], image: &mut [u32]) -> Result<(), Refusal>
     ensures { ReadsBlock f «data».now image.old result image.new }
 {
-    let answer = verify(checks::size(f), data.len(), image.len());
-    let Answer::Done = answer else {
-        return answer;
-    };
+    verify(checks::size(f), data.len(), image.len())?;
     fill::place_block(blocks::block_at(f, data, 0), image);
-    Answer::Done
+    Ok(())
 }
 
 // Reads an alpha half onto what stood there.
-pub fn read_alpha(data: &[u8], image: &mut [u32]) -> Answer
+pub fn read_alpha(data: &[u8], image: &mut [u32]) -> Result<(), Refusal>
     ensures { ReadsAlpha «data».now image.old result image.new }
 {
-    let answer = verify(8, data.len(), image.len());
-    let Answer::Done = answer else {
-        return answer;
-    };
+    verify(8, data.len(), image.len())?;
     channel::a8_over(data, image);
-    Answer::Done
+    Ok(())
 }
 
 // What a single channel is read from.
@@ -72,18 +66,21 @@ fn onto(j: Joined, d: &[u8], channel: usize, px: [u32; 16]) -> [u32; 16]
     }
 }
 
-// Reads a single channel, 0 blue, 1 green, 2 red or 3 alpha, onto what stood there.
-pub fn read_channel(j: Joined, data: &[u8], channel: usize, image: &mut [u32]) -> Answer
+// Reads a single channel, 0 blue, 1 green, 2 red or 3 alpha, onto what stood there. The number is the place of the channel's byte in a
+// pixel, so an enum would only be turned back into it.
+pub fn read_channel(
+    j: Joined,
+    data: &[u8],
+    channel: usize,
+    image: &mut [u32],
+) -> Result<(), Refusal>
     ensures { JoinsChannel (join_of j) (byte_of j) «data».now channel image.old result image.new }
 {
     if 3 < channel {
-        return Answer::NoChannel;
+        return Err(Refusal::NoChannel);
     }
-    let answer = verify(8, data.len(), image.len());
-    let Answer::Done = answer else {
-        return answer;
-    };
+    verify(8, data.len(), image.len())?;
     let stood = fill::first_sixteen(image);
     fill::place_block(onto(j, data, channel, stood), image);
-    Answer::Done
+    Ok(())
 }

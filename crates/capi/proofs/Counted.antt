@@ -1,17 +1,18 @@
 -- What a caller from C is told of a census that refuses, and of one that counts, with room for the counts or without.
 -- Assumes nothing.
 use mathlib.Core.Path.{◌≡◌, ◌∙◌, refl, sym, ap}
-use mathlib.Core.Bool.{Bool, true, false, cond}
+use mathlib.Core.Bool.{Bool, true, false, cond, true≢false}
 use mathlib.Core.List.{List, [], ◌∷◌}
-use Prim.Native.Nat.{ℕ, ◌<◌}
-use native.Mathlib.Omega.{arith}
+use Prim.Native.Nat.{ℕ}
 use lib.Dec.{T, ltb}
 use lib.ListN.{length, get_or, drop}
 use Rattle.rules.specs.Places.{blocks, bytes_of}
-use Rattle.rules.specs.Answers.{said, accepts, Check, judged, verdict}
+use Rattle.rules.specs.Answers.{refusal_said, accepts, Check, judged, verdict}
 use Rattle.rules.specs.Census.{Test, counts, census_checks, census}
-use Rattle.rules.specs.declared.Answer.{Answer}
-use Rattle.rules.specs.declared.Answer.TheVariants.{Done, ShortImage}
+use Rattle.rules.specs.declared.Refusal.{Refusal}
+use Rattle.rules.specs.declared.Refusal.TheVariants.{ShortImage}
+use Rattle.laws.proofs.Unique.{refusal}
+use Rattle.std.specs.Prelude.{Ok, Err}
 use Rattle.rules.specs.declared.Picture.{Picture}
 use Rattle.laws.proofs.Judged.{Clear, numbered, all_pass, passed, halted}
 use Rattle.laws.proofs.Outcome.{unchanged, done}
@@ -20,13 +21,11 @@ use Rattle.capi.specs.census_lent.Lays.{laid, Lays}
 use Rattle.capi.specs.Census.{room_checks, LaidInto, CountsInto}
 
 -- a refusal is the same whatever comes behind the checks, where what came there was none
-halts : (cs : List Check) → T (numbered cs) → (n : ℕ) (l m : List ℕ) → 0 < n → n ∷ [] ≡ judged cs (0 ∷ l) → n ∷ [] ≡ judged cs m
-halts cs numbers n l m h e = decide (accepts (verdict cs)) refl
+halts : (cs : List Check) → T (numbered cs) → (v l m : List ℕ) → accepts v ≡ false → v ≡ judged cs (0 ∷ l) → v ≡ judged cs m
+halts cs numbers v l m r e = decide (accepts (verdict cs)) refl
   where
-    decide : (t : Bool) → accepts (verdict cs) ≡ t → n ∷ [] ≡ judged cs m
-    decide true q =
-        let z = e ∙ all_pass cs (0 ∷ l) (passed cs (0 ∷ []) numbers q) in
-        absurd (omega (arith, ap (λ (k : List ℕ). get_or k 0 0) z))
+    decide : (t : Bool) → accepts (verdict cs) ≡ t → v ≡ judged cs m
+    decide true q = absurd (true≢false (sym (ap accepts (e ∙ all_pass cs (0 ∷ l) (passed cs (0 ∷ []) numbers q))) ∙ r))
     decide false q = e ∙ sym (halted cs (0 ∷ l) q) ∙ halted cs m q
 
 -- and what is counted has passed them
@@ -46,12 +45,12 @@ module _ (n : ℕ) (due d : List ℕ) (p : Picture) (room : List ℕ) where
   abbrev Tells : List ℕ → ℕ → Type 0
   Tells new number = Told (λ b. LaidInto n due d p room b new) number
 
-  pub refused : (a : Answer) (number : ℕ) → said a ≡ number ∷ [] → 0 < number → number ∷ [] ≡ judged checks (0 ∷ due) → accepts (said a) ≡ false → Tells room number
-  refused a number e h c r =
+  pub refused : (r : Refusal) (number : ℕ) → refusal_said r ≡ judged checks (0 ∷ due) → number ≡ get_or (refusal_said r) 0 0 → Tells room number
+  refused r number e n =
       record {
-        answer = a;
-        reads = unchanged _ _ room a (e ∙ halts checks tt number due _ h c) r;
-        says = ap (λ (z : List ℕ). get_or z 0 0) (sym e);
+        answer = Err r;
+        reads = unchanged _ _ room (Err r) (halts checks tt (refusal_said r) due _ (refusal r) e) (refusal r);
+        says = n;
       }
 
   -- room for the counts, or not
@@ -65,9 +64,9 @@ module _ (n : ℕ) (due d : List ℕ) (p : Picture) (room : List ℕ) where
         ap (λ (t : Bool). cond t (3 ∷ []) (0 ∷ [])) (sym e) ∙ sym (all_pass checks _ (counted checks tt l due c))
 
     fits : (s : Bool) → ltb (length room) (length l) ≡ s → Tells (cond s room (laid l room)) (cond s 3 0)
-    fits true h = record { answer = ShortImage; reads = unchanged _ _ room ShortImage (says true h) refl; says = refl }
+    fits true h = record { answer = Err ShortImage; reads = unchanged _ _ room (Err ShortImage) (says true h) refl; says = refl }
     fits false h =
-        record { answer = Done; reads = done _ _ room (laid l room) (says false h) (ap (λ (z : List ℕ). laid z room) same); says = refl }
+        record { answer = (Ok tt); reads = done _ _ room (laid l room) (says false h) (ap (λ (z : List ℕ). laid z room) same); says = refl }
 
     pub lays : (number : ℕ) (new : List ℕ) → Lays l room number new → Tells new number
     lays number new r = rw (r.says, r.leaves) (fits (ltb (length room) (length l)) refl)
@@ -77,7 +76,8 @@ module _ (tests : List Test) (d : List ℕ) (p : Picture) (room : List ℕ) wher
   abbrev due_of : List ℕ
   due_of = counts (bytes_of 8 d) (blocks p) tests
 
-  pub census_refused : (a : Answer) (number : ℕ) → said a ≡ number ∷ [] → 0 < number → number ∷ [] ≡ census tests d p → accepts (said a) ≡ false → Told (λ b. CountsInto tests d p room b room) number
+  pub census_refused : (r : Refusal) (number : ℕ) → refusal_said r ≡ census tests d p → number ≡ get_or (refusal_said r) 0 0
+      → Told (λ b. CountsInto tests d p room b room) number
   census_refused = refused (length tests) due_of d p room
 
   pub census_lays : (l : List ℕ) → 0 ∷ l ≡ census tests d p → (number : ℕ) (new : List ℕ) → Lays l room number new → Told (λ b. CountsInto tests d p room b new) number

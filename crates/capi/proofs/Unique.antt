@@ -3,20 +3,23 @@
 -- checks without an image have one, a sheet's head and writer one each, and so have the checker and the baker of blocks.
 -- Assumes nothing.
 use mathlib.Core.Path.{◌≡◌, ◌∙◌, sym, ap}
-use mathlib.Core.Bool.{cond}
 use mathlib.Core.List.{List}
 use Prim.Native.Nat.{ℕ}
 use lib.ListN.{get_or}
-use Rattle.rules.specs.Answers.{said, accepts, Outcome}
+use Rattle.rules.specs.Answers.{said, Outcome}
 use Rattle.rules.specs.Sheets as sheets
 use Rattle.rules.specs.Checking.{Checks}
 use Rattle.rules.specs.Baking.{Bakes}
-use Rattle.rules.specs.declared.Answer.{Answer}
+use Rattle.rules.specs.Answers.{Answer}
 use Rattle.rules.specs.declared.Picture.{Picture}
-use Rattle.rules.specs.declared.Sheet.{Sheet}
-use Rattle.rules.specs.declared.Written.{Written}
+use Rattle.rules.specs.declared.Head.{Head}
+use Rattle.rules.specs.declared.Refusal.{Refusal}
 use Rattle.laws.proofs.Unique.{no_second_outcome}
 use Rattle.sheet.proofs.Unique.{one_head, one_written}
+use Rattle.std.specs.Prelude.{Result}
+use Rattle.std.specs.Result.{result_unwrap_or}
+use Rattle.rules.specs.FileFormats.{format_number}
+use Rattle.rules.specs.Answers.{answered}
 use Rattle.capi.specs.pictures.Told.{Told, answer_number, block_or_lem}
 use Rattle.capi.specs.Told.{head_or, HeadTold, WriterTold, BakingTold}
 
@@ -57,10 +60,10 @@ check verdict stood r r' block block' p q =
 pub sheet_head_lem : (d : List ℕ) (f w h n f₁ w₁ h₁ m f₂ w₂ h₂ : ℕ) → HeadTold d f w h n f₁ w₁ h₁ → HeadTold d f w h m f₂ w₂ h₂ → (n ≡ m) × (f₁ ≡ f₂) × (w₁ ≡ w₂) × (h₁ ≡ h₂)
 sheet_head_lem d f w h n f₁ w₁ h₁ m f₂ w₂ h₂ p q =
     let e = one_head d p.sheet q.sheet p.tells q.tells in (
-      p.says ∙ ap (λ (s : Sheet). get_or (sheets.told s) 0 0) e ∙ sym q.says,
-      p.the_format ∙ ap (λ (s : Sheet). head_or (λ k. k.format) s f) e ∙ sym q.the_format,
-      p.the_width ∙ ap (λ (s : Sheet). head_or (λ k. k.width) s w) e ∙ sym q.the_width,
-      p.the_height ∙ ap (λ (s : Sheet). head_or (λ k. k.height) s h) e ∙ sym q.the_height,
+      p.says ∙ ap (λ (s : Result Head Refusal). get_or (sheets.told s) 0 0) e ∙ sym q.says,
+      p.the_format ∙ ap (λ (s : Result Head Refusal). head_or (λ k. format_number k.format) s f) e ∙ sym q.the_format,
+      p.the_width ∙ ap (λ (s : Result Head Refusal). head_or (λ k. k.width) s w) e ∙ sym q.the_width,
+      p.the_height ∙ ap (λ (s : Result Head Refusal). head_or (λ k. k.height) s h) e ∙ sym q.the_height,
     )
 
 pub writer : (f : ℕ) (p : Picture) (b out : List ℕ) (stood n m k l : ℕ) (new new' : List ℕ)
@@ -69,9 +72,9 @@ pub writer : (f : ℕ) (p : Picture) (b out : List ℕ) (stood n m k l : ℕ) (n
     → (n ≡ m) × (new ≡ new') × (k ≡ l)
 writer f p b out stood n m k l new new' x y =
     let e = one_written f p b out x.written y.written new new' x.writes y.writes in (
-      x.says ∙ ap (λ (r : Written). answer_number r.answer) e.0 ∙ sym y.says,
+      x.says ∙ ap (λ (r : Result ℕ Refusal). answer_number (answered r)) e.0 ∙ sym y.says,
       e.1,
-      x.the_bytes ∙ ap (λ (r : Written). cond (accepts (said r.answer)) r.bytes stood) e.0 ∙ sym y.the_bytes,
+      x.the_bytes ∙ ap (λ (r : Result ℕ Refusal). result_unwrap_or r stood) e.0 ∙ sym y.the_bytes,
     )
 
 -- the checker and the baker: what an answer says is what its number is

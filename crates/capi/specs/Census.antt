@@ -5,7 +5,7 @@ use Rattle.rules.specs.Places.{blocks, bytes_of}
 use Rattle.rules.specs.Answers.{Check, image_check, verdict, Outcome}
 use Rattle.rules.specs.Census.{Test, counts, census_checks}
 use Rattle.rules.specs.Guards.{Guard}
-use Rattle.rules.specs.declared.Answer.{Answer}
+use Rattle.rules.specs.Answers.{Answer}
 use Rattle.rules.specs.declared.Picture.{Picture}
 use Rattle.capi.specs.census_lent.Lays.{laid}
 use Rattle.rules.specs.Older.{older_counts_lem}

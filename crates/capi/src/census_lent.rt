@@ -8,10 +8,6 @@ pub fn lay(counts: &[usize], room: &mut [usize]) -> u32
     if room.len() < counts.len() {
         return 3;
     }
-    let mut i: usize = 0;
-    while i < counts.len() {
-        room[i] = counts[i];
-        i += 1;
-    }
+    room[..counts.len()].copy_from_slice(counts);
     0
 }

@@ -1,6 +1,7 @@
 // The public readers of crates/readers under C names, for `rt lib`: a slice is a pointer and a length, and the answer is
 // document 01's number of it. Each owes what the reader that it calls owes, and has no requires; that a C caller's pointers are what
 // the types say, nothing can check. include/yalivucu.h tells a C programmer the same in words.
+// One exported name a format and kind, numbers for channels and flips, and arrays that are lent: the C interface needs them so.
 #![tactic(auto)]
 
 mod census_lent;
@@ -28,7 +29,7 @@ ghost use Rattle.capi.specs.pictures.Told.{Told, block_or_lem};
 ghost use Rattle.capi.specs.Told.{HeadTold, WriterTold, BakingTold};
 
 use guard::Viewer;
-use rules::{Answer, Format, Older, Picture, RgbCensus, Rgba1Census, Sheet};
+use rules::{Format, Picture, Refusal};
 
 // Reads an ETC1 picture.
 #[unsafe(no_mangle)]
@@ -572,11 +573,7 @@ pub extern "C" fn yalivucu_decode_etc1_strict(
         × (block.new ≡ block_or_lem a block.old))
         result }
 {
-    let pic = Picture {
-        width: width,
-        height: height,
-        pitch: width,
-    };
+    let pic = Picture::sized(width, height);
     pictures::strict(data, pic, image, block)
 }
 
@@ -596,9 +593,9 @@ pub extern "C" fn yalivucu_decode_etc1_strict_pitched(
         result }
 {
     let pic = Picture {
-        width: width,
-        height: height,
-        pitch: pitch,
+        width,
+        height,
+        pitch,
     };
     pictures::strict(data, pic, image, block)
 }
@@ -618,11 +615,7 @@ pub extern "C" fn yalivucu_decode_etc2_rgba1_opaque(
         × (block.new ≡ block_or_lem a block.old))
         result }
 {
-    let pic = Picture {
-        width: width,
-        height: height,
-        pitch: width,
-    };
+    let pic = Picture::sized(width, height);
     pictures::opaque(data, pic, image, block)
 }
 
@@ -642,9 +635,9 @@ pub extern "C" fn yalivucu_decode_etc2_rgba1_opaque_pitched(
         result }
 {
     let pic = Picture {
-        width: width,
-        height: height,
-        pitch: pitch,
+        width,
+        height,
+        pitch,
     };
     pictures::opaque(data, pic, image, block)
 }
@@ -990,9 +983,8 @@ pub extern "C" fn yalivucu_census_etc2_rgb(
         counts.old a counts.new) result }
 {
     match readers::census_etc2_rgb(data, width, height) {
-        RgbCensus::TooLarge => 1,
-        RgbCensus::ShortData => 2,
-        RgbCensus::Counted(c) => {
+        Err(refusal) => answer_numbers::refusal_number(refusal),
+        Ok(c) => {
             let five = [c.individual, c.differential, c.t, c.h, c.planar];
             census_lent::lay(&five, counts)
         }
@@ -1011,9 +1003,8 @@ pub extern "C" fn yalivucu_census_etc2_rgba1(
         counts.old a counts.new) result }
 {
     match readers::census_etc2_rgba1(data, width, height) {
-        Rgba1Census::TooLarge => 1,
-        Rgba1Census::ShortData => 2,
-        Rgba1Census::Counted(c) => {
+        Err(refusal) => answer_numbers::refusal_number(refusal),
+        Ok(c) => {
             let o = c.opaque;
             let u = c.clear;
             let eight = [
@@ -1042,15 +1033,10 @@ fn older_counts(
     ensures { Told (λ a. OlderInto (guard_of viewer) «data».now (sized width height)
         counts.old a counts.new) result }
 {
-    let pic = Picture {
-        width: width,
-        height: height,
-        pitch: width,
-    };
+    let pic = Picture::sized(width, height);
     match older::count(viewer, data, pic) {
-        Older::TooLarge => 1,
-        Older::ShortData => 2,
-        Older::Counted(c) => {
+        Err(refusal) => answer_numbers::refusal_number(refusal),
+        Ok(c) => {
             let colour = c.colour as usize;
             let alpha = c.alpha as usize;
             let six = [c.pixels, c.blocks, c.block, c.place, colour, alpha];
@@ -1106,15 +1092,14 @@ pub extern "C" fn yalivucu_sheet_head(
         width.new
         height.new }
 {
-    let told = readers::sheet_head(sheet);
-    match told {
-        Sheet::Holds(head) => {
-            *format = head.format;
+    match readers::sheet_head(sheet) {
+        Ok(head) => {
+            *format = usize::from(head.format);
             *width = head.width;
             *height = head.height;
             0
         }
-        Sheet::Refused(answer) => readers::number(answer),
+        Err(refusal) => answer_numbers::refusal_number(refusal),
     }
 }
 
@@ -1146,13 +1131,13 @@ pub extern "C" fn yalivucu_write_sheet(
         room.new
         written.new }
 {
-    let wrote = readers::write_sheet(format, width, height, blocks, room);
-    let answer = wrote.answer;
-    let Answer::Done = answer else {
-        return readers::number(answer);
-    };
-    *written = wrote.bytes;
-    0
+    match readers::write_sheet(format, width, height, blocks, room) {
+        Ok(bytes) => {
+            *written = bytes;
+            0
+        }
+        Err(refusal) => answer_numbers::refusal_number(refusal),
+    }
 }
 
 // Starts to read an ETC1 picture in pieces; the caller keeps the state, in the two arrays.
@@ -1171,9 +1156,9 @@ pub extern "C" fn yalivucu_start_etc1(
         result }
 {
     let pic = Picture {
-        width: width,
-        height: height,
-        pitch: pitch,
+        width,
+        height,
+        pitch,
     };
     readers::number(pieces_lent::start(Format::Etc1, pic, image, numbers, kept))
 }
@@ -1194,9 +1179,9 @@ pub extern "C" fn yalivucu_start_etc2_rgb(
         result }
 {
     let pic = Picture {
-        width: width,
-        height: height,
-        pitch: pitch,
+        width,
+        height,
+        pitch,
     };
     readers::number(pieces_lent::start(Format::Etc2Rgb, pic, image, numbers, kept))
 }
@@ -1217,9 +1202,9 @@ pub extern "C" fn yalivucu_start_etc2_rgba1(
         result }
 {
     let pic = Picture {
-        width: width,
-        height: height,
-        pitch: pitch,
+        width,
+        height,
+        pitch,
     };
     readers::number(pieces_lent::start(Format::Etc2Rgba1, pic, image, numbers, kept))
 }
@@ -1240,9 +1225,9 @@ pub extern "C" fn yalivucu_start_etc2_rgba8(
         result }
 {
     let pic = Picture {
-        width: width,
-        height: height,
-        pitch: pitch,
+        width,
+        height,
+        pitch,
     };
     readers::number(pieces_lent::start(Format::Etc2Rgba8, pic, image, numbers, kept))
 }
@@ -1263,9 +1248,9 @@ pub extern "C" fn yalivucu_start_eacr(
         result }
 {
     let pic = Picture {
-        width: width,
-        height: height,
-        pitch: pitch,
+        width,
+        height,
+        pitch,
     };
     readers::number(pieces_lent::start(Format::EacR, pic, image, numbers, kept))
 }
@@ -1286,9 +1271,9 @@ pub extern "C" fn yalivucu_start_eacr_signed(
         result }
 {
     let pic = Picture {
-        width: width,
-        height: height,
-        pitch: pitch,
+        width,
+        height,
+        pitch,
     };
     readers::number(pieces_lent::start(Format::EacRSigned, pic, image, numbers, kept))
 }
@@ -1309,9 +1294,9 @@ pub extern "C" fn yalivucu_start_eacrg(
         result }
 {
     let pic = Picture {
-        width: width,
-        height: height,
-        pitch: pitch,
+        width,
+        height,
+        pitch,
     };
     readers::number(pieces_lent::start(Format::EacRg, pic, image, numbers, kept))
 }
@@ -1332,9 +1317,9 @@ pub extern "C" fn yalivucu_start_eacrg_signed(
         result }
 {
     let pic = Picture {
-        width: width,
-        height: height,
-        pitch: pitch,
+        width,
+        height,
+        pitch,
     };
     readers::number(pieces_lent::start(Format::EacRgSigned, pic, image, numbers, kept))
 }
@@ -1355,9 +1340,9 @@ pub extern "C" fn yalivucu_start_bc1(
         result }
 {
     let pic = Picture {
-        width: width,
-        height: height,
-        pitch: pitch,
+        width,
+        height,
+        pitch,
     };
     readers::number(pieces_lent::start(Format::Bc1, pic, image, numbers, kept))
 }
@@ -1378,9 +1363,9 @@ pub extern "C" fn yalivucu_start_bc1a(
         result }
 {
     let pic = Picture {
-        width: width,
-        height: height,
-        pitch: pitch,
+        width,
+        height,
+        pitch,
     };
     readers::number(pieces_lent::start(Format::Bc1Alpha, pic, image, numbers, kept))
 }
@@ -1401,9 +1386,9 @@ pub extern "C" fn yalivucu_start_bc3(
         result }
 {
     let pic = Picture {
-        width: width,
-        height: height,
-        pitch: pitch,
+        width,
+        height,
+        pitch,
     };
     readers::number(pieces_lent::start(Format::Bc3, pic, image, numbers, kept))
 }
@@ -1423,9 +1408,9 @@ pub extern "C" fn yalivucu_start_bc7(
         result }
 {
     let pic = Picture {
-        width: width,
-        height: height,
-        pitch: pitch,
+        width,
+        height,
+        pitch,
     };
     readers::number(pieces_lent::start(Format::Bc7, pic, image, numbers, kept))
 }
@@ -1445,9 +1430,9 @@ pub extern "C" fn yalivucu_start_bc2(
         result }
 {
     let pic = Picture {
-        width: width,
-        height: height,
-        pitch: pitch,
+        width,
+        height,
+        pitch,
     };
     readers::number(pieces_lent::start(Format::Bc2, pic, image, numbers, kept))
 }
@@ -1467,9 +1452,9 @@ pub extern "C" fn yalivucu_start_bc4(
         result }
 {
     let pic = Picture {
-        width: width,
-        height: height,
-        pitch: pitch,
+        width,
+        height,
+        pitch,
     };
     readers::number(pieces_lent::start(Format::Bc4, pic, image, numbers, kept))
 }
@@ -1490,9 +1475,9 @@ pub extern "C" fn yalivucu_start_bc4_signed(
         result }
 {
     let pic = Picture {
-        width: width,
-        height: height,
-        pitch: pitch,
+        width,
+        height,
+        pitch,
     };
     readers::number(pieces_lent::start(Format::Bc4Signed, pic, image, numbers, kept))
 }
@@ -1512,9 +1497,9 @@ pub extern "C" fn yalivucu_start_bc5(
         result }
 {
     let pic = Picture {
-        width: width,
-        height: height,
-        pitch: pitch,
+        width,
+        height,
+        pitch,
     };
     readers::number(pieces_lent::start(Format::Bc5, pic, image, numbers, kept))
 }
@@ -1535,9 +1520,9 @@ pub extern "C" fn yalivucu_start_bc5_signed(
         result }
 {
     let pic = Picture {
-        width: width,
-        height: height,
-        pitch: pitch,
+        width,
+        height,
+        pitch,
     };
     readers::number(pieces_lent::start(Format::Bc5Signed, pic, image, numbers, kept))
 }

@@ -6,7 +6,7 @@ ghost use Rattle.rules.specs.Whole.{ReadsWhole};
 ghost use Rattle.whole.specs.Lanes.{lanes};
 ghost use Rattle.capi.specs.pictures.Told.{Told, answer_number, block_or_lem};
 
-use rules::{Answer, Format, Picture};
+use rules::{Format, Picture, Refusal};
 
 // Reads a picture of any format and pitch.
 pub fn read(
@@ -22,9 +22,9 @@ pub fn read(
         result }
 {
     let pic = Picture {
-        width: width,
-        height: height,
-        pitch: pitch,
+        width,
+        height,
+        pitch,
     };
     answer_numbers::number(picture::read_picture(f, data, pic, image))
 }
@@ -52,12 +52,11 @@ pub fn read_whole(
 }
 
 // The number of an answer. The block that it names is written, and an answer that names none writes none.
-fn handed(answer: Answer, block: &mut usize) -> u32
+fn handed(answer: Result<(), Refusal>, block: &mut usize) -> u32
     ensures { (result ≡ answer_number answer) × (block.new ≡ block_or_lem answer block.old) }
 {
-    if answer_numbers::names(answer) {
-        *block = answer_numbers::block_or(answer, 0);
-        return answer_numbers::number(answer);
+    if let Some(named) = answer_numbers::block_of(answer) {
+        *block = named;
     }
     answer_numbers::number(answer)
 }

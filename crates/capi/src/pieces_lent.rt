@@ -2,36 +2,10 @@
 // bytes. Every content of them is a state, so a caller who spoils them gets another picture and never a store out of place.
 ghost use Rattle.std.specs.Prelude.{◌≡◌, length};
 ghost use Rattle.rules.specs.Pieces.{Ends};
-ghost use Rattle.rules.specs.FileFormats.{format_number};
 ghost use Rattle.capi.specs.pieces_lent.Lent.{state_in_lem, StartLent, PieceLent};
 
 use file::formats;
-use rules::{Answer, Format, Picture, Progress};
-
-// The number of a format.
-fn number_of(f: Format) -> usize
-    ensures { result ≡ format_number f }
-{
-    match f {
-        Format::Etc1 => 0,
-        Format::Etc2Rgb => 1,
-        Format::Etc2Rgba1 => 2,
-        Format::Etc2Rgba8 => 3,
-        Format::EacR => 4,
-        Format::EacRSigned => 5,
-        Format::EacRg => 6,
-        Format::EacRgSigned => 7,
-        Format::Bc1 => 8,
-        Format::Bc1Alpha => 9,
-        Format::Bc3 => 10,
-        Format::Bc7 => 11,
-        Format::Bc2 => 12,
-        Format::Bc4 => 13,
-        Format::Bc4Signed => 14,
-        Format::Bc5 => 15,
-        Format::Bc5Signed => 16,
-    }
-}
+use rules::{Format, Picture, Progress, Refusal};
 
 // The state that the two arrays hold.
 fn state_in(numbers: [usize; 5], kept: [u8; 15]) -> Progress
@@ -47,7 +21,7 @@ fn state_in(numbers: [usize; 5], kept: [u8; 15]) -> Progress
         format: f,
         picture: pic,
         taken: numbers[4],
-        kept: kept,
+        kept,
     }
 }
 
@@ -58,14 +32,13 @@ pub fn start(
     image: &[u32],
     numbers: &mut [usize; 5],
     kept: &mut [u8; 15],
-) -> Answer
+) -> Result<(), Refusal>
     ensures { StartLent f pic (length image.now) result numbers.new kept.new }
 {
     let started = pieces::start(f, pic, image);
     let progress = started.progress;
     let bytes = progress.kept;
-    let n = number_of(f);
-    *numbers = [n, pic.width, pic.height, pic.pitch, 0];
+    *numbers = [usize::from(f), pic.width, pic.height, pic.pitch, 0];
     *kept = bytes;
     started.answer
 }
@@ -78,7 +51,7 @@ pub fn take_piece(
     image: &mut [u32],
     painted: &mut usize,
     unused: &mut usize,
-) -> Answer
+) -> Result<(), Refusal>
     ensures { PieceLent numbers.old kept.old bytes.now image.old
         result numbers.new kept.new painted.new unused.new image.new }
 {
@@ -95,7 +68,7 @@ pub fn take_piece(
 }
 
 // Ends: what the arrays hold is not changed.
-pub fn end(numbers: &[usize; 5], kept: &[u8; 15]) -> Answer
+pub fn end(numbers: &[usize; 5], kept: &[u8; 15]) -> Result<(), Refusal>
     ensures { Ends (state_in_lem numbers.now kept.now) result }
 {
     pieces::end(state_in(*numbers, *kept))

@@ -7,7 +7,7 @@ ghost use Rattle.std.specs.Prelude.{◌≡◌, get_or};
 ghost use Rattle.rules.specs.Notation.{build};
 ghost use Rattle.rules.specs.Census.{rgb_values, rgba1_values, CountsRgb, CountsRgba1};
 
-use rules::{KindCounts, Picture, RgbCensus, RgbCounts, Rgba1Census, Rgba1Counts};
+use rules::{KindCounts, Picture, Refusal, RgbCounts, Rgba1Counts};
 
 // A tally of the five tests, by their names.
 fn rgb_counts(c: [usize; 8]) -> RgbCounts
@@ -38,36 +38,21 @@ fn rgba1_counts(c: [usize; 8]) -> Rgba1Counts
         h: c[6],
         planar: c[7],
     };
-    Rgba1Counts {
-        opaque: opaque,
-        clear: clear,
-    }
+    Rgba1Counts { opaque, clear }
 }
 
-// The census of an ETC2 RGB picture, for all inputs.
-pub fn rgb(data: &[u8], pic: Picture) -> RgbCensus
+// The census of an ETC2 RGB picture, for all inputs. It and the next promise different counts: what they share is `checks::countable`.
+pub fn rgb(data: &[u8], pic: Picture) -> Result<RgbCounts, Refusal>
     ensures { CountsRgb «data».now pic result }
 {
-    if checks::too_large(65536, pic) {
-        return RgbCensus::TooLarge;
-    }
-    if checks::short_data(8, pic, data.len()) {
-        return RgbCensus::ShortData;
-    }
-    let n = checks::blocks_of(pic);
-    RgbCensus::Counted(rgb_counts(tally::tally(false, data, n)))
+    let n = checks::countable(pic, data.len())?;
+    Ok(rgb_counts(tally::tally(false, data, n)))
 }
 
 // The census of an ETC2 RGBA1 picture, for all inputs.
-pub fn rgba1(data: &[u8], pic: Picture) -> Rgba1Census
+pub fn rgba1(data: &[u8], pic: Picture) -> Result<Rgba1Counts, Refusal>
     ensures { CountsRgba1 «data».now pic result }
 {
-    if checks::too_large(65536, pic) {
-        return Rgba1Census::TooLarge;
-    }
-    if checks::short_data(8, pic, data.len()) {
-        return Rgba1Census::ShortData;
-    }
-    let n = checks::blocks_of(pic);
-    Rgba1Census::Counted(rgba1_counts(tally::tally(true, data, n)))
+    let n = checks::countable(pic, data.len())?;
+    Ok(rgba1_counts(tally::tally(true, data, n)))
 }

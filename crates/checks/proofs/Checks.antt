@@ -10,7 +10,7 @@ use borrow.Author.Tests.{ltb-false}
 use lib.Dec.{ltb}
 use Rattle.rules.specs.Places.{needed, blocks}
 use Rattle.rules.specs.Answers.{said, accepts, limit, too_large_lem, over_limit_lem, Check, judged, picture_checks, exact_checks, left, Outcome}
-use Rattle.rules.specs.declared.Answer.{Answer}
+use Rattle.rules.specs.Answers.{Answer}
 use Rattle.rules.specs.declared.Picture.{Picture}
 use Rattle.laws.proofs.Judged as judged-laws
 use Rattle.checks.specs.Passed.{Passed}
@@ -25,11 +25,6 @@ fails c cs then e = ap (λ (t : Bool). cond t (c.number ∷ []) (judged cs then)
 
 pub passes : (c : Check) (cs : List Check) (then v : List ℕ) → c.fails ≡ false → v ≡ judged cs then → v ≡ judged (c ∷ cs) then
 passes c cs then v e f = f ∙ ap (λ (t : Bool). cond t (c.number ∷ []) (judged cs then)) (sym e)
-
--- a promise of one verdict is that of another that is the same
-pub as_said : (v w after old new : List ℕ) (a : Answer) → v ≡ w → Outcome v after a old new → Outcome w after a old new
-as_said v w after old new a e o =
-    record { says = o.says ∙ e; leaves = o.leaves ∙ ap (λ (z : List ℕ). left z after old) e }
 
 -- where one test or another does not hold, neither does
 pub neither : (a b : Bool) → (a || b) ≡ false → (a ≡ false) × (b ≡ false)

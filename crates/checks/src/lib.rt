@@ -2,36 +2,26 @@
 // reader of a picture makes before it looks at a block.
 #![tactic(auto)]
 
-ghost use Rattle.std.specs.Prelude.{◌≡◌, ◌*◌, ◌<◌, ◌≤◌, ltb};
+ghost use Rattle.std.specs.Prelude.{◌≡◌, ◌*◌, ◌<◌, ◌≤◌, ltb, IfOk};
 ghost use Rattle.rules.specs.Places.{across as across_of, needed, blocks};
-ghost use Rattle.rules.specs.Answers.{said, limit, too_large_lem, over_limit_lem, picture_checks, exact_checks, verdict};
+ghost use Rattle.rules.specs.Answers.{said, answered, limit, too_large_lem, over_limit_lem, picture_checks, exact_checks};
+ghost use Rattle.rules.specs.Answers.{data_checks, verdict};
 ghost use Rattle.rules.specs.Formats.{size_of};
 ghost use Rattle.checks.specs.Passed.{checks_of};
 
-use rules::{Answer, Format, Picture};
+use rules::{Format, Picture, Refusal};
 
 // The number of bytes of a block.
+#[tactic(auto, unfolding(rules::specs::Formats::size_of))]
 pub fn size(f: Format) -> usize
     ensures { (result ≡ size_of f) × (result ≤ 16) × (0 < result) }
 {
     match f {
-        Format::Etc1 => 8,
-        Format::Etc2Rgb => 8,
-        Format::Etc2Rgba1 => 8,
-        Format::Etc2Rgba8 => 16,
-        Format::EacR => 8,
-        Format::EacRSigned => 8,
-        Format::EacRg => 16,
-        Format::EacRgSigned => 16,
-        Format::Bc1 => 8,
-        Format::Bc1Alpha => 8,
-        Format::Bc3 => 16,
-        Format::Bc7 => 16,
-        Format::Bc2 => 16,
-        Format::Bc4 => 8,
-        Format::Bc4Signed => 8,
-        Format::Bc5 => 16,
-        Format::Bc5Signed => 16,
+        Format::Etc1 | Format::Etc2Rgb | Format::Etc2Rgba1 => 8,
+        Format::EacR | Format::EacRSigned => 8,
+        Format::Bc1 | Format::Bc1Alpha | Format::Bc4 | Format::Bc4Signed => 8,
+        Format::Etc2Rgba8 | Format::EacRg | Format::EacRgSigned => 16,
+        Format::Bc2 | Format::Bc3 | Format::Bc5 | Format::Bc5Signed | Format::Bc7 => 16,
     }
 }
 
@@ -41,6 +31,9 @@ pub fn across(side: usize) -> usize
 {
     side / 4 + (side % 4 + 3) / 4
 }
+
+// From here on, bounds on a picture's sides and on a block's bytes stay clauses: docs/CLAIMS.md names these functions, which take any
+// picture, and a type that holds the bounds would ask more of callers.
 
 // The number of blocks of a picture that is not too large.
 pub fn blocks_of(pic: Picture) -> usize
@@ -92,6 +85,7 @@ fn long_data(size: usize, pic: Picture, bytes: usize) -> bool
 }
 
 // The image elements that a picture needs, which is not too large: its rows but the last by their pitch, and the last by its width.
+#[tactic(auto, unfolding(rules::specs::Places::needed))]
 pub fn elements_of(pic: Picture) -> usize
     requires { (pic.width ≤ limit) × (pic.height ≤ limit) × (pic.pitch ≤ limit) }
     ensures { result ≡ needed pic }
@@ -115,35 +109,41 @@ pub fn short_image(pic: Picture, elements: usize) -> bool
 
 // The checks that all picture readers share, of any block size up to 16, whatever the numbers; and where the length must be exact, 6
 // among them.
-fn verify_as(exact: bool, size: usize, pic: Picture, bytes: usize, elements: usize) -> Answer
+fn verify_as(
+    exact: bool,
+    size: usize,
+    pic: Picture,
+    bytes: usize,
+    elements: usize,
+) -> Result<(), Refusal>
     requires { size ≤ 16 }
     ensures { said result ≡ verdict (checks_of exact size pic bytes elements) }
 {
     let large = over_limit(pic);
     let narrow = short_pitch(pic);
     if large {
-        return Answer::TooLarge;
+        return Err(Refusal::TooLarge);
     }
     let lacks_data = short_data(size, pic, bytes);
     let has_more = exact & long_data(size, pic, bytes);
     let lacks_room = short_image(pic, elements);
     if narrow {
-        return Answer::ShortPitch;
+        return Err(Refusal::ShortPitch);
     }
     if lacks_data {
-        return Answer::ShortData;
+        return Err(Refusal::ShortData);
     }
     if has_more {
-        return Answer::LongData;
+        return Err(Refusal::LongData);
     }
     if lacks_room {
-        return Answer::ShortImage;
+        return Err(Refusal::ShortImage);
     }
-    Answer::Done
+    Ok(())
 }
 
-// The checks of a reader that ignores what follows the blocks.
-pub fn verify(size: usize, pic: Picture, bytes: usize, elements: usize) -> Answer
+// The checks of a reader that ignores what follows the blocks. It and the next stand apart since docs/CLAIMS.md names both promises.
+pub fn verify(size: usize, pic: Picture, bytes: usize, elements: usize) -> Result<(), Refusal>
     requires { size ≤ 16 }
     ensures { said result ≡ verdict (picture_checks size pic bytes elements) }
 {
@@ -151,9 +151,23 @@ pub fn verify(size: usize, pic: Picture, bytes: usize, elements: usize) -> Answe
 }
 
 // The checks of a reader that wants an exact length.
-pub fn verify_exact(size: usize, pic: Picture, bytes: usize, elements: usize) -> Answer
+pub fn verify_exact(size: usize, pic: Picture, bytes: usize, elements: usize) -> Result<(), Refusal>
     requires { size ≤ 16 }
     ensures { said result ≡ verdict (exact_checks size pic bytes elements) }
 {
     verify_as(true, size, pic, bytes, elements)
+}
+
+// The checks of what counts blocks of eight bytes and takes no pitch and no image; where they pass, the number of blocks.
+pub fn countable(pic: Picture, bytes: usize) -> Result<usize, Refusal>
+    ensures says { said (answered result) ≡ verdict (data_checks 8 pic bytes) }
+    ensures counts { IfOk result (λ n. (n ≡ blocks pic) × (n * 8 ≤ bytes) × (n ≤ 0x10000000) × (pic.width ≤ limit) × (pic.height ≤ limit)) }
+{
+    if too_large(65536, pic) {
+        return Err(Refusal::TooLarge);
+    }
+    if short_data(8, pic, bytes) {
+        return Err(Refusal::ShortData);
+    }
+    Ok(blocks_of(pic))
 }

@@ -12,12 +12,11 @@ use lib.Seq.{take_at}
 use Rattle.rules.specs.Answers.{accepts, refusal, judged, left, too_large_lem}
 use Rattle.rules.specs.Readers.{ReadsPicture}
 use Rattle.rules.specs.Places.{sized, needed}
-use Rattle.rules.specs.declared.Answer.{Answer}
-use Rattle.rules.specs.declared.Answer.TheVariants.{Done}
+use Rattle.rules.specs.Answers.{Answer}
+use Rattle.std.specs.Prelude.{Result, Ok}
 use Rattle.rules.specs.declared.Head.{Head}
 use Rattle.rules.specs.declared.Picture.{Picture}
-use Rattle.rules.specs.declared.Sheet.{Sheet}
-use Rattle.rules.specs.declared.Sheet.TheVariants.{Holds}
+use Rattle.rules.specs.declared.Refusal.{Refusal}
 use Rattle.laws.proofs.Unique.{answer}
 use Rattle.numbers.specs.Numbers.{little, in_bytes}
 use Rattle.rules.specs.Records.{Record, encoded, Records, more, ended, records_of, first, later, kept}
@@ -25,6 +24,8 @@ use Rattle.numbers.proofs.Little.{past, back}
 use Rattle.sheet.proofs.records.Walk.{at_the_end}
 use Rattle.rules.specs.Sheets.{sheet_limit, format_of, block_bytes_lem, format_in, size_in, is_head, after_head, from_head, walk_verdict}
 use Rattle.rules.specs.Sheets.{head_verdict, head_record, block_record, sheet_of, sheet_over, TellsHead, ReadsSheet, WritesSheet}
+use Rattle.rules.specs.FileFormats.{format_number}
+use Rattle.sheet.proofs.Formats.{numbered}
 use Rattle.sheet.specs.Shown.{Passes, walk, Shown}
 use Rattle.sheet.proofs.Sizes.{bytes}
 use Rattle.sheet.proofs.Checks.{Accepted, passed}
@@ -107,7 +108,10 @@ module _ (f w h : ℕ) (b : List ℕ) (room : ℕ) (s : Accepted f (sized w h) b
       ∙ exactly then
 
   abbrev written_head : Head
-  written_head = record { format = f; width = p.width; height = p.height }
+  written_head = record { format = format_of f; width = p.width; height = p.height }
+
+  number : format_number (format_of f) ≡ f
+  number = numbered f (omega (arith, s.known))
 
   pub written_sheet : Shown sheet written_head b
   written_sheet =
@@ -115,17 +119,17 @@ module _ (f w h : ℕ) (b : List ℕ) (room : ℕ) (s : Accepted f (sized w h) b
         passes = passes;
         begins =
             record {
-              format = ap (λ (rs : Records). format_in (first rs)) meets;
+              format = ap (λ (rs : Records). format_in (first rs)) meets ∙ sym number;
               size = ap (λ (rs : Records). size_in (first rs)) meets ∙ size;
-              sound = record { known = omega (arith, s.known); narrow = s.narrow; low = s.low };
+              sound = record { known = omega (arith, s.known, number); narrow = s.narrow; low = s.low };
             };
         blocks =
             ap (λ (z : Records). (first (kept (later z))).payload) meets ∙ ap (λ (z : Records). (first z).payload) kept-is;
-        exact = s.exact;
+        exact = s.exact ∙ ap (λ (z : ℕ). block_bytes_lem z p) (sym number);
       }
 
 -- where the writer answers 0 and gives n bytes, the first n bytes of the buffer are the sheet
-module _ (f w h : ℕ) (b out new : List ℕ) (n : ℕ) (x : WritesSheet f (sized w h) b out (record { answer = Done; bytes = n }) new) where
+module _ (f w h : ℕ) (b out new : List ℕ) (n : ℕ) (x : WritesSheet f (sized w h) b out (Ok n) new) where
   abbrev pic : Picture
   pic = sized w h
 
@@ -143,7 +147,7 @@ module _ (f w h : ℕ) (b out new : List ℕ) (n : ℕ) (x : WritesSheet f (size
       ap (take n) (x.outcome.leaves ∙ sym (ap (λ (v : List ℕ). left v (sheet_over f pic b out) out) x.outcome.says))
       ∙ take_at (sheet_of f pic b) (drop (length (sheet_of f pic b)) out) n (sym long)
 
-  pub head_reads_back : (told : Sheet) → TellsHead there told → told ≡ Holds (record { format = f; width = w; height = h })
+  pub head_reads_back : (told : Result Head Refusal) → TellsHead there told → told ≡ Ok (record { format = format_of f; width = w; height = h })
   head_reads_back told q =
       head_determined (sheet_of f pic b) told _ (q ∙ ap head_verdict stands) (tells (sheet_of f pic b) _ b whole)
 
@@ -155,7 +159,7 @@ module _ (f w h : ℕ) (b out new : List ℕ) (n : ℕ) (x : WritesSheet f (size
     reads_back_alike plain c o =
         picture_determined b image a c image' plain (format_of f) pic (plainly (sheet_of f pic b) _ b whole image image' a again) o
 
-    pub reads_back : needed pic ≤ length image → a ≡ Done
+    pub reads_back : needed pic ≤ length image → a ≡ (Ok tt)
     reads_back r =
-        answer a Done
+        answer a (Ok tt)
         (again.says ∙ reads_room (sheet_of f pic b) _ b whole image ∙ ap (λ (t : Bool). cond t (3 ∷ []) (0 ∷ [])) (le-ltb (length image) (needed pic) r))

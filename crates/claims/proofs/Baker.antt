@@ -9,12 +9,13 @@ use borrow.Author.Tests.{ltb-false}
 use lib.Dec.{eqb, ltb, leb}
 use lib.ListN.{length, get_or, take, drop}
 use lib.Seq.{take_at, drop_at}
+use Rattle.std.specs.Prelude.{Result, Ok, Err, ⊤}
 use Rattle.rules.specs.Answers.{accepts}
 use Rattle.rules.specs.Colour.{index, code, differs, flipped, individual, unused, out_of_range_lem}
 use Rattle.rules.specs.Checking.{cost, largest, check_verdict, baking_said, Checks}
 use Rattle.rules.specs.Baking.{seventeen, half_of, block_with, baked_block, above, no_base, eight_over, Bakes}
-use Rattle.rules.specs.declared.Baking.{Baking}
-use Rattle.rules.specs.declared.Baking.TheVariants.{Done, ShortBlock, ShortTile, NoBase, NotAccepted}
+use Rattle.rules.specs.declared.BakingRefusal.{BakingRefusal}
+use Rattle.rules.specs.declared.BakingRefusal.TheVariants.{ShortBlock, ShortTile, NoBase, NotAccepted}
 use Rattle.bake.specs.baking.Four.{Four}
 use Rattle.bake.proofs.baking.Bases.{none, four}
 use Rattle.bake.proofs.baking.Block.{Legal, Reads, reads_back, small_half}
@@ -47,7 +48,7 @@ own_legal d = record { coded = by; indexed = λ k m. omega arith }
     by zero m = omega arith
     by (suc h) m = omega arith
 
-module _ (first second : List ℕ) (flip : ℕ) (t old new : List ℕ) (p : Bakes first second flip t Done old new) where
+module _ (first second : List ℕ) (flip : ℕ) (t old new : List ℕ) (p : Bakes first second flip t (Ok tt) old new) where
   checks : (no_base first second flip ≡ false) × (ltb (length old) 8 ≡ false) × (ltb (length t) 16 ≡ false)
   checks = sorted (no_base first second flip) (ltb (length old) 8) (ltb (length t) 16) p.says
 
@@ -132,34 +133,35 @@ module _ (first second : List ℕ) (flip : ℕ) (t old new : List ℕ) (p : Bake
       from_the_largest_on tolerance block t (omega (arith, ap length the_block)) whole it_is_in_range
 
 -- the answer that says a number
-answers : List Baking
-answers = Done ∷ ShortBlock ∷ ShortTile ∷ NoBase ∷ NotAccepted ∷ []
+answers : List (Result ⊤ BakingRefusal)
+answers = Ok tt ∷ Err ShortBlock ∷ Err ShortTile ∷ Err NoBase ∷ Err NotAccepted ∷ []
 
-answer_of : List Baking → List ℕ → Baking
-answer_of [] l = Done
+answer_of : List (Result ⊤ BakingRefusal) → List ℕ → Result ⊤ BakingRefusal
+answer_of [] l = Ok tt
 answer_of (a ∷ rest) l = cond (eqb (get_or (baking_said a) 0 0) (get_or l 0 0)) a (answer_of rest l)
 
-answered : (a : Baking) → answer_of answers (baking_said a) ≡ a
+answered : (a : Result ⊤ BakingRefusal) → answer_of answers (baking_said a) ≡ a
 unfolding answer_of answers
-answered Done = refl
-answered ShortBlock = refl
-answered ShortTile = refl
-answered NoBase = refl
-answered NotAccepted = refl
+answered (Ok tt) = refl
+answered (Err ShortBlock) = refl
+answered (Err ShortTile) = refl
+answered (Err NoBase) = refl
+answered (Err NotAccepted) = refl
 
-only_answer : (a b : Baking) → baking_said a ≡ baking_said b → a ≡ b
+only_answer : (a b : Result ⊤ BakingRefusal) → baking_said a ≡ baking_said b → a ≡ b
 only_answer a b e = sym (answered a) ∙ ap (answer_of answers) e ∙ answered b
 
 -- no second outcome satisfies the promise of the checker, or that of the baker
-pub check_determined : (tolerance : ℕ) (d t : List ℕ) (a b : Baking) → Checks tolerance d t a → Checks tolerance d t b → a ≡ b
+pub check_determined : (tolerance : ℕ) (d t : List ℕ) (a b : Result ⊤ BakingRefusal) → Checks tolerance d t a → Checks tolerance d t b → a ≡ b
 check_determined tolerance d t a b p q = only_answer a b (p ∙ sym q)
 
-pub bake_determined : (first second : List ℕ) (flip : ℕ) (t : List ℕ) (a b : Baking) (old new new' : List ℕ)
+pub bake_determined : (first second : List ℕ) (flip : ℕ) (t : List ℕ) (a b : Result ⊤ BakingRefusal) (old new new' : List ℕ)
     → Bakes first second flip t a old new → Bakes first second flip t b old new' → (a ≡ b) × (new ≡ new')
 bake_determined first second flip t a b old new new' p q =
     (only_answer a b (p.says ∙ sym q.says), p.leaves ∙ sym q.leaves)
 
 -- "writing nothing"
-pub a_refusal_writes_nothing : (first second : List ℕ) (flip : ℕ) (t : List ℕ) (a : Baking) (old new : List ℕ) → Bakes first second flip t a old new → accepts (baking_said a) ≡ false → new ≡ old
+pub a_refusal_writes_nothing : (first second : List ℕ) (flip : ℕ) (t : List ℕ) (a : Result ⊤ BakingRefusal) (old new : List ℕ)
+    → Bakes first second flip t a old new → accepts (baking_said a) ≡ false → new ≡ old
 a_refusal_writes_nothing first second flip t a old new p r =
     p.leaves ∙ ap (λ (x : Bool). cond x (eight_over (baked_block first second flip t) old) old) (sym (ap accepts p.says) ∙ r)

@@ -18,8 +18,8 @@ use Rattle.rules.specs.Answers.{said, accepts, Check, limit, verdict, picture_ch
 use Rattle.rules.specs.Formats.{size_of, shows_of}
 use Rattle.rules.specs.Guards.{Guard, bad_at, in_range, opaque_only}
 use Rattle.rules.specs.Readers.{picture_of, ReadsPicture, ReadsGuarded, ReadsStrict, ReadsOpaque, strict_checks, opaque_checks}
-use Rattle.rules.specs.declared.Answer.{Answer}
-use Rattle.rules.specs.declared.Answer.TheVariants.{Done}
+use Rattle.rules.specs.Answers.{Answer}
+use Rattle.std.specs.Prelude.{Ok, Err}
 use Rattle.rules.specs.declared.Format.{Format}
 use Rattle.rules.specs.declared.Picture.{Picture}
 use Rattle.laws.proofs.Guards.{Sound, finds_none, strict_sound, opaque_sound}
@@ -114,20 +114,20 @@ all_right s p bytes elements k =
 
 module _ (f : Format) where
   -- a picture that passes is accepted and painted
-  read : (d : List ℕ) (p : Picture) (image new : List ℕ) (a : Answer) → Passed (size_of f) p (length d) (length image) → ReadsPicture f d p image a new → (a ≡ Done) × (new ≡ picture_of f p d image)
+  read : (d : List ℕ) (p : Picture) (image new : List ℕ) (a : Answer) → Passed (size_of f) p (length d) (length image) → ReadsPicture f d p image a new → (a ≡ (Ok tt)) × (new ≡ picture_of f p d image)
   read d p image new a k r =
       let e : said a ≡ 0 ∷ [] = r.says ∙ all_right (size_of f) p (length d) (length image) k in
-      (answer a Done e, an_acceptance_paints _ _ image new a r (ap accepts e))
+      (answer a (Ok tt) e, an_acceptance_paints _ _ image new a r (ap accepts e))
 
   -- one answer more
-  more_done : (a : Answer) (answers : List Answer) → a ≡ Done → ((k : ℕ) → get_or answers k Done ≡ Done) → (k : ℕ) → get_or (a ∷ answers) k Done ≡ Done
+  more_done : (a : Answer) (answers : List Answer) → a ≡ (Ok tt) → ((k : ℕ) → get_or answers k (Ok tt) ≡ (Ok tt)) → (k : ℕ) → get_or (a ∷ answers) k (Ok tt) ≡ (Ok tt)
   more_done a answers e h zero = e
   more_done a answers e h (suc k) = h k
 
   -- each band is accepted, and together they are the picture
   pub bands_of_what_passes : {cuts d image new : List ℕ} {p : Picture} {answers : List Answer} → Passed (size_of f) p (length d) (length image)
       → InBands f cuts d p image answers new
-      → ((k : ℕ) → get_or answers k Done ≡ Done) × (new ≡ picture_of f p d image)
+      → ((k : ℕ) → get_or answers k (Ok tt) ≡ (Ok tt)) × (new ≡ picture_of f p d image)
   bands_of_what_passes {d = d} {image = image} {new = new} {p = p} k (uncut {a = a} r) =
       let o = read d p image new a k r in
       (more_done a [] o.0 (λ i. refl), o.1)
@@ -143,7 +143,7 @@ module _ (f : Format) where
   module _ (d : List ℕ) (p : Picture) (image whole : List ℕ) (a : Answer) (r : ReadsPicture f d p image a whole) (ok : accepts (said a) ≡ true) where
     -- "a picture read in bands, cut anywhere between block rows, is the picture": where the plain reader accepts, each band is accepted, and
     -- the parts of the image together are what the plain reader leaves
-    pub a_picture_in_bands_is_the_picture : (cuts new : List ℕ) (answers : List Answer) → InBands f cuts d p image answers new → ((k : ℕ) → get_or answers k Done ≡ Done) × (new ≡ whole)
+    pub a_picture_in_bands_is_the_picture : (cuts new : List ℕ) (answers : List Answer) → InBands f cuts d p image answers new → ((k : ℕ) → get_or answers k (Ok tt) ≡ (Ok tt)) × (new ≡ whole)
     a_picture_in_bands_is_the_picture cuts new answers b =
         let o = bands_of_what_passes (passed_by_lem (size_of f) p (length d) (length image) (0 ∷ []) a r.says ok) b in
         (o.0, o.1 ∙ sym (an_acceptance_paints _ _ image whole a r ok))
@@ -171,11 +171,11 @@ module _ (g : Guard) (sound : Sound g) (checks : List Check) (numbers : T (numbe
   -- and where no band has one it accepts, and the bands, painted by its own rule, are its picture
   pub bands_without_one_are_the_picture : blocks p ≤ found → Passed (size_of g.own) p (length d) (length image)
       → (new : List ℕ) (answers : List Answer)
-      → InBands g.own cuts d p image answers new → (a ≡ Done) × (new ≡ whole)
+      → InBands g.own cuts d p image answers new → (a ≡ (Ok tt)) × (new ≡ whole)
   bands_without_one_are_the_picture none k new answers b =
       let e = first_in_bands_lem g.bad (size_of g.own) cuts p d in
       let said-0 : said a ≡ 0 ∷ [] = r.says ∙ goes_on checks _ numbers ok ∙ finds_none g.number (bad_at g d) (blocks p) (omega (arith, e, none)) in (
-        answer a Done said-0,
+        answer a (Ok tt) said-0,
         (bands_of_what_passes g.own k b).1
             ∙ agree g sound p d image (omega (arith, e, none))
             ∙ sym (an_acceptance_paints _ _ image whole a r (ap accepts said-0)),
@@ -189,7 +189,7 @@ module _ (d : List ℕ) (p : Picture) (image whole : List ℕ) (a : Answer) (cut
     strict_names_the_first_of_the_first_band =
         names_the_first_of_the_first_band in_range strict_sound (strict_checks p d image) tt ok d p image whole a r cuts
 
-    pub strict_in_bands : blocks p ≤ first_in_bands in_range.bad 8 cuts p d → InBands in_range.own cuts d p image answers new → (a ≡ Done) × (new ≡ whole)
+    pub strict_in_bands : blocks p ≤ first_in_bands in_range.bad 8 cuts p d → InBands in_range.own cuts d p image answers new → (a ≡ (Ok tt)) × (new ≡ whole)
     unfolding size_of
     strict_in_bands none =
         bands_without_one_are_the_picture in_range strict_sound (strict_checks p d image) tt ok d p image whole a r cuts none
@@ -201,7 +201,7 @@ module _ (d : List ℕ) (p : Picture) (image whole : List ℕ) (a : Answer) (cut
     opaque_names_the_first_of_the_first_band =
         names_the_first_of_the_first_band opaque_only opaque_sound (opaque_checks p d image) tt ok d p image whole a r cuts
 
-    pub opaque_in_bands : blocks p ≤ first_in_bands opaque_only.bad 8 cuts p d → InBands opaque_only.own cuts d p image answers new → (a ≡ Done) × (new ≡ whole)
+    pub opaque_in_bands : blocks p ≤ first_in_bands opaque_only.bad 8 cuts p d → InBands opaque_only.own cuts d p image answers new → (a ≡ (Ok tt)) × (new ≡ whole)
     unfolding size_of
     opaque_in_bands none =
         bands_without_one_are_the_picture opaque_only opaque_sound (opaque_checks p d image) tt ok d p image whole a r cuts none

@@ -17,7 +17,7 @@ use Rattle.rules.specs.Channels.{with_alpha, alpha_byte, eac_byte, or_channel}
 use Rattle.rules.specs.Desktop.{bc3_alpha, replaced}
 use Rattle.rules.specs.Formats.{size_of, shows_of}
 use Rattle.rules.specs.Readers.{block_verdict, block_painted, ReadsPicture, ReadsBlock, ReadsAlpha, ReadsChannel, ReplacesChannel}
-use Rattle.rules.specs.declared.Answer.{Answer}
+use Rattle.rules.specs.Answers.{Answer}
 use Rattle.rules.specs.declared.Format.{Format}
 use Rattle.blocks.proofs.Alone.{small}
 use Rattle.laws.proofs.Paint.{painted_same}

@@ -10,6 +10,8 @@ use native.Mathlib.Omega.{arith}
 use native.Mathlib.Decide.{dec_lt}
 use lib.Dec.{eqb, ltb}
 use lib.ListN.{length, get_or, drop}
+use Rattle.std.specs.Prelude.{Result, Ok}
+use Rattle.laws.proofs.Unique.{one_result}
 use Rattle.rules.specs.Notation.{byte}
 use Rattle.rules.specs.Places.{sized, blocks, bytes_of, Alike}
 use Rattle.rules.specs.Answers.{said, accepts, limit, too_large_lem, verdict, first_of, guarded}
@@ -18,17 +20,14 @@ use Rattle.rules.specs.Formats.{size_of}
 use Rattle.rules.specs.Readers.{strict_checks, ReadsStrict}
 use Rattle.rules.specs.Census.{Test, more, count_of, counted, counts, t_block, h_block, planar_block_lem, rgb_tests, rgba1_tests}
 use Rattle.rules.specs.Census.{census_checks, census, rgb_values, rgb_said, rgba1_values, rgba1_said, CountsRgb, CountsRgba1}
-use Rattle.rules.specs.declared.Answer.{Answer}
+use Rattle.rules.specs.Answers.{Answer}
 use Rattle.rules.specs.declared.Picture.{Picture}
 use Rattle.rules.specs.declared.Kind.{Kind}
 use Rattle.rules.specs.declared.Kind.TheVariants.{Individual, Differential, T, H, Planar}
 use Rattle.rules.specs.declared.RgbCounts.{RgbCounts}
 use Rattle.rules.specs.declared.KindCounts.{KindCounts}
 use Rattle.rules.specs.declared.Rgba1Counts.{Rgba1Counts}
-use Rattle.rules.specs.declared.RgbCensus.{RgbCensus}
-use Rattle.rules.specs.declared.RgbCensus.TheVariants as rgb
-use Rattle.rules.specs.declared.Rgba1Census.{Rgba1Census}
-use Rattle.rules.specs.declared.Rgba1Census.TheVariants as rgba1
+use Rattle.rules.specs.declared.Refusal.{Refusal}
 use Rattle.laws.specs.Sorted.{met, holding, total, eight}
 use Rattle.laws.proofs.Counts.{same_below, first_then_counted, counted_then_first, joined, adds_up, only_one}
 use Rattle.laws.proofs.Guards.{finds, finds_none}
@@ -51,58 +50,42 @@ module _ (d : List ℕ) (p : Picture) where
       ap (drop 1) (e ∙ all_pass checks then (passed checks then tt (sym (ap accepts e))))
 
   -- "Each count has its own definition, none is got by subtraction"
-  pub each_rgb_count : (c : RgbCounts) → CountsRgb d p (rgb.Counted c) → rgb_values c ≡ counts (bytes_of 8 d) (blocks p) rgb_tests
+  pub each_rgb_count : (c : RgbCounts) → CountsRgb d p (Ok c) → rgb_values c ≡ counts (bytes_of 8 d) (blocks p) rgb_tests
   each_rgb_count c e = counted_of rgb_tests (rgb_values c) e
 
-  pub each_rgba1_count : (c : Rgba1Counts) → CountsRgba1 d p (rgba1.Counted c) → rgba1_values c ≡ counts (bytes_of 8 d) (blocks p) rgba1_tests
+  pub each_rgba1_count : (c : Rgba1Counts) → CountsRgba1 d p (Ok c) → rgba1_values c ≡ counts (bytes_of 8 d) (blocks p) rgba1_tests
   each_rgba1_count c e = counted_of rgba1_tests (rgba1_values c) e
 
   -- "and together they make the number of blocks": of each list of tests, a block meets exactly one
   exact : (split : Bool) (b : List ℕ) → holding (met (eight split) b) ≡ 1
   exact split b = only_one (met (eight split) b) _ (sorts split b (differs b) _ refl refl)
 
-  pub rgb_counts_add_up : (c : RgbCounts) → CountsRgb d p (rgb.Counted c) → c.individual + c.differential + c.t + c.h + c.planar ≡ blocks p
+  pub rgb_counts_add_up : (c : RgbCounts) → CountsRgb d p (Ok c) → c.individual + c.differential + c.t + c.h + c.planar ≡ blocks p
   rgb_counts_add_up c e =
       omega (arith, ap total (each_rgb_count c e), adds_up (bytes_of 8 d) rgb_tests (λ k. exact false (bytes_of 8 d k)) (blocks p))
 
-  pub rgba1_counts_add_up : (c : Rgba1Counts) → CountsRgba1 d p (rgba1.Counted c) → together c.opaque + together c.clear ≡ blocks p
+  pub rgba1_counts_add_up : (c : Rgba1Counts) → CountsRgba1 d p (Ok c) → together c.opaque + together c.clear ≡ blocks p
   rgba1_counts_add_up c e =
       omega (arith, ap total (each_rgba1_count c e), adds_up (bytes_of 8 d) rgba1_tests (λ k. exact true (bytes_of 8 d k)) (blocks p))
 
 -- no second answer: what is said has one answer that says it
-rgb_of : List ℕ → RgbCensus
-rgb_of l =
-    cond (eqb (get_or l 0 0) 1) rgb.TooLarge
-    (cond (eqb (get_or l 0 0) 2) rgb.ShortData
-    (rgb.Counted (record { individual = get_or l 1 0; differential = get_or l 2 0; t = get_or l 3 0; h = get_or l 4 0; planar = get_or l 5 0 })))
+rgb_of : List ℕ → RgbCounts
+rgb_of l = record { individual = get_or l 0 0; differential = get_or l 1 0; t = get_or l 2 0; h = get_or l 3 0; planar = get_or l 4 0 }
 
-rgb_back : (a : RgbCensus) → rgb_of (rgb_said a) ≡ a
-unfolding rgb_of
-rgb_back (rgb.Counted c) = refl
-rgb_back rgb.TooLarge = refl
-rgb_back rgb.ShortData = refl
-
-rgba1_of : List ℕ → Rgba1Census
+rgba1_of : List ℕ → Rgba1Counts
 rgba1_of l =
-    cond (eqb (get_or l 0 0) 1) rgba1.TooLarge
-    (cond (eqb (get_or l 0 0) 2) rgba1.ShortData
-    (rgba1.Counted
-    (record {
-      opaque = record { differential = get_or l 1 0; t = get_or l 2 0; h = get_or l 3 0; planar = get_or l 4 0 };
-      clear = record { differential = get_or l 5 0; t = get_or l 6 0; h = get_or l 7 0; planar = get_or l 8 0 };
-    })))
+    record {
+      opaque = record { differential = get_or l 0 0; t = get_or l 1 0; h = get_or l 2 0; planar = get_or l 3 0 };
+      clear = record { differential = get_or l 4 0; t = get_or l 5 0; h = get_or l 6 0; planar = get_or l 7 0 };
+    }
 
-rgba1_back : (a : Rgba1Census) → rgba1_of (rgba1_said a) ≡ a
+pub rgb_census_determined : (d : List ℕ) (p : Picture) (a b : Result RgbCounts Refusal) → CountsRgb d p a → CountsRgb d p b → a ≡ b
+unfolding rgb_of
+rgb_census_determined d p a b e f = one_result rgb_values rgb_of (λ c. refl) a b (e ∙ sym f)
+
+pub rgba1_census_determined : (d : List ℕ) (p : Picture) (a b : Result Rgba1Counts Refusal) → CountsRgba1 d p a → CountsRgba1 d p b → a ≡ b
 unfolding rgba1_of
-rgba1_back (rgba1.Counted c) = refl
-rgba1_back rgba1.TooLarge = refl
-rgba1_back rgba1.ShortData = refl
-
-pub rgb_census_determined : (d : List ℕ) (p : Picture) (a b : RgbCensus) → CountsRgb d p a → CountsRgb d p b → a ≡ b
-rgb_census_determined d p a b e f = sym (rgb_back a) ∙ ap rgb_of (e ∙ sym f) ∙ rgb_back b
-
-pub rgba1_census_determined : (d : List ℕ) (p : Picture) (a b : Rgba1Census) → CountsRgba1 d p a → CountsRgba1 d p b → a ≡ b
-rgba1_census_determined d p a b e f = sym (rgba1_back a) ∙ ap rgba1_of (e ∙ sym f) ∙ rgba1_back b
+rgba1_census_determined d p a b e f = one_result rgba1_values rgba1_of (λ c. refl) a b (e ∙ sym f)
 
 -- a block is counted as the kind by which it is read
 abbrev pub marks : Kind → List Bool
@@ -189,13 +172,13 @@ the_census_takes_no_pitch tests d p = refl
 -- "include that check 12 passes", and M-107 "an exact data length"
 module _ (d : List ℕ) (p : Picture) (old : List ℕ) (ok : 0 ∷ [] ≡ verdict (strict_checks p d old)) where
   -- there the census counts
-  pub the_census_counts_there : (r : RgbCensus) → CountsRgb d p r → accepts (rgb_said r) ≡ true
+  pub the_census_counts_there : (r : Result RgbCounts Refusal) → CountsRgb d p r → accepts (rgb_said r) ≡ true
   the_census_counts_there r q =
       let k = passed (strict_checks p d old) (0 ∷ []) tt (sym (ap accepts ok)) in
       let sides = (neither (too_large_lem limit p) (ltb limit p.pitch) k.first).0 in
       ap accepts (q ∙ all_pass (census_checks p (length d)) _ (record { first = sides; rest = record { first = k.rest.rest.first; rest = record {} } }))
 
-  module _ (a : Answer) (new : List ℕ) (reads : ReadsStrict d p old a new) (c : RgbCounts) (q : CountsRgb d p (rgb.Counted c)) where
+  module _ (a : Answer) (new : List ℕ) (reads : ReadsStrict d p old a new) (c : RgbCounts) (q : CountsRgb d p (Ok c)) where
     abbrev n : ℕ
     n = blocks p
 

@@ -12,7 +12,7 @@ use lib.ListN.{length, get_or}
 use Rattle.rules.specs.Colour.{out_of_range_lem}
 use Rattle.rules.specs.Pixel.{red_of, green_of, blue_of}
 use Rattle.rules.specs.Checking.{apart, near, farthest, pixel, like, largest, check_verdict, Checks}
-use Rattle.rules.specs.declared.Baking.TheVariants.{Done}
+use Rattle.std.specs.Prelude.{Ok}
 use Rattle.bake.proofs.baking.Each.{each_at, each_all}
 use Rattle.bake.proofs.baking.Near.{near_farthest, like_largest}
 
@@ -56,7 +56,7 @@ sorted false false false true e = (refl, refl, refl, refl)
 sorted false false false false e = absurd (nonzero 17 e)
 
 -- "A checker accepts exactly if": it accepts only then,
-pub accepts_only : (t : ℕ) (d tile : List ℕ) → Checks t d tile Done → Accepts t d tile
+pub accepts_only : (t : ℕ) (d tile : List ℕ) → Checks t d tile (Ok tt) → Accepts t d tile
 unfolding check_verdict
 accepts_only t d tile e =
     let s = sorted (ltb (length d) 8) (ltb (length tile) 16) (out_of_range_lem d) (like t d tile) e in
@@ -75,7 +75,7 @@ module _ (t : ℕ) (d tile : List ℕ) (h : 8 ≤ length d) (i : 16 ≤ length t
       rw (le-ltb (length d) 8 h, le-ltb (length tile) 16 i, e) (ap (λ (b : Bool). cond b (0 ∷ []) (18 ∷ [])) (like_largest t d tile))
 
 -- and it accepts then
-pub accepts_all : (t : ℕ) (d tile : List ℕ) → Accepts t d tile → Checks t d tile Done
+pub accepts_all : (t : ℕ) (d tile : List ℕ) → Accepts t d tile → Checks t d tile (Ok tt)
 unfolding check_verdict
 accepts_all t d tile p =
     let l = each_all (λ k. near t (pixel d k) (get_or tile k 0)) 16 (λ k h. means_near t (pixel d k) (get_or tile k 0) (p.close k h)) in

@@ -17,8 +17,8 @@ use Rattle.rules.specs.Readers.{picture_of, picture_verdict, ReadsPicture}
 use Rattle.rules.specs.Pieces.{whole, got, finished, held, completed, behind_last, after, image_after, padded, in_run, fresh}
 use Rattle.rules.specs.Pieces.{start_checks, piece_verdict, end_checks, Starts, Takes, Ends}
 use Rattle.rules.specs.Pieces.{used, wholes, state_of, so_far, joined, Course, nothing, followed}
-use Rattle.rules.specs.declared.Answer.{Answer}
-use Rattle.rules.specs.declared.Answer.TheVariants.{Done}
+use Rattle.rules.specs.Answers.{Answer}
+use Rattle.std.specs.Prelude.{Ok, Err}
 use Rattle.rules.specs.declared.Format.{Format}
 use Rattle.rules.specs.declared.Picture.{Picture}
 use Rattle.rules.specs.declared.Progress.{Progress}
@@ -290,7 +290,7 @@ module _ (f : Format) (pic : Picture) (image : List ℕ) (es : List (List ℕ)) 
       ∙ the_plain_answer f pic (joined es) image h
       ∙ sym r.says)
 
-  module _ (other : List ℕ) (r : ReadsPicture f (joined es) pic image Done other) where
+  module _ (other : List ℕ) (r : ReadsPicture f (joined es) pic image (Ok tt) other) where
     enough : blocks pic * size_of f ≤ length (joined es)
     enough = (picture-passed (size_of f) pic (length (joined es)) (length image) (0 ∷ []) (ap accepts (sym r.says))).enough
 
@@ -306,7 +306,7 @@ module _ (f : Format) (pic : Picture) (image : List ℕ) (es : List (List ℕ)) 
 
 -- a whole picture in one piece is what the plain reader shows
 pub in_one_piece : (f : Format) (pic : Picture) (d image : List ℕ) (r : Taken) (new other : List ℕ)
-    → Takes (fresh f pic) d image r new → accepts (said r.answer) ≡ true → ReadsPicture f d pic image Done other → new ≡ other
+    → Takes (fresh f pic) d image r new → accepts (said r.answer) ≡ true → ReadsPicture f d pic image (Ok tt) other → new ≡ other
 in_one_piece f pic d image r new other t y p =
     the_picture_is_the_plain_one f pic image (d ∷ []) r.progress new (r.painted + 0) (r.unused + 0) (followed r t y nothing) other
-    (subst (λ (l : List ℕ). ReadsPicture f l pic image Done other) (sym (append-nil d)) p)
+    (subst (λ (l : List ℕ). ReadsPicture f l pic image (Ok tt) other) (sym (append-nil d)) p)

@@ -11,6 +11,7 @@ use lib.Dec.{T, leb, eqb, lit≤}
 use lib.ListN.{get_or, drop}
 use lib.Ieee.{Float, binary32, of_bits, fits}
 use lib.Ieee.Fits.{and_l, and_r, cond-fits, add-fits, sub-fits}
+use Rattle.std.specs.Prelude.{Result, Ok, Err}
 use Rattle.rules.specs.Pixel.{alpha_of, red_of}
 use Rattle.rules.specs.Answers.{refusal, judged}
 use Rattle.rules.specs.Floats.{plus, less, times, whole, float_bits, is_number, within}
@@ -18,15 +19,15 @@ use Rattle.rules.specs.Degrees.{line_at, predicted_at, in_degrees_lem, sound, on
 use Rattle.rules.specs.declared.Legend.{Legend}
 use Rattle.rules.specs.declared.Legend.TheVariants.{Level, Line, Bend}
 use Rattle.rules.specs.declared.Reading.{Reading}
-use Rattle.rules.specs.declared.Reply.{Reply}
-use Rattle.rules.specs.declared.Reply.TheVariants.{Read, NotMeasured, BadLegend, BadDigit, BadMeasurement}
+use Rattle.rules.specs.declared.NoReading.{NoReading}
+use Rattle.rules.specs.declared.NoReading.TheVariants.{NotMeasured, BadLegend, BadDigit, BadMeasurement}
 use Rattle.degrees.proofs.floats.Predicted.{predicted_within}
 use Rattle.degrees.proofs.floats.Within.{less_within, is_number_lem}
 use Rattle.degrees.proofs.floats.Unique.{same_float, one_reply}
 
 -- no second answer satisfies the promise
 pub degrees_determined :
-    (legend : Legend) (named shown pixel : ℕ) (measured : Float) (a b : Reply)
+    (legend : Legend) (named shown pixel : ℕ) (measured : Float) (a b : Result Reading NoReading)
     → ReadsDegrees legend named shown pixel measured a
     → ReadsDegrees legend named shown pixel measured b
     → a ≡ b
@@ -74,56 +75,56 @@ module _ (legend : Legend) (named shown pixel : ℕ) (measured : Float) where
   abbrev A : Bool
   A = eqb (alpha_of pixel) 0
 
-  module _ (reply : Reply) (p : ReadsDegrees legend named shown pixel measured reply) where
-    one : (other : Reply) → ReadsDegrees legend named shown pixel measured other → reply ≡ other
+  module _ (reply : Result Reading NoReading) (p : ReadsDegrees legend named shown pixel measured reply) where
+    one : (other : Result Reading NoReading) → ReadsDegrees legend named shown pixel measured other → reply ≡ other
     one other q = one_reply legend named shown pixel measured reply other p q
 
-    tests : (other : Reply) → reply ≡ other → told (get_or (degrees_said other) 0 0) L D M A ≡ true
+    tests : (other : Result Reading NoReading) → reply ≡ other → told (get_or (degrees_said other) 0 0) L D M A ≡ true
     tests other e =
         subst (λ (l : List ℕ). told (get_or l 0 0) L D M A ≡ true) (sym p.says ∙ ap degrees_said e) (tells L D M A due_bits)
 
     -- "A legend is refused with 13 unless" it is sound: exactly then, whatever else is wrong
-    pub a_legend_is_refused_only_out_of_range : reply ≡ BadLegend → sound legend ≡ false
-    a_legend_is_refused_only_out_of_range e = not-true L (tests BadLegend e)
+    pub a_legend_is_refused_only_out_of_range : reply ≡ Err BadLegend → sound legend ≡ false
+    a_legend_is_refused_only_out_of_range e = not-true L (tests (Err BadLegend) e)
 
-    pub a_legend_out_of_range_is_refused : sound legend ≡ false → reply ≡ BadLegend
-    a_legend_out_of_range_is_refused l = one BadLegend (record { says = rw l; holds = tt })
+    pub a_legend_out_of_range_is_refused : sound legend ≡ false → reply ≡ Err BadLegend
+    a_legend_out_of_range_is_refused l = one (Err BadLegend) (record { says = rw l; holds = tt })
 
     -- "different digits, or one above 4, are refused with 14": exactly then, where the legend is sound
-    pub digits_are_refused_only_where_they_are_not_one : reply ≡ BadDigit → (sound legend ≡ true) × (one_digit_lem named shown ≡ false)
+    pub digits_are_refused_only_where_they_are_not_one : reply ≡ Err BadDigit → (sound legend ≡ true) × (one_digit_lem named shown ≡ false)
     digits_are_refused_only_where_they_are_not_one e =
-        let t = both L (not D) (tests BadDigit e) in
+        let t = both L (not D) (tests (Err BadDigit) e) in
         (t.0, not-true D t.1)
 
-    pub digits_that_are_not_one_are_refused : sound legend ≡ true → one_digit_lem named shown ≡ false → reply ≡ BadDigit
-    digits_that_are_not_one_are_refused l d = one BadDigit (record { says = rw (l, d); holds = tt })
+    pub digits_that_are_not_one_are_refused : sound legend ≡ true → one_digit_lem named shown ≡ false → reply ≡ Err BadDigit
+    digits_that_are_not_one_are_refused l d = one (Err BadDigit) (record { says = rw (l, d); holds = tt })
 
     -- "a measurement outside -720 to 720, or not a number, with 15": exactly then, where both pass
-    pub a_measurement_is_refused_only_out_of_range : reply ≡ BadMeasurement → (sound legend ≡ true) × (one_digit_lem named shown ≡ true) × (in_degrees_lem measured ≡ false)
+    pub a_measurement_is_refused_only_out_of_range : reply ≡ Err BadMeasurement → (sound legend ≡ true) × (one_digit_lem named shown ≡ true) × (in_degrees_lem measured ≡ false)
     a_measurement_is_refused_only_out_of_range e =
-        let t = both L (D && not M) (tests BadMeasurement e) in
+        let t = both L (D && not M) (tests (Err BadMeasurement) e) in
         let u = both D (not M) t.1 in
         (t.0, u.0, not-true M u.1)
 
-    pub a_measurement_out_of_range_is_refused : sound legend ≡ true → one_digit_lem named shown ≡ true → in_degrees_lem measured ≡ false → reply ≡ BadMeasurement
-    a_measurement_out_of_range_is_refused l d m = one BadMeasurement (record { says = rw (l, d, m); holds = tt })
+    pub a_measurement_out_of_range_is_refused : sound legend ≡ true → one_digit_lem named shown ≡ true → in_degrees_lem measured ≡ false → reply ≡ Err BadMeasurement
+    a_measurement_out_of_range_is_refused l d m = one (Err BadMeasurement) (record { says = rw (l, d, m); holds = tt })
 
     -- "then a pixel of alpha 0 answers 'not measured'": exactly then, where all three pass
-    pub only_alpha_0_is_not_measured : reply ≡ NotMeasured → (sound legend ≡ true) × (one_digit_lem named shown ≡ true) × (in_degrees_lem measured ≡ true) × (alpha_of pixel ≡ 0)
+    pub only_alpha_0_is_not_measured : reply ≡ Err NotMeasured → (sound legend ≡ true) × (one_digit_lem named shown ≡ true) × (in_degrees_lem measured ≡ true) × (alpha_of pixel ≡ 0)
     only_alpha_0_is_not_measured e =
-        let t = both L (D && (M && A)) (tests NotMeasured e) in
+        let t = both L (D && (M && A)) (tests (Err NotMeasured) e) in
         let u = both D (M && A) t.1 in
         let v = both M A u.1 in
         (t.0, u.0, v.0, eqb-true (alpha_of pixel) 0 v.1)
 
-    pub alpha_0_is_not_measured : sound legend ≡ true → one_digit_lem named shown ≡ true → in_degrees_lem measured ≡ true → alpha_of pixel ≡ 0 → reply ≡ NotMeasured
-    alpha_0_is_not_measured l d m a = one NotMeasured (record { says = rw (l, d, m, eq-eqb (alpha_of pixel) 0 a); holds = tt })
+    pub alpha_0_is_not_measured : sound legend ≡ true → one_digit_lem named shown ≡ true → in_degrees_lem measured ≡ true → alpha_of pixel ≡ 0 → reply ≡ Err NotMeasured
+    alpha_0_is_not_measured l d m a = one (Err NotMeasured) (record { says = rw (l, d, m, eq-eqb (alpha_of pixel) 0 a); holds = tt })
 
-  module _ (r : Reading) (p : ReadsDegrees legend named shown pixel measured (Read r)) where
+  module _ (r : Reading) (p : ReadsDegrees legend named shown pixel measured (Ok r)) where
     -- a reading has passed all four
     passes : (L ≡ true) × (D ≡ true) × (M ≡ true) × (A ≡ false)
     passes =
-        let t = both L (D && (M && not A)) (tests (Read r) p (Read r) refl) in
+        let t = both L (D && (M && not A)) (tests (Ok r) p (Ok r) refl) in
         let u = both D (M && not A) t.1 in
         let v = both M (not A) u.1 in
         (t.0, u.0, v.0, not-true A v.1)
@@ -156,18 +157,18 @@ module _ (legend : Legend) (named shown pixel : ℕ) (measured : Float) where
     different_digits_never_give_a_reading n = n a_reading_is_of_one_digit.0
 
 -- readings that predict the same bits predict the same
-same_predicted : (r s : Reading) → T (in_numbers (Read r)) → T (in_numbers (Read s)) → float_bits r.predicted ≡ float_bits s.predicted → r.predicted ≡ s.predicted
+same_predicted : (r s : Reading) → T (in_numbers (Ok r)) → T (in_numbers (Ok s)) → float_bits r.predicted ≡ float_bits s.predicted → r.predicted ≡ s.predicted
 same_predicted r s h k e = sym (back r h) ∙ ap (of_bits binary32) e ∙ back s k
   where
-    back : (r : Reading) → T (in_numbers (Read r)) → of_bits binary32 (float_bits r.predicted) ≡ r.predicted
+    back : (r : Reading) → T (in_numbers (Ok r)) → of_bits binary32 (float_bits r.predicted) ≡ r.predicted
     back r h = same_float r.predicted (and_l (is_number r.predicted) (is_number r.measured && is_number r.difference) h)
 
 -- what is predicted depends on red alone: two readings of one legend at pixels of one red predict the same, whatever
 -- the rest of the pixels, the digits and the measurements
 pub predicted_depends_on_red_alone :
     (legend : Legend) (n m k l p q : ℕ) (x y : Float) (r s : Reading)
-    → ReadsDegrees legend n m p x (Read r)
-    → ReadsDegrees legend k l q y (Read s)
+    → ReadsDegrees legend n m p x (Ok r)
+    → ReadsDegrees legend k l q y (Ok s)
     → red_of p ≡ red_of q
     → r.predicted ≡ s.predicted
 predicted_depends_on_red_alone legend n m k l p q x y r s a b e =
@@ -175,7 +176,7 @@ predicted_depends_on_red_alone legend n m k l p q x y r s a b e =
     (predicted_by_bits legend n m p x r a ∙ ap (λ (z : ℕ). float_bits (predicted_at legend z)) e ∙ sym (predicted_by_bits legend k l q y s b))
 
 -- and that of a level not even on red
-pub a_level_ignores_red : (v : Float) (n m k l p q : ℕ) (x y : Float) (r s : Reading) → ReadsDegrees (Level v) n m p x (Read r) → ReadsDegrees (Level v) k l q y (Read s) → r.predicted ≡ s.predicted
+pub a_level_ignores_red : (v : Float) (n m k l p q : ℕ) (x y : Float) (r s : Reading) → ReadsDegrees (Level v) n m p x (Ok r) → ReadsDegrees (Level v) k l q y (Ok s) → r.predicted ≡ s.predicted
 a_level_ignores_red v n m k l p q x y r s a b =
     same_predicted r s a.holds b.holds (predicted_by_bits (Level v) n m p x r a ∙ sym (predicted_by_bits (Level v) k l q y s b))
 
@@ -234,7 +235,7 @@ below_256 p = omega arith
 
 -- and so in the promise: any reading that it allows holds these values, and none of them is infinite or a NaN
 module _ (legend : Legend) (named shown pixel : ℕ) (measured : Float) (r : Reading)
-    (p : ReadsDegrees legend named shown pixel measured (Read r)) (f : T (are_single legend)) (g : T (fits binary32 measured)) where
+    (p : ReadsDegrees legend named shown pixel measured (Ok r)) (f : T (are_single legend)) (g : T (fits binary32 measured)) where
   abbrev predicted : Float
   predicted = predicted_at legend (red_of pixel)
 

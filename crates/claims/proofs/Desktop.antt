@@ -15,7 +15,7 @@ use Rattle.rules.specs.Pixel.{word, alpha_of}
 use Rattle.rules.specs.Answers.{said, left}
 use Rattle.rules.specs.Desktop.{half_word_lem, rgb565, mix, opaque, mixture, palette, has_four, colour_index, bc1_pixel, bc3_alpha, bc3_pixel, replaced}
 use Rattle.rules.specs.Readers.{channel_verdict, replaced_painted, ReplacesChannel}
-use Rattle.rules.specs.declared.Answer.{Answer}
+use Rattle.rules.specs.Answers.{Answer}
 
 -- "Divisions by 2, 3, 5 and 7 round down": a mixture is the whole part of the exact fraction (m * a + n * b) / (m + n)
 pub a_mixture_is_no_more_than_the_fraction : (m n a b : ℕ) → mix m n a b * (m + n) ≤ m * a + n * b

@@ -18,8 +18,8 @@ use Rattle.rules.specs.Places.{element, needed, inside, column, row, block_of, b
 use Rattle.rules.specs.Answers.{verdict, picture_checks}
 use Rattle.rules.specs.Channels.{multiplier, alpha_step, eac_byte}
 use Rattle.rules.specs.Whole.{between, middle, byte_from, sixteen, eac_whole_lem, whole_pixel, whole_at, whole_picture, whole_checks, ReadsWhole}
-use Rattle.rules.specs.declared.Answer.{Answer}
-use Rattle.rules.specs.declared.Answer.TheVariants.{Done}
+use Rattle.rules.specs.Answers.{Answer}
+use Rattle.std.specs.Prelude.{Ok, Err}
 use Rattle.rules.specs.declared.Picture.{Picture}
 use Rattle.laws.proofs.Paint.{get_d_painted}
 use Rattle.laws.proofs.Signed.{neg}
@@ -129,18 +129,18 @@ before_end false e m n c h i j = omega arith
 
 module _ (green signed : Bool) (d : List ℕ) (pic : Picture) (image : List ℕ) where
   -- each number that a reader has put is the whole value of its own block and place
-  pub every_number_of_a_picture : (new : List ℕ) → ReadsWhole signed (lanes green) d pic image Done new
+  pub every_number_of_a_picture : (new : List ℕ) → ReadsWhole signed (lanes green) d pic image (Ok tt) new
       → (x y c : ℕ) → x < pic.width → y < pic.height → c < lanes green
       → get_or new (place green pic x y c) 0 ≡ whole_pixel signed c (bytes_of (lanes green * 8) d (block_of pic x y)) (x % 4) (y % 4)
   every_number_of_a_picture new p x y c i j h =
       let n = lanes green in
       let k = place green pic x y c in
-      let passed = passed_by_lem (n * 8) pic (length d) (length image / n) (0 ∷ []) Done (p.says ∙ the_refusals_are_a_pictures green pic (length d) (length image)) refl in
+      let passed = passed_by_lem (n * 8) pic (length d) (length image / n) (0 ∷ []) (Ok tt) (p.says ∙ the_refusals_are_a_pictures green pic (length d) (length image)) refl in
       let fits = ready green pic (n * 8) (length d) (length image) passed in
       let own = inside_at pic fits.fits x y i j in
       let at = its_pixel green pic x y c h in
       let there : k < length image = before_end green (element pic x y) (needed pic) (length image) c (within pic (element pic x y) own) h fits.roomy in
-      ap (λ (l : List ℕ). get_or l k 0) (an_acceptance_paints _ (whole_picture signed n pic d image) image new Done p refl)
+      ap (λ (l : List ℕ). get_or l k 0) (an_acceptance_paints _ (whole_picture signed n pic d image) image new (Ok tt) p refl)
       ∙ get_d_painted (λ k. inside pic (k / n)) (whole_at signed n pic d) image k there
       ∙ ap (λ (t : Bool). cond t (whole_at signed n pic d k) (get_or image k 0)) (holds (inside pic (k / n)) (subst (λ (m : ℕ). T (inside pic m)) (sym at) own))
       ∙ ap (λ (m : ℕ). whole_pixel signed (k % n) (bytes_of (n * 8) d (block_at pic m)) (column pic m % 4) (row pic m % 4)) at
@@ -149,14 +149,14 @@ module _ (green signed : Bool) (d : List ℕ) (pic : Picture) (image : List ℕ)
 
   -- one block changes the numbers of its own tile alone
   pub one_block_changes_its_own_numbers : (e new new' : List ℕ) (n : ℕ) → Beside (lanes green * 8) pic n d e
-      → ReadsWhole signed (lanes green) d pic image Done new
-      → ReadsWhole signed (lanes green) e pic image Done new'
+      → ReadsWhole signed (lanes green) d pic image (Ok tt) new
+      → ReadsWhole signed (lanes green) e pic image (Ok tt) new'
       → OnlyInTileBy (λ k. k / lanes green) pic n new new'
   one_block_changes_its_own_numbers e new new' n z p q =
       let m = lanes green in
-      subst (λ (l : List ℕ). OnlyInTileBy (λ k. k / m) pic n l new') (sym (an_acceptance_paints _ (whole_picture signed m pic d image) image new Done p refl))
+      subst (λ (l : List ℕ). OnlyInTileBy (λ k. k / m) pic n l new') (sym (an_acceptance_paints _ (whole_picture signed m pic d image) image new (Ok tt) p refl))
       (subst (λ (l : List ℕ). OnlyInTileBy (λ k. k / m) pic n (whole_picture signed m pic d image) l)
-      (sym (an_acceptance_paints _ (whole_picture signed m pic e image) image new' Done q refl))
+      (sym (an_acceptance_paints _ (whole_picture signed m pic e image) image new' (Ok tt) q refl))
       (beside_by (m * 8) pic d e (λ k. k / m) (whole_at signed m pic d) (whole_at signed m pic e) n z
       (λ k z. ap (λ (l : List ℕ). whole_pixel signed (k % m) l (column pic (k / m) % 4) (row pic (k / m) % 4)) z)
       image))

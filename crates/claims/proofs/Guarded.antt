@@ -15,8 +15,8 @@ use Rattle.rules.specs.Answers.{said, accepts, Check, verdict, first_of, guarded
 use Rattle.rules.specs.Formats.{size_of, shows_of}
 use Rattle.rules.specs.Guards.{Guard, bad_at}
 use Rattle.rules.specs.Readers.{picture_of, ReadsPicture, ReadsGuarded}
-use Rattle.rules.specs.declared.Answer.{Answer}
-use Rattle.rules.specs.declared.Answer.TheVariants.{Done}
+use Rattle.rules.specs.Answers.{Answer}
+use Rattle.std.specs.Prelude.{Ok, Err}
 use Rattle.rules.specs.declared.Picture.{Picture}
 use Rattle.laws.proofs.First.{first, first_alike}
 use Rattle.laws.proofs.Guards.{Sound, finds, finds_none}
@@ -53,7 +53,7 @@ module _ (g : Guard) (sound : Sound g) (name : ℕ → Answer) (spoken : (n : �
 
   -- the picture was painted by the rule that is shown, which is then its own rule too
   pub record Accepted : Type 0 where
-    pub accepted : a ≡ Done
+    pub accepted : a ≡ (Ok tt)
     pub shows : new ≡ picture_of g.shown pic d image
     pub shows_own : new ≡ picture_of g.own pic d image
 
@@ -84,7 +84,7 @@ module _ (g : Guard) (sound : Sound g) (name : ℕ → Answer) (spoken : (n : �
     pub accepts_otherwise : ((n : ℕ) → n < blocks pic → bad_at g d n ≡ false) → Accepted
     accepts_otherwise f =
         let l = none (bad_at g d) (blocks pic) f in
-        let e : a ≡ Done = answer a Done (left ∙ finds_none g.number (bad_at g d) (blocks pic) l) in
+        let e : a ≡ (Ok tt) = answer a (Ok tt) (left ∙ finds_none g.number (bad_at g d) (blocks pic) l) in
         let painted = an_acceptance_paints _ _ image new a p (ap (λ (x : Answer). accepts (said x)) e) in
         record { accepted = e; shows = painted; shows_own = painted ∙ sym (agree g sound pic d image l) }
 

@@ -16,8 +16,9 @@ use Rattle.rules.specs.Answers.{said, accepts, over_limit_lem, verdict, data_che
 use Rattle.rules.specs.Formats.{size_of}
 use Rattle.rules.specs.Guards.{in_range, bad_at}
 use Rattle.rules.specs.Readers.{strict_checks, ReadsPicture, ReadsStrict}
-use Rattle.rules.specs.declared.Answer.{Answer}
-use Rattle.rules.specs.declared.Answer.TheVariants.{Done, LongData}
+use Rattle.rules.specs.Answers.{Answer}
+use Rattle.rules.specs.declared.Refusal.TheVariants.{LongData}
+use Rattle.std.specs.Prelude.{Ok, Err}
 use Rattle.rules.specs.declared.Format.{Format}
 use Rattle.rules.specs.declared.Picture.{Picture}
 use Rattle.laws.proofs.Guards.{finds, finds_none}
@@ -69,21 +70,21 @@ module _ (d : List ℕ) (pic : Picture) (image : List ℕ) (a : Answer) (new : L
   then = guarded 4 (bad_at in_range d) (blocks pic)
 
   -- an accepted picture has as many bytes as its blocks need
-  pub strict_accepts_only_the_exact_length : a ≡ Done → length d ≡ blocks pic * 8
+  pub strict_accepts_only_the_exact_length : a ≡ (Ok tt) → length d ≡ blocks pic * 8
   strict_accepts_only_the_exact_length e =
       exact_length 8 pic (length d) (length image) then (sym (ap accepts p.says) ∙ ap (λ (x : Answer). accepts (said x)) e)
 
   -- "the strict reader refuses with 6 when there are more bytes than the blocks need", where 1 and 12 are not due; nothing changes
-  pub strict_refuses_leftovers : over_limit_lem pic ≡ false → pic.width ≤ pic.pitch → blocks pic * 8 < length d → Same a LongData new image
+  pub strict_refuses_leftovers : over_limit_lem pic ≡ false → pic.width ≤ pic.pitch → blocks pic * 8 < length d → Same a (Err LongData) new image
   strict_refuses_leftovers t i l =
       let told : said a ≡ 6 ∷ [] =
       p.says
       ∙ sixth (over_limit_lem pic) (ltb pic.pitch pic.width) (ltb (length d) (blocks pic * 8)) (ltb (blocks pic * 8) (length d)) _ t
       (le-ltb pic.pitch pic.width i) (le-ltb (length d) (blocks pic * 8) (omega (arith, l))) (lt-ltb (blocks pic * 8) (length d) l) in
-      (answer a LongData told, a_refusal_alters_nothing _ _ image new a p (ap accepts told))
+      (answer a (Err LongData) told, a_refusal_alters_nothing _ _ image new a p (ap accepts told))
 
   -- and with 6 only then
-  pub strict_answers_6_only_then : a ≡ LongData → blocks pic * 8 < length d
+  pub strict_answers_6_only_then : a ≡ Err LongData → blocks pic * 8 < length d
   strict_answers_6_only_then e =
       elim (dec_lt (blocks pic * 8) (length d)) [
         | yes h ↦ h
@@ -103,21 +104,21 @@ module _ (d : List ℕ) (pic : Picture) (image : List ℕ) (a : Answer) (new : L
     longer : blocks pic * size_of f ≤ length d → 0 < blocks pic → blocks pic * 8 < length d
     longer enough some = more_than_eight (blocks pic) (length d) (rw sixteen at enough) some
 
-    pub a_file_of_16_byte_blocks_is_never_accepted : length d ≡ blocks pic * size_of f → 0 < blocks pic → a ≡ Done → ⊥
+    pub a_file_of_16_byte_blocks_is_never_accepted : length d ≡ blocks pic * size_of f → 0 < blocks pic → a ≡ (Ok tt) → ⊥
     a_file_of_16_byte_blocks_is_never_accepted long some e =
         omega (arith, longer (omega (arith, long)) some, strict_accepts_only_the_exact_length e)
 
     -- it is refused with 6, where the size is none to refuse
-    pub a_file_of_16_byte_blocks_gets_6 : length d ≡ blocks pic * size_of f → 0 < blocks pic → over_limit_lem pic ≡ false → pic.width ≤ pic.pitch → Same a LongData new image
+    pub a_file_of_16_byte_blocks_gets_6 : length d ≡ blocks pic * size_of f → 0 < blocks pic → over_limit_lem pic ≡ false → pic.width ≤ pic.pitch → Same a (Err LongData) new image
     a_file_of_16_byte_blocks_gets_6 long some t i = strict_refuses_leftovers t i (longer (omega (arith, long)) some)
 
     -- a file without blocks is the one exception: it has no bytes under either name
-    pub unless_it_has_no_blocks : Empty pic → length d ≡ blocks pic * size_of f → over_limit_lem pic ≡ false → pic.width ≤ pic.pitch → Same a Done new image
+    pub unless_it_has_no_blocks : Empty pic → length d ≡ blocks pic * size_of f → over_limit_lem pic ≡ false → pic.width ≤ pic.pitch → Same a (Ok tt) new image
     unless_it_has_no_blocks e long t i =
         strict_changes_nothing_of_an_empty_picture d pic image a new p e t i (long ∙ rw (no_blocks pic e) (zero-mul (size_of f)))
 
     -- so no bytes of a picture with blocks are accepted both by a reader of 16-byte blocks and by strict ETC1, whatever the images
-    pub no_file_passes_both : (old new' : List ℕ) → ReadsPicture f d pic old Done new' → 0 < blocks pic → a ≡ Done → ⊥
+    pub no_file_passes_both : (old new' : List ℕ) → ReadsPicture f d pic old (Ok tt) new' → 0 < blocks pic → a ≡ (Ok tt) → ⊥
     no_file_passes_both old new' q some e =
-        let k : Passed (size_of f) pic (length d) (length old) = passed_by_lem (size_of f) pic (length d) (length old) (0 ∷ []) Done q.says refl in
+        let k : Passed (size_of f) pic (length d) (length old) = passed_by_lem (size_of f) pic (length d) (length old) (0 ∷ []) (Ok tt) q.says refl in
         omega (arith, longer k.enough some, strict_accepts_only_the_exact_length e)

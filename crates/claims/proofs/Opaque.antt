@@ -13,8 +13,9 @@ use Rattle.rules.specs.Answers.{said, accepts, over_limit_lem, left, verdict, gu
 use Rattle.rules.specs.Formats.{size_of, shows_of}
 use Rattle.rules.specs.Guards.{not_opaque, opaque_only}
 use Rattle.rules.specs.Readers.{picture_of, opaque_checks, opaque_verdict, ReadsPicture, ReadsOpaque}
-use Rattle.rules.specs.declared.Answer.{Answer}
-use Rattle.rules.specs.declared.Answer.TheVariants.{Done, NotOpaque}
+use Rattle.rules.specs.Answers.{Answer}
+use Rattle.rules.specs.declared.Refusal.TheVariants.{NotOpaque}
+use Rattle.std.specs.Prelude.{Ok, Err}
 use Rattle.rules.specs.declared.Format.TheVariants.{Etc2Rgb, Etc2Rgba1}
 use Rattle.rules.specs.declared.Picture.{Picture}
 use Rattle.laws.proofs.Guards.{opaque_sound, finds_none, none_bad}
@@ -41,10 +42,10 @@ clear d n = not_opaque (bytes_of 8 d n)
 
 -- the refusal with 11 that names the first such block, and the acceptance, by the RGBA1 rule and by the RGB rule
 abbrev pub Refused : List ℕ → Picture → List ℕ → Answer → List ℕ → Type 0
-Refused = guarded-claims.Refused opaque_only opaque_sound NotOpaque (λ n. refl)
+Refused = guarded-claims.Refused opaque_only opaque_sound (λ n. Err (NotOpaque n)) (λ n. refl)
 
 abbrev pub Accepted : List ℕ → Picture → List ℕ → Answer → List ℕ → Type 0
-Accepted = guarded-claims.Accepted opaque_only opaque_sound NotOpaque (λ n. refl)
+Accepted = guarded-claims.Accepted opaque_only opaque_sound (λ n. Err (NotOpaque n)) (λ n. refl)
 
 -- "Checks 1, 12, 2, 3 come first."
 module _ (d : List ℕ) (pic : Picture) (image : List ℕ) (a : Answer) (new : List ℕ) (p : ReadsOpaque d pic image a new)
@@ -53,18 +54,18 @@ module _ (d : List ℕ) (pic : Picture) (image : List ℕ) (a : Answer) (new : L
   pub opaque_refuses_and_names_the_first : (n : ℕ) → n < blocks pic → clear d n ≡ true → Refused d pic image a new
   unfolding size_of
   opaque_refuses_and_names_the_first =
-      guarded-claims.refuses_and_names_the_first opaque_only opaque_sound NotOpaque (λ n. refl) d pic image a new
+      guarded-claims.refuses_and_names_the_first opaque_only opaque_sound (λ n. Err (NotOpaque n)) (λ n. refl) d pic image a new
       (opaque_checks pic d image) tt p ok
 
   -- "exactly"; and "Where it accepts, every pixel equals the Khronos RGB reading and the RGBA1 reading of the same bytes."
   pub opaque_accepts_otherwise : ((n : ℕ) → n < blocks pic → clear d n ≡ false) → Accepted d pic image a new
   unfolding size_of
   opaque_accepts_otherwise =
-      guarded-claims.accepts_otherwise opaque_only opaque_sound NotOpaque (λ n. refl) d pic image a new (opaque_checks pic d image) tt p ok
+      guarded-claims.accepts_otherwise opaque_only opaque_sound (λ n. Err (NotOpaque n)) (λ n. refl) d pic image a new (opaque_checks pic d image) tt p ok
 
 -- "Where it accepts, every pixel equals the Khronos RGB reading and the RGBA1 reading of the same bytes", with nothing left to look up:
 -- what it has done is what the reader of either format promises
-module _ (d : List ℕ) (pic : Picture) (image new : List ℕ) (p : ReadsOpaque d pic image Done new) where
+module _ (d : List ℕ) (pic : Picture) (image new : List ℕ) (p : ReadsOpaque d pic image (Ok tt) new) where
   abbrev then : List ℕ
   then = guarded 11 (clear d) (blocks pic)
 
@@ -80,15 +81,15 @@ module _ (d : List ℕ) (pic : Picture) (image new : List ℕ) (p : ReadsOpaque 
   no_block_is_clear =
       none_bad 11 (clear d) (blocks pic) (lit< tt) (sym (all_pass (opaque_checks pic d image) then all_clear) ∙ sym p.says)
 
-  accepted : Accepted d pic image Done new
-  accepted = opaque_accepts_otherwise d pic image Done new p ok no_block_is_clear
+  accepted : Accepted d pic image (Ok tt) new
+  accepted = opaque_accepts_otherwise d pic image (Ok tt) new p ok no_block_is_clear
 
-  pub the_rgb_reader_does_the_same : ReadsPicture Etc2Rgb d pic image Done new
+  pub the_rgb_reader_does_the_same : ReadsPicture Etc2Rgb d pic image (Ok tt) new
   unfolding size_of
   the_rgb_reader_does_the_same =
       record { says = ok; leaves = accepted.shows_own ∙ ap (λ (v : List ℕ). left v (picture_of Etc2Rgb pic d image) image) ok }
 
-  pub the_rgba1_reader_does_the_same : ReadsPicture Etc2Rgba1 d pic image Done new
+  pub the_rgba1_reader_does_the_same : ReadsPicture Etc2Rgba1 d pic image (Ok tt) new
   unfolding size_of
   the_rgba1_reader_does_the_same =
       record { says = ok; leaves = accepted.shows ∙ ap (λ (v : List ℕ). left v (picture_of Etc2Rgba1 pic d image) image) ok }
@@ -114,24 +115,24 @@ rgb_reader_differs_only_there d pic = guarded-claims.older_reader_differs_only_t
 
 -- What Pictures.antt says of the readers of the formats, of this one.
 module _ (d : List ℕ) (pic : Picture) (image : List ℕ) where
-  module _ (new : List ℕ) (p : ReadsOpaque d pic image Done new) where
+  module _ (new : List ℕ) (p : ReadsOpaque d pic image (Ok tt) new) where
     -- a picture that it has done shows at (x, y) what RGBA1 says of block number (y / 4) * ceil(width / 4) + x / 4, in its column
     -- x % 4 and row y % 4
     pub every_pixel_of_an_opaque_picture : (x y : ℕ) → x < pic.width → y < pic.height
         → get_or new (element pic x y) 0 ≡ shows_of Etc2Rgba1 (bytes_of 8 d (block_of pic x y)) (x % 4) (y % 4)
     unfolding size_of
     every_pixel_of_an_opaque_picture =
-        let k = passed_by_lem 8 pic (length d) (length image) (guarded 11 (clear d) (blocks pic)) Done p.says refl in
-        each_accepted_pixel (shows_of Etc2Rgba1) 8 pic image (opaque_verdict pic d image) d Done new p refl
+        let k = passed_by_lem 8 pic (length d) (length image) (guarded 11 (clear d) (blocks pic)) (Ok tt) p.says refl in
+        each_accepted_pixel (shows_of Etc2Rgba1) 8 pic image (opaque_verdict pic d image) d (Ok tt) new p refl
         (roomy pic (length image) k.fits k.roomy)
 
     -- and one that differs from it in block n alone differs at most in that block's clipped tile
-    pub one_block_changes_its_own_tile_in_opaque : (e new' : List ℕ) (n : ℕ) → Beside 8 pic n d e → ReadsOpaque e pic image Done new'
+    pub one_block_changes_its_own_tile_in_opaque : (e new' : List ℕ) (n : ℕ) → Beside 8 pic n d e → ReadsOpaque e pic image (Ok tt) new'
         → OnlyInTile pic n new new'
     unfolding size_of
     one_block_changes_its_own_tile_in_opaque e new' n z q =
         own_tile (shows_of Etc2Rgba1) 8 pic image (opaque_verdict pic d image)
-        (opaque_verdict pic e image) d e Done Done new new' p q n z refl refl
+        (opaque_verdict pic e image) d e (Ok tt) (Ok tt) new new' p q n z refl refl
 
   module _ (a : Answer) (new : List ℕ) (p : ReadsOpaque d pic image a new) where
     -- no element behind it, nor any element of a refused one, has changed
@@ -148,7 +149,7 @@ module _ (d : List ℕ) (pic : Picture) (image : List ℕ) where
         only_its_own_pixels (shows_of Etc2Rgba1) 8 pic image (opaque_verdict pic d image) d a new p (element pic x y) h (in_gap pic x y i j)
 
     -- width 0 or height 0, the other and a pitch no less than the width at most 65,536: accepted, and nothing changes
-    pub opaque_changes_nothing_of_an_empty_picture : Empty pic → over_limit_lem pic ≡ false → pic.width ≤ pic.pitch → Same a Done new image
+    pub opaque_changes_nothing_of_an_empty_picture : Empty pic → over_limit_lem pic ≡ false → pic.width ≤ pic.pitch → Same a (Ok tt) new image
     unfolding size_of
     opaque_changes_nothing_of_an_empty_picture e t i =
         let then = guarded 11 (clear d) (blocks pic) in

@@ -7,7 +7,7 @@ use Prim.Native.Nat.{ℕ, ◌<◌}
 use lib.ListN.{length, get_or}
 use Rattle.rules.specs.Places.{painted}
 use Rattle.rules.specs.Answers.{accepts, Outcome, said}
-use Rattle.rules.specs.declared.Answer.{Answer}
+use Rattle.rules.specs.Answers.{Answer}
 use Rattle.laws.proofs.Paint.{get_d_painted, length_painted}
 use Rattle.laws.proofs.Unique.{answer}
 

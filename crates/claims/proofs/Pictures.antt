@@ -18,8 +18,8 @@ use Rattle.rules.specs.Places.{across, needed, blocks, inside, element, row, blo
 use Rattle.rules.specs.Answers.{said, accepts, over_limit_lem, judged, picture_checks, Outcome}
 use Rattle.rules.specs.Formats.{size_of, shows_of}
 use Rattle.rules.specs.Readers.{ReadsPicture}
-use Rattle.rules.specs.declared.Answer.{Answer}
-use Rattle.rules.specs.declared.Answer.TheVariants.{Done}
+use Rattle.rules.specs.Answers.{Answer}
+use Rattle.std.specs.Prelude.{Ok, Err}
 use Rattle.rules.specs.declared.Format.{Format}
 use Rattle.rules.specs.declared.Picture.{Picture}
 use Rattle.laws.proofs.Paint.{get_d_painted}
@@ -103,11 +103,11 @@ module _ (shows : Shows) (s : ℕ) (pic : Picture) (image : List ℕ) where
         ∙ pixel_of_lem shows s pic d x y wide
 
     -- "Width 0 or height 0, where the checks pass, is accepted and changes nothing."
-    pub an_empty_picture : Empty pic → verdict ≡ 0 ∷ [] → Same a Done new image
+    pub an_empty_picture : Empty pic → verdict ≡ 0 ∷ [] → Same a (Ok tt) new image
     an_empty_picture e q =
         let none = no_pixels pic e in
         let long = the_length_stays (inside pic) (pixel_at shows s pic d) verdict image new a p in (
-          answer a Done (p.says ∙ q),
+          answer a (Ok tt) (p.says ∙ q),
           ext_get_or 0 new image long (λ k h. only_its_own_pixels k (omega (arith, long)) (beyond pic k (omega arith))),
         )
 
@@ -128,20 +128,20 @@ module _ (shows : Shows) (s : ℕ) (pic : Picture) (image : List ℕ) where
 
 -- The same for a user, with nothing left to look up.
 module _ (f : Format) (d : List ℕ) (pic : Picture) (image : List ℕ) where
-  module _ (new : List ℕ) (p : ReadsPicture f d pic image Done new) where
+  module _ (new : List ℕ) (p : ReadsPicture f d pic image (Ok tt) new) where
     -- a picture that a reader of format f has done shows at (x, y) what the rule of f says of block number
     -- (y / 4) * ceil(width / 4) + x / 4, in its column x % 4 and row y % 4
     pub every_pixel_of_a_picture : (x y : ℕ) → x < pic.width → y < pic.height
         → get_or new (element pic x y) 0 ≡ shows_of f (bytes_of (size_of f) d (block_of pic x y)) (x % 4) (y % 4)
     every_pixel_of_a_picture =
-        let k = passed_by_lem (size_of f) pic (length d) (length image) (0 ∷ []) Done p.says refl in
-        each_accepted_pixel (shows_of f) (size_of f) pic image _ d Done new p refl (roomy pic (length image) k.fits k.roomy)
+        let k = passed_by_lem (size_of f) pic (length d) (length image) (0 ∷ []) (Ok tt) p.says refl in
+        each_accepted_pixel (shows_of f) (size_of f) pic image _ d (Ok tt) new p refl (roomy pic (length image) k.fits k.roomy)
 
     -- and one that differs from it in block n alone differs at most in that block's clipped tile
-    pub one_block_changes_its_own_tile : (e new' : List ℕ) (n : ℕ) → Beside (size_of f) pic n d e → ReadsPicture f e pic image Done new'
+    pub one_block_changes_its_own_tile : (e new' : List ℕ) (n : ℕ) → Beside (size_of f) pic n d e → ReadsPicture f e pic image (Ok tt) new'
         → OnlyInTile pic n new new'
     one_block_changes_its_own_tile e new' n z q =
-        own_tile (shows_of f) (size_of f) pic image _ _ d e Done Done new new' p q n z refl refl
+        own_tile (shows_of f) (size_of f) pic image _ _ d e (Ok tt) (Ok tt) new new' p q n z refl refl
 
   module _ (new : List ℕ) (a : Answer) (p : ReadsPicture f d pic image a new) where
     -- no element behind it, nor any element of a refused one, has changed
@@ -156,7 +156,7 @@ module _ (f : Format) (d : List ℕ) (pic : Picture) (image : List ℕ) where
         only_its_own_pixels (shows_of f) (size_of f) pic image _ d a new p (element pic x y) h (in_gap pic x y i j)
 
     -- width 0 or height 0, the other and a pitch no less than the width at most 65,536, is accepted and changes nothing
-    pub an_empty_picture_changes_nothing : Empty pic → over_limit_lem pic ≡ false → pic.width ≤ pic.pitch → Same a Done new image
+    pub an_empty_picture_changes_nothing : Empty pic → over_limit_lem pic ≡ false → pic.width ≤ pic.pitch → Same a (Ok tt) new image
     an_empty_picture_changes_nothing e t i =
         an_empty_picture (shows_of f) (size_of f) pic image _ d a new p e (empty_passes (size_of f) pic d image (0 ∷ []) e t i)
 

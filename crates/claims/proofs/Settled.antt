@@ -16,7 +16,7 @@ use Rattle.rules.specs.Answers.{limit, Check, refusal, judged, verdict, left, da
 use Rattle.rules.specs.Colour.{out_of_range_lem}
 use Rattle.rules.specs.Formats.{size_of, shows_of}
 use Rattle.rules.specs.Readers.{picture_of, ReadsPicture, ReadsStrict}
-use Rattle.rules.specs.declared.Answer.{Answer}
+use Rattle.rules.specs.Answers.{Answer}
 use Rattle.rules.specs.declared.Format.{Format}
 use Rattle.rules.specs.declared.Format.TheVariants.{Etc2Rgb}
 use Rattle.pixel.proofs.place.Plain.{needed_plain, painted_plain}

@@ -9,8 +9,10 @@ use borrow.Author.Tests.{le-leb}
 use lib.ListN.{length}
 use Rattle.rules.specs.Answers.{left}
 use Rattle.rules.specs.Readers.{picture_of}
-use Rattle.rules.specs.declared.Answer.{Answer}
-use Rattle.rules.specs.declared.Sheet.{Sheet}
+use Rattle.rules.specs.Answers.{Answer}
+use Rattle.rules.specs.declared.Head.{Head}
+use Rattle.rules.specs.declared.Refusal.{Refusal}
+use Rattle.std.specs.Prelude.{Result}
 use Rattle.rules.specs.Records.{Record, encoded, Records, more, records_of, first, later, is_skipped, kept}
 use Rattle.rules.specs.Sheets.{format_of, format_in, size_in, from_head, walk_verdict, head_in, blocks_in, head_verdict, read_verdict, sheet_picture, TellsHead, ReadsSheet}
 use Rattle.sheet.specs.Shown.{walk}
@@ -46,7 +48,7 @@ module _ (d e : List ℕ) (a : SameKept d e) where
   walks then =
       ap (walk_verdict then) a.meets ∙ ap (from_head a.head then) a.same ∙ sym (ap (walk_verdict then) a.meets')
 
-  pub tells_alike : (sheet : Sheet) → TellsHead d sheet → TellsHead e sheet
+  pub tells_alike : (sheet : Result Head Refusal) → TellsHead d sheet → TellsHead e sheet
   unfolding head_verdict
   tells_alike sheet p =
       p

@@ -13,8 +13,9 @@ use Rattle.rules.specs.Colour.{out_of_range_lem}
 use Rattle.rules.specs.Formats.{size_of, shows_of}
 use Rattle.rules.specs.Guards.{in_range}
 use Rattle.rules.specs.Readers.{strict_checks, strict_verdict, ReadsPicture, ReadsStrict}
-use Rattle.rules.specs.declared.Answer.{Answer}
-use Rattle.rules.specs.declared.Answer.TheVariants.{Done, OutOfRange}
+use Rattle.rules.specs.Answers.{Answer}
+use Rattle.rules.specs.declared.Refusal.TheVariants.{OutOfRange}
+use Rattle.std.specs.Prelude.{Ok, Err}
 use Rattle.rules.specs.declared.Format.TheVariants.{Etc1, Etc2Rgb}
 use Rattle.rules.specs.declared.Picture.{Picture}
 use Rattle.laws.proofs.Guards.{strict_sound, finds_none}
@@ -40,10 +41,10 @@ bad d n = out_of_range_lem (bytes_of 8 d n)
 
 -- the refusal with 4 that names the first such block, and the acceptance by the ETC2 RGB rule
 abbrev pub Refused : List ℕ → Picture → List ℕ → Answer → List ℕ → Type 0
-Refused = guarded-claims.Refused in_range strict_sound OutOfRange (λ n. refl)
+Refused = guarded-claims.Refused in_range strict_sound (λ n. Err (OutOfRange n)) (λ n. refl)
 
 abbrev pub Accepted : List ℕ → Picture → List ℕ → Answer → List ℕ → Type 0
-Accepted = guarded-claims.Accepted in_range strict_sound OutOfRange (λ n. refl)
+Accepted = guarded-claims.Accepted in_range strict_sound (λ n. Err (OutOfRange n)) (λ n. refl)
 
 -- "For sizes and lengths that pass the checks", check 12 included (M-104), and "an exact data length" (M-107)
 module _ (d : List ℕ) (pic : Picture) (image : List ℕ) (a : Answer) (new : List ℕ) (p : ReadsStrict d pic image a new)
@@ -52,14 +53,14 @@ module _ (d : List ℕ) (pic : Picture) (image : List ℕ) (a : Answer) (new : L
   pub strict_refuses_and_names_the_first : (n : ℕ) → n < blocks pic → bad d n ≡ true → Refused d pic image a new
   unfolding size_of
   strict_refuses_and_names_the_first =
-      guarded-claims.refuses_and_names_the_first in_range strict_sound OutOfRange (λ n. refl) d pic image a new
+      guarded-claims.refuses_and_names_the_first in_range strict_sound (λ n. Err (OutOfRange n)) (λ n. refl) d pic image a new
       (strict_checks pic d image) tt p ok
 
   -- ".. exactly": where there is none, it accepts, "and each pixel is the one that the Khronos ETC2 RGB rule gives"
   pub strict_accepts_otherwise : ((n : ℕ) → n < blocks pic → bad d n ≡ false) → Accepted d pic image a new
   unfolding size_of
   strict_accepts_otherwise =
-      guarded-claims.accepts_otherwise in_range strict_sound OutOfRange (λ n. refl) d pic image a new (strict_checks pic d image) tt p ok
+      guarded-claims.accepts_otherwise in_range strict_sound (λ n. Err (OutOfRange n)) (λ n. refl) d pic image a new (strict_checks pic d image) tt p ok
 
 -- what plain ETC1 shows at a pixel is what ETC2 RGB shows there, unless the pixel's own block is out of range
 pub etc1_differs_only_out_of_range : (d : List ℕ) (pic : Picture) (k : ℕ) → out_of_range_lem (bytes_of 8 d (block_at pic k)) ≡ false
@@ -83,24 +84,24 @@ old_reader_differs_only_there d pic = guarded-claims.older_reader_differs_only_t
 
 -- What Pictures.antt says of the readers of the formats, of strict ETC1.
 module _ (d : List ℕ) (pic : Picture) (image : List ℕ) where
-  module _ (new : List ℕ) (p : ReadsStrict d pic image Done new) where
+  module _ (new : List ℕ) (p : ReadsStrict d pic image (Ok tt) new) where
     -- a picture that it has done shows at (x, y) what ETC2 RGB says of block number (y / 4) * ceil(width / 4) + x / 4, in its
     -- column x % 4 and row y % 4
     pub every_pixel_of_a_strict_picture : (x y : ℕ) → x < pic.width → y < pic.height
         → get_or new (element pic x y) 0 ≡ shows_of Etc2Rgb (bytes_of 8 d (block_of pic x y)) (x % 4) (y % 4)
     unfolding size_of
     every_pixel_of_a_strict_picture =
-        let k = passed_exactly_by 8 pic (length d) (length image) (guarded 4 (bad d) (blocks pic)) Done p.says refl in
-        each_accepted_pixel (shows_of Etc2Rgb) 8 pic image (strict_verdict pic d image) d Done new p refl
+        let k = passed_exactly_by 8 pic (length d) (length image) (guarded 4 (bad d) (blocks pic)) (Ok tt) p.says refl in
+        each_accepted_pixel (shows_of Etc2Rgb) 8 pic image (strict_verdict pic d image) d (Ok tt) new p refl
         (roomy pic (length image) k.fits k.roomy)
 
     -- and one that differs from it in block n alone differs at most in that block's clipped tile
-    pub one_block_changes_its_own_tile_in_strict : (e new' : List ℕ) (n : ℕ) → Beside 8 pic n d e → ReadsStrict e pic image Done new'
+    pub one_block_changes_its_own_tile_in_strict : (e new' : List ℕ) (n : ℕ) → Beside 8 pic n d e → ReadsStrict e pic image (Ok tt) new'
         → OnlyInTile pic n new new'
     unfolding size_of
     one_block_changes_its_own_tile_in_strict e new' n z q =
         own_tile (shows_of Etc2Rgb) 8 pic image (strict_verdict pic d image)
-        (strict_verdict pic e image) d e Done Done new new' p q n z refl refl
+        (strict_verdict pic e image) d e (Ok tt) (Ok tt) new new' p q n z refl refl
 
   module _ (a : Answer) (new : List ℕ) (p : ReadsStrict d pic image a new) where
     -- no element behind it, nor any element of a refused one, has changed
@@ -118,7 +119,7 @@ module _ (d : List ℕ) (pic : Picture) (image : List ℕ) where
 
     -- width 0 or height 0, the other and a pitch no less than the width at most 65,536, and no bytes: accepted, and nothing changes
     pub strict_changes_nothing_of_an_empty_picture : Empty pic → over_limit_lem pic ≡ false → pic.width ≤ pic.pitch → length d ≡ 0
-        → Same a Done new image
+        → Same a (Ok tt) new image
     unfolding size_of
     strict_changes_nothing_of_an_empty_picture e t i z =
         let then = guarded 4 (bad d) (blocks pic) in

@@ -10,8 +10,9 @@ use Rattle.rules.specs.Places.{sized, needed, blocks}
 use Rattle.rules.specs.Answers.{said, judged, guarded}
 use Rattle.rules.specs.Guards.{bad_at}
 use Rattle.rules.specs.Readers.{ReadsStrict, ReadsOpaque, ChecksStrict, ChecksOpaque}
-use Rattle.rules.specs.declared.Answer.{Answer}
-use Rattle.rules.specs.declared.Answer.TheVariants.{ShortImage}
+use Rattle.rules.specs.Answers.{Answer}
+use Rattle.std.specs.Prelude.{Err}
+use Rattle.rules.specs.declared.Refusal.TheVariants.{ShortImage}
 use Rattle.laws.proofs.Unique.{answer}
 use Rattle.guard.specs.Viewers.{guard_of}
 use Rattle.guard.specs.declared.Viewer.{Viewer}
@@ -27,10 +28,10 @@ module _ (viewer : Viewer) (d : List ℕ) (w h elements : ℕ) (a b : Answer) wh
     same : needed (sized w h) ≤ elements → a ≡ b
     same long = answer a b (check ∙ sym (without_image w h elements (λ e. long) viewer (length d) then) ∙ sym read)
 
-    same_or_short : (b ≡ ShortImage) ⊎ (a ≡ b)
+    same_or_short : (b ≡ Err ShortImage) ⊎ (a ≡ b)
     same_or_short =
         ⊎_elim
-        (λ e. inl (answer b ShortImage (read ∙ e)))
+        (λ e. inl (answer b (Err ShortImage) (read ∙ e)))
         (λ e. inr (answer a b (check ∙ sym e ∙ sym read)))
         (or_short w h elements viewer (length d) then)
 
@@ -40,7 +41,7 @@ module _ (d : List ℕ) (w h : ℕ) (image : List ℕ) (a b : Answer) (new : Lis
     pub check_strict_answers_as_the_reader : needed (sized w h) ≤ length image → a ≡ b
     check_strict_answers_as_the_reader = same Etc1 d w h (length image) a b check read.says
 
-    pub check_strict_but_for_a_short_image : (b ≡ ShortImage) ⊎ (a ≡ b)
+    pub check_strict_but_for_a_short_image : (b ≡ Err ShortImage) ⊎ (a ≡ b)
     check_strict_but_for_a_short_image = same_or_short Etc1 d w h (length image) a b check read.says
 
   -- RGBA1 for an opaque-only viewer
@@ -48,7 +49,7 @@ module _ (d : List ℕ) (w h : ℕ) (image : List ℕ) (a b : Answer) (new : Lis
     pub check_opaque_answers_as_the_reader : needed (sized w h) ≤ length image → a ≡ b
     check_opaque_answers_as_the_reader = same Opaque d w h (length image) a b check read.says
 
-    pub check_opaque_but_for_a_short_image : (b ≡ ShortImage) ⊎ (a ≡ b)
+    pub check_opaque_but_for_a_short_image : (b ≡ Err ShortImage) ⊎ (a ≡ b)
     check_opaque_but_for_a_short_image = same_or_short Opaque d w h (length image) a b check read.says
 
 -- no second answer satisfies what a check promises

@@ -22,7 +22,7 @@ pub fn sound(legend: Legend) -> bool
 fn line(low: f32, step: f32, steps: u8) -> f32
     ensures { result ≡ line_at low step steps }
 {
-    low + step * (steps as f32)
+    low + step * f32::from(steps)
 }
 
 // Those of a bend, which goes on from its line's degrees at red 128.

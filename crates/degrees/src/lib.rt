@@ -9,7 +9,7 @@ ghost use Rattle.std.specs.Prelude.{◌≡◌, eqb};
 ghost use Rattle.rules.specs.Pixel.{alpha_of};
 ghost use Rattle.rules.specs.Degrees.{one_digit_lem, ReadsDegrees};
 
-use rules::{Legend, Reading, Reply};
+use rules::{Legend, NoReading, Reading};
 
 // Whether two digits are one, thumb to little.
 fn one_digit(named: usize, shown: usize) -> bool
@@ -22,11 +22,18 @@ fn one_digit(named: usize, shown: usize) -> bool
 fn unseen(pixel: u32) -> bool
     ensures { result ≡ eqb (alpha_of pixel) 0 }
 {
-    pixel / 0x1000000 % 256 == 0
+    let [alpha, ..] = pixel.to_be_bytes();
+    alpha == 0
 }
 
 // The reading at a pixel by a legend that names a digit, of a picture that shows one, beside a measurement.
-pub fn read_degrees(legend: Legend, named: usize, shown: usize, pixel: u32, measured: f32) -> Reply
+pub fn read_degrees(
+    legend: Legend,
+    named: usize,
+    shown: usize,
+    pixel: u32,
+    measured: f32,
+) -> Result<Reading, NoReading>
     ensures { ReadsDegrees legend named shown pixel measured result }
 {
     let good_legend = legend::sound(legend);
@@ -34,21 +41,22 @@ pub fn read_degrees(legend: Legend, named: usize, shown: usize, pixel: u32, meas
     let good_measurement = ranges::in_degrees(measured);
     let not_seen = unseen(pixel);
     if !good_legend {
-        return Reply::BadLegend;
+        return Err(NoReading::BadLegend);
     }
     if !good_digit {
-        return Reply::BadDigit;
+        return Err(NoReading::BadDigit);
     }
     if !good_measurement {
-        return Reply::BadMeasurement;
+        return Err(NoReading::BadMeasurement);
     }
     if not_seen {
-        return Reply::NotMeasured;
+        return Err(NoReading::NotMeasured);
     }
-    let p = legend::predicted(legend, (pixel / 0x10000 % 256) as u8);
-    Reply::Read(Reading {
+    let [_, red, ..] = pixel.to_be_bytes();
+    let p = legend::predicted(legend, red);
+    Ok(Reading {
         predicted: p,
-        measured: measured,
+        measured,
         difference: p - measured,
     })
 }

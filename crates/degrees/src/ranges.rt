@@ -12,9 +12,10 @@ const MOST_STEP: f32 = 8.0;
 fn within(x: f32, n: f32) -> bool
     ensures { result ≡ (le (neg n) x && le x n) }
 {
-    if -n <= x { x <= n } else { false }
+    -n <= x && x <= n
 }
 
+// The two ranges of the rules: each is one call, so that each owes what its rule says.
 pub fn in_degrees(x: f32) -> bool
     ensures { result ≡ in_degrees_lem x }
 {

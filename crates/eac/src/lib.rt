@@ -3,6 +3,7 @@
 // own, taken of the eight, and so are the sixteen bits, taken of the picked (docs/DECISIONS.md).
 #![tactic(auto)]
 
+pub mod span;
 pub mod values;
 
 ghost use Rattle.std.specs.Prelude.{◌≡◌, ℕ, ◌+◌, ◌*◌, ◌/◌, ◌%◌, ◌^◌, ◌<◌, ◌≤◌, T, length, pos, ◌+ℤ◌, slice_index, slice_index_or};
@@ -13,13 +14,12 @@ ghost use Rattle.rules.specs.Pixel.{word};
 ghost use Rattle.rules.specs.Places.{tile};
 ghost use Rattle.rules.specs.Channels.{alpha_steps_lem, eac_byte, red_pixel, red_green_pixel, or_channel};
 ghost use Rattle.rules.specs.Whole.{middle, eac_whole_lem, sixteen};
-ghost use Rattle.eac.specs.values.Spans.{Spans};
 ghost use Rattle.eac.specs.Eights.{whole_of, eighth_of, number_at};
 
 use etc_alpha::{channel, picks};
 use pixel::color;
+use span::Span;
 use tables::consts;
-use values::Span;
 
 // Sixteen bytes in the type that pixels are made in.
 fn widened(bytes: [i16; 16]) -> [u32; 16]
@@ -27,50 +27,46 @@ fn widened(bytes: [i16; 16]) -> [u32; 16]
     ensures { result ≡ build 16 (λ k. unsigned_abs (slice_index_or bytes k (pos 0))) }
 {
     let mut out = [0u32; 16];
-    let mut i: usize = 0;
-    while i < 16 {
-        out[i] = bytes[i] as u16 as u32;
-        i += 1;
+    for i in 0..16 {
+        out[i] = u32::from(bytes[i] as u16);
     }
     out
 }
 
-// The eight values of a block, of the value in their middle. The table of steps is lent. Nothing here asks whether values are signed: a
-// body without a branch is small enough to stand in each loop over blocks.
+// The eight values of a block, of the value in their middle. The bytes and the table of steps are lent as they are, since a narrower type
+// would ask more of callers; and the middle is a number with its bound beside it, since docs/CLAIMS.md names this function. Nothing here
+// asks whether values are signed: a body without a branch is small enough to stand in each loop over blocks.
 pub fn eight_wholes(d: &[u8], base: i16, span: Span, table: &[[i8; 8]; 16]) -> [i16; 8]
-    requires in_bounds { (8 ≤ length d.now) × (table.now ≡ alpha_steps_lem) × Spans span }
+    requires in_bounds { (8 ≤ length d.now) × (table.now ≡ alpha_steps_lem) }
     requires base_value { (base ≡ middle span.signed (byte d.now 0)) × (mag base < 4096) }
     ensures { result ≡ build 8 (whole_of span.signed d.now) }
 {
     let steps = channel::steps_in(table, picks::row_of(d[1]));
     let m = values::times_of(picks::multiplier_of(d[1]));
     let mut eight = [0i16; 8];
-    let mut i: usize = 0;
-    while i < 8 {
+    for i in 0..8 {
         eight[i] = values::eac_whole(base, m, steps[i], span.low, span.high);
-        i += 1;
     }
     eight
 }
 
-// The byte of each of eight values.
+// The byte of each of eight values. This and `narrowed` are two loops, since one over a closure is no plainer: they differ in size, in type
+// and in what a turn gives, and `map` asks a clause of each turn and that its iterator fits in memory.
 fn eighths(wholes: [i16; 8], up: u16) -> [i16; 8]
     requires { (up < 2048) × ((j : ℕ) → j < 8 → T (non_neg (pos up +ℤ slice_index_or wholes j (pos 0)))
         × (mag (slice_index_or wholes j (pos 0)) < 2048)) }
     ensures { result ≡ build 8 (λ j. pos (unsigned_abs (pos up +ℤ slice_index_or wholes j (pos 0)) / 8)) }
 {
     let mut eight = [0i16; 8];
-    let mut i: usize = 0;
-    while i < 8 {
+    for i in 0..8 {
         eight[i] = values::byte_of(wholes[i], up);
-        i += 1;
     }
     eight
 }
 
 // The byte of each of the eight values of a block: an eighth of the value, counted from the least.
 fn eight_bytes(d: &[u8], base: i16, span: Span, table: &[[i8; 8]; 16]) -> [i16; 8]
-    requires in_bounds { (8 ≤ length d.now) × (table.now ≡ alpha_steps_lem) × Spans span }
+    requires in_bounds { (8 ≤ length d.now) × (table.now ≡ alpha_steps_lem) }
     requires base_value { (base ≡ middle span.signed (byte d.now 0)) × (mag base < 4096) }
     ensures { result ≡ build 8 (λ j. pos (eighth_of span.signed d.now j)) }
 {
@@ -93,17 +89,15 @@ fn narrowed(whole: [i16; 16], up: u16) -> [u16; 16]
     ensures { result ≡ build 16 (λ k. sixteen (slice_index_or whole k (pos 0))) }
 {
     let mut out = [0u16; 16];
-    let mut i: usize = 0;
-    while i < 16 {
+    for i in 0..16 {
         out[i] = values::sixteen(whole[i], up);
-        i += 1;
     }
     out
 }
 
 // The value of each pixel as sixteen bits, row by row, of the eight.
 pub fn eac_sixteens(d: &[u8], span: Span, eight: [i16; 8]) -> [u16; 16]
-    requires { (8 ≤ length d.now) × (eight ≡ build 8 (whole_of span.signed d.now)) × Spans span }
+    requires { (8 ≤ length d.now) × (eight ≡ build 8 (whole_of span.signed d.now)) }
     ensures { result ≡ build 16 (λ k. sixteen (eac_whole_lem span.signed d.now (k % 4) (k / 4))) }
 {
     narrowed(picks::picked(d, eight), span.up)
@@ -115,17 +109,15 @@ fn red_green(red: [u32; 16], green: [u32; 16]) -> [u32; 16]
     ensures { result ≡ build 16 (λ k. word 255 (slice_index red k) (slice_index green k) 0) }
 {
     let mut out = [0u32; 16];
-    let mut i: usize = 0;
-    while i < 16 {
+    for i in 0..16 {
         out[i] = color::color(red[i], green[i], 0, 255);
-        i += 1;
     }
     out
 }
 
 // An EAC R block: red, with green and blue 0, opaque.
 pub fn eacr_block(d: &[u8], span: Span, table: &[[i8; 8]; 16]) -> [u32; 16]
-    requires { (8 ≤ length d.now) × (table.now ≡ alpha_steps_lem) × Spans span }
+    requires { (8 ≤ length d.now) × (table.now ≡ alpha_steps_lem) }
     ensures { result ≡ tile (red_pixel span.signed) d.now }
 {
     let base = values::middle_of(d[0], span.signed);
@@ -135,7 +127,7 @@ pub fn eacr_block(d: &[u8], span: Span, table: &[[i8; 8]; 16]) -> [u32; 16]
 // An EAC RG block: red from the first eight bytes and green from the next eight, with blue 0, opaque. What asks whether values are signed
 // stands first, so that it is asked once.
 pub fn eacrg_block(d: &[u8], span: Span, table: &[[i8; 8]; 16]) -> [u32; 16]
-    requires { (16 ≤ length d.now) × (table.now ≡ alpha_steps_lem) × Spans span }
+    requires { (16 ≤ length d.now) × (table.now ≡ alpha_steps_lem) }
     ensures { result ≡ tile (red_green_pixel span.signed) d.now }
 {
     let half = &d[8..];
@@ -146,7 +138,8 @@ pub fn eacrg_block(d: &[u8], span: Span, table: &[[i8; 8]; 16]) -> [u32; 16]
     red_green(eac_bytes(d, red), eac_bytes(half, green))
 }
 
-// What 1 in a channel is in the pixel word: channel 0 is blue, 1 green, 2 red and 3 alpha.
+// What 1 in a channel is in the pixel word: channel 0 is blue, 1 green, 2 red and 3 alpha. It is a number, as C gives it and `or_channel`
+// takes it.
 fn unit_of(channel: usize) -> u32
     requires { channel < 4 }
     ensures { (result ≡ 256 ^ channel) × (result ≤ 256 ^ 3) }
@@ -170,10 +163,8 @@ pub fn eac_onto(d: &[u8], signed: bool, channel: usize, px: [u32; 16]) -> [u32; 
     let bytes = eac_bytes(d, eight);
     let unit = unit_of(channel);
     let mut out = px;
-    let mut i: usize = 0;
-    while i < 16 {
+    for i in 0..16 {
         out[i] = px[i] | bytes[i] * unit;
-        i += 1;
     }
     out
 }

@@ -6,17 +6,13 @@ ghost use Rattle.rules.specs.Channels.{signed_base, multiplier};
 ghost use Rattle.rules.specs.Whole.{least, most, between, middle, added, sixteen as sixteen_of};
 ghost use Rattle.eac.specs.values.Spans.{Spans};
 
+pub use super::span::Span;
+
 // The signed base: a byte as two's complement, where -128 is read as -127.
 fn signed_byte(b: u8) -> i16
     ensures { result ≡ signed_base b }
 {
-    if b == 128 {
-        -127
-    } else if 127 < b {
-        b as i16 - 256
-    } else {
-        b as i16
-    }
+    i16::from(b.cast_signed()).max(-127)
 }
 
 // The value in the middle of a block's, to which steps are added: 8 * b0 + 4, or 8 times the signed base.
@@ -26,7 +22,7 @@ pub fn middle_of(b: u8, signed: bool) -> i16
     if signed {
         8 * signed_byte(b)
     } else {
-        4 + 8 * b as i16
+        4 + 8 * i16::from(b)
     }
 }
 
@@ -52,26 +48,12 @@ fn most_of(signed: bool) -> i16
     if signed { 1023 } else { 2047 }
 }
 
-// A value, or the least where it is below that.
-fn at_least(low: i16, v: i16) -> i16
-    ensures { result ≡ (if int_lt v low then low else v) }
-{
-    if v < low { low } else { v }
-}
-
-// A value, or the most where it is above that.
-fn at_most(high: i16, v: i16) -> i16
-    ensures { result ≡ (if int_lt high v then high else v) }
-{
-    if high < v { high } else { v }
-}
-
 // The whole value that a step gives, clamped: by two steps, each of which is one instruction for eight values.
 pub fn eac_whole(base: i16, m: u8, s: i16, low: i16, high: i16) -> i16
     requires { (mag base < 4096) × (m < 121) × (mag s < 16) × (int_lt high low ≡ false) }
     ensures { result ≡ between low high (base +ℤ pos m *ℤ s) }
 {
-    at_most(high, at_least(low, base + m as i16 * s))
+    low.max(base + i16::from(m) * s).min(high)
 }
 
 // What makes a value no less than 0.
@@ -81,34 +63,20 @@ fn added_of(signed: bool) -> u16
     if signed { 1023 } else { 0 }
 }
 
-// The numbers in which signed and unsigned values differ.
-#[derive(Clone, Copy)]
-pub struct Span {
-    pub signed: bool,
-    // the least and the most of the values
-    pub low: i16,
-    pub high: i16,
-    // what makes a value no less than 0
-    pub up: u16,
-}
-
 // Those of signed or of unsigned values. A reader of many blocks makes them once, before its loop: eight lanes of each are then made
 // once too.
 pub fn span_of(signed: bool) -> Span
     ensures { (result.signed ≡ signed) × Spans result }
 {
-    let low = least_of(signed);
-    let high = most_of(signed);
-    let up = added_of(signed);
     Span {
-        signed: signed,
-        low: low,
-        high: high,
-        up: up,
+        signed,
+        low: least_of(signed),
+        high: most_of(signed),
+        up: added_of(signed),
     }
 }
 
-// A value with as much added.
+// A value with as much added. They are two numbers and no struct, since values come sixteen in an array, and what is added but once.
 fn raised(v: i16, up: u16) -> u16
     requires { (mag v < 2048) × (up < 2048) × T (non_neg (pos up +ℤ v)) }
     ensures { (pos result ≡ pos up +ℤ v) × (result < 4096) }
@@ -129,5 +97,5 @@ pub fn sixteen(v: i16, up: u16) -> u16
     requires { (mag v < 2048) × (up < 2048) × T (non_neg (pos up +ℤ v)) }
     ensures { result ≡ sixteen_of v }
 {
-    std::num::wrapping_sub_u16(raised(v, up), up)
+    raised(v, up).wrapping_sub(up)
 }

@@ -16,10 +16,8 @@ pub fn steps_in(table: &[[i8; 8]; 16], row: usize) -> [i16; 8]
     ensures { result ≡ get_or alpha_steps_lem row [] }
 {
     let mut out = [0i16; 8];
-    let mut i: usize = 0;
-    while i < 8 {
-        out[i] = table[row][i] as i16;
-        i += 1;
+    for i in 0..8 {
+        out[i] = i16::from(table[row][i]);
     }
     out
 }
@@ -29,7 +27,7 @@ fn alpha(base: u8, product: i16) -> u32
     requires { mag product < 256 }
     ensures { (result ≡ clamp_to 255 (pos base +ℤ product)) × (result < 256) }
 {
-    color::clamp(base as i16 + product)
+    color::clamp(i16::from(base) + product)
 }
 
 // The eight alphas that the pixels of a block pick from, of its base and its byte of multiplier and row. Nothing is multiplied by the
@@ -39,10 +37,8 @@ pub fn eight_alphas(base: u8, b: u8) -> [i16; 8]
 {
     let products = products::products_of(b);
     let mut eight = [0i16; 8];
-    let mut i: usize = 0;
-    while i < 8 {
+    for i in 0..8 {
         eight[i] = alpha(base, products[i]) as i16;
-        i += 1;
     }
     eight
 }
@@ -63,10 +59,8 @@ pub fn a8_onto(d: &[u8], eight: [i16; 8], px: [u32; 16]) -> [u32; 16]
 {
     let alphas = picks::picked(d, eight);
     let mut out = px;
-    let mut i: usize = 0;
-    while i < 16 {
+    for i in 0..16 {
         out[i] = topped(px[i], alphas[i]);
-        i += 1;
     }
     out
 }
@@ -79,9 +73,7 @@ pub fn a8_over(d: &[u8], image: &mut [u32])
         image.old image.new }
 {
     let alphas = picks::picked(d, eight_alphas(d[0], d[1]));
-    let mut i: usize = 0;
-    while i < 16 {
+    for i in 0..16 {
         image[i] = topped(image[i], alphas[i]);
-        i += 1;
     }
 }

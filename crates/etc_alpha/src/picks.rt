@@ -5,17 +5,17 @@ ghost use Rattle.rules.specs.Notation.{build, bits};
 ghost use Rattle.rules.specs.Channels.{index_word_lem};
 ghost use Rattle.etc_alpha.specs.picks.Picks.{pick_at};
 
-use pixel::color;
 use tables::consts;
 
-// Bytes 2 to 7, read big-endian: the indices, three bits to a pixel.
+// Bytes 2 to 7, read big-endian: the indices, three bits to a pixel. The bytes are lent as they are, since `&[u8; 8]` would ask more of
+// callers of `a8_over`.
 fn index_word(d: &[u8]) -> u64
     requires { 8 ≤ length d.now }
     ensures { result ≡ index_word_lem d.now }
 {
-    let high = color::two_bytes(d[2], d[3]);
-    let low = color::two_bytes(d[4], d[5]) * 0x10000 + color::two_bytes(d[6], d[7]);
-    high as u64 * 0x100000000 + low as u64
+    let high = u16::from_be_bytes([d[2], d[3]]);
+    let low = u32::from_be_bytes([d[4], d[5], d[6], d[7]]);
+    u64::from(high) * 0x100000000 + u64::from(low)
 }
 
 // The multiplier: the high nibble of byte 1. EAC multiplies by it; alpha has a table of products.
@@ -29,7 +29,7 @@ pub fn multiplier_of(b: u8) -> u8
 pub fn row_of(b: u8) -> usize
     ensures { (result ≡ bits 3 0 b) × (result < 16) }
 {
-    (b % 16) as usize
+    usize::from(b % 16)
 }
 
 // The number that each pixel's index picks of eight, row by row. The last pixel's index stands lowest in the word, so the loop
@@ -41,11 +41,9 @@ pub fn picked(d: &[u8], eight: [i16; 8]) -> [i16; 16]
     let order = consts::write_order();
     let mut l = index_word(d);
     let mut out = [0i16; 16];
-    let mut i: usize = 0;
-    while i < 16 {
+    for i in 0..16 {
         out[order[15 - i]] = eight[(l % 8) as usize];
         l = l / 8;
-        i += 1;
     }
     out
 }

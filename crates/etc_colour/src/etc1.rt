@@ -8,6 +8,7 @@ ghost use Rattle.etc_colour.specs.shade.Tone.{Steps};
 ghost use Rattle.etc_colour.specs.etc1.Halves.{shades, of_half_lem};
 
 use super::shade;
+use super::widen::widened;
 use tables::consts;
 
 // A byte's high nibble, as eight bits.
@@ -24,19 +25,11 @@ fn low_nibble(b: u8) -> u8
     b % 16 * 17
 }
 
-// Five bits as eight.
-fn wide5(v: u8) -> u8
-    requires { v < 32 }
-    ensures { result ≡ five v }
-{
-    v * 8 + v / 4
-}
-
 // The first base of a difference: a byte's high five bits.
 fn first_base(b: u8) -> u8
     ensures { result ≡ five (base b) }
 {
-    wide5(b / 8)
+    widened::<5>(b / 8)
 }
 
 // Base plus step, in eightfold values that wrap; an eighth of it.
@@ -44,18 +37,19 @@ fn wrapped_sum(b: u8) -> u8
     ensures { (result ≡ wrapped b) × (result < 32) }
 {
     let eightfold = b / 8 * 8;
-    let up = std::num::wrapping_add_u8(eightfold, b % 4 * 8);
-    std::num::wrapping_sub_u8(up, b / 4 % 2 * 32) / 8
+    let up = eightfold.wrapping_add(b % 4 * 8);
+    up.wrapping_sub(b / 4 % 2 * 32) / 8
 }
 
 // The second base of a difference.
 fn second_base(b: u8) -> u8
     ensures { result ≡ five (wrapped b) }
 {
-    wide5(wrapped_sum(b))
+    widened::<5>(wrapped_sum(b))
 }
 
-// The base colours of an individual block. The third is not used.
+// The base colours of an individual block. The third, which `individual` has, is not used. One function over two closures for this and for
+// differential blocks is no plainer: its contract would say what each closure gives at each of three bytes.
 pub fn individual_bases(d: &[u8]) -> [[u8; 3]; 3]
     requires { 8 ≤ length d.now }
     ensures { result ≡ individual d.now }
@@ -67,7 +61,7 @@ pub fn individual_bases(d: &[u8]) -> [[u8; 3]; 3]
     ]
 }
 
-// The base colours of a differential block, whose sums wrap. The third is not used.
+// The base colours of a differential block, whose sums wrap. The third, which `wrapping` has, is not used.
 pub fn differential_bases(d: &[u8]) -> [[u8; 3]; 3]
     requires { 8 ≤ length d.now }
     ensures { result ≡ wrapping d.now }
@@ -93,7 +87,7 @@ pub fn both_halves(c: [[u8; 3]; 3], first: &[i16; 4], second: &[i16; 4], opaque:
     requires { Steps opaque first.now × Steps opaque second.now }
     ensures { result ≡ eight (λ h. shades opaque (slice_index_or c h []) (of_half_lem first.now second.now h)) }
 {
-    let a = shade::four_colours([c[0], c[0], c[0], c[0]], first, opaque);
-    let b = shade::four_colours([c[1], c[1], c[1], c[1]], second, opaque);
+    let a = shade::four_colours([c[0]; 4], first, opaque);
+    let b = shade::four_colours([c[1]; 4], second, opaque);
     shade::joined(a, b)
 }

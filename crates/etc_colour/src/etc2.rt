@@ -1,6 +1,6 @@
 // The colour blocks of src/etc/etc1.rs and src/etc/etc2.rs. ETC1, RGB and RGBA1 are one function: they differ in how the kind is told
 // and in what the opaque bit does. It has one caller, a loop over blocks, so that all of it stands in that loop (docs/PERFORMANCE.md).
-ghost use Rattle.std.specs.Prelude.{◌≡◌, ◌≤◌, false, length, if◌then◌else◌};
+ghost use Rattle.std.specs.Prelude.{◌≡◌, ◌≤◌, false, length};
 ghost use Rattle.rules.specs.Places.{tile};
 ghost use Rattle.rules.specs.Modes.{is_planar};
 ghost use Rattle.tables.specs.consts.Tables.{signed_steps};
@@ -17,17 +17,10 @@ fn bases_of(d: &[u8], kind: Kind) -> [[u8; 3]; 3]
     requires { 8 ≤ length d.now }
     ensures { result ≡ half_bases kind d.now }
 {
-    if let Kind::Individual = kind {
-        return etc1::individual_bases(d);
+    match kind {
+        Kind::Individual => etc1::individual_bases(d),
+        _ => etc1::differential_bases(d),
     }
-    etc1::differential_bases(d)
-}
-
-// Where the steps of the code 0 stand in the table.
-fn first_row(opaque: bool) -> usize
-    ensures { (result ≡ (if opaque then 8 else 0)) × (result ≤ 8) }
-{
-    if opaque { 8 } else { 0 }
 }
 
 // The colours of both halves. The table of steps is lent: a function that names it copies all of it.
@@ -35,9 +28,9 @@ fn both_halves(d: &[u8], kind: Kind, opaque: bool, table: &[[i16; 4]; 16]) -> [u
     requires { (8 ≤ length d.now) × (table.now ≡ signed_steps) }
     ensures { result ≡ eight (halves_colours opaque kind d.now) }
 {
-    let from = first_row(opaque);
-    let first = from + (d[3] / 32 % 8) as usize;
-    let second = from + (d[3] / 4 % 8) as usize;
+    let from = 8 * usize::from(opaque);
+    let first = from + usize::from(d[3] / 32 % 8);
+    let second = from + usize::from(d[3] / 4 % 8);
     etc1::both_halves(bases_of(d, kind), &table[first], &table[second], opaque)
 }
 
@@ -46,13 +39,11 @@ fn colours_of(d: &[u8], kind: Kind, opaque: bool, table: &[[i16; 4]; 16]) -> [u3
     requires { (8 ≤ length d.now) × (table.now ≡ signed_steps) × (is_planar kind ≡ false) }
     ensures { result ≡ eight (λ h. punched opaque (made_colours (steps_where opaque) kind d.now h)) }
 {
-    if let Kind::T = kind {
-        return modes::t_colours(d, opaque);
+    match kind {
+        Kind::T => modes::t_colours(d, opaque),
+        Kind::H => modes::h_colours(d, opaque),
+        _ => both_halves(d, kind, opaque, table),
     }
-    if let Kind::H = kind {
-        return modes::h_colours(d, opaque);
-    }
-    both_halves(d, kind, opaque, table)
 }
 
 // The sixteen pixels of a colour block of a kind, row by row.
@@ -60,10 +51,10 @@ fn made_block(d: &[u8], kind: Kind, opaque: bool, table: &[[i16; 4]; 16]) -> [u3
     requires { (8 ≤ length d.now) × (table.now ≡ signed_steps) }
     ensures { result ≡ tile (made_pixel kind opaque) d.now }
 {
-    if let Kind::Planar = kind {
-        return planar::planar_block(d);
+    match kind {
+        Kind::Planar => planar::planar_block(d),
+        _ => shade::picked(d, colours_of(d, kind, opaque, table)),
     }
-    shade::picked(d, colours_of(d, kind, opaque, table))
 }
 
 // The kind of an ETC1 block, whose sums wrap: its difference bit decides.
@@ -72,9 +63,10 @@ fn etc1_kind(d: &[u8]) -> Kind
     ensures { result ≡ etc1_kind_lem d.now }
 {
     if d[3] / 2 % 2 == 1 {
-        return Kind::Differential;
+        Kind::Differential
+    } else {
+        Kind::Individual
     }
-    Kind::Individual
 }
 
 // The kind of a block of ETC1, of RGBA1, whose difference bit is the opaque bit, or of RGB.
@@ -83,12 +75,12 @@ fn kind_in(plain: bool, punch: bool, d: &[u8]) -> Kind
     ensures { result ≡ kind_in_lem plain punch d.now }
 {
     if punch {
-        return kinds::kind_by_sums(d);
+        kinds::kind_by_sums(d)
+    } else if plain {
+        etc1_kind(d)
+    } else {
+        kinds::kind_of(d)
     }
-    if plain {
-        return etc1_kind(d);
-    }
-    kinds::kind_of(d)
 }
 
 // Whether a block is opaque: only RGBA1 has others.
@@ -99,7 +91,8 @@ fn opaque_in(punch: bool, d: &[u8]) -> bool
     (d[3] / 2 % 2 == 1) | !punch
 }
 
-// The sixteen pixels of a block of ETC1, of RGBA1 or of RGB, row by row.
+// The sixteen pixels of a block of ETC1, of RGBA1 or of RGB, row by row. Two flags say which and no enum, since `colour_pixel`, by which
+// the pixels are promised, takes them; and the bytes and the table are lent as they are, since a narrower type would ask more of callers.
 pub fn colour_block(plain: bool, punch: bool, d: &[u8], table: &[[i16; 4]; 16]) -> [u32; 16]
     requires { (8 ≤ length d.now) × (table.now ≡ signed_steps) }
     ensures { result ≡ tile (colour_pixel plain punch) d.now }

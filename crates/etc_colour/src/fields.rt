@@ -46,20 +46,14 @@ pub fn distance(n: u8) -> u8
     ensures { (result ≡ distance_at n) × (result < 65) }
 {
     let table = consts::distances();
-    table[n as usize]
+    table[usize::from(n)]
 }
 
-// Whether a >= b, compared red, then green, then blue; equal counts.
+// Whether a is not less than b, compared red, then green, then blue: the order of arrays.
 fn not_less(a: [u8; 3], b: [u8; 3]) -> bool
     ensures { result ≡ not_less_lem a b }
 {
-    if a[0] != b[0] {
-        return b[0] < a[0];
-    }
-    if a[1] != b[1] {
-        return b[1] < a[1];
-    }
-    b[2] <= a[2]
+    b <= a
 }
 
 // H's distance number, from its base colours and byte 3.
@@ -67,10 +61,5 @@ pub fn h_number(c: [[u8; 3]; 3], b: u8) -> u8
     ensures { (result ≡ 4 * bit 2 b + 2 * bit 0 b + (if not_less_lem (slice_index_or c 0 []) (slice_index_or c 1 []) then 1 else 0))
         × (result < 8) }
 {
-    let number = 4 * (b / 4 % 2) + 2 * (b % 2);
-    if not_less(c[0], c[1]) {
-        number + 1
-    } else {
-        number
-    }
+    4 * (b / 4 % 2) + 2 * (b % 2) + u8::from(not_less(c[0], c[1]))
 }

@@ -8,3 +8,4 @@ mod fields;
 mod modes;
 mod planar;
 pub mod shade;
+mod widen;

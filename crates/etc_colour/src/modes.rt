@@ -7,12 +7,13 @@ ghost use Rattle.etc_colour.specs.shade.Tone.{punched, third_where};
 
 use super::{fields, shade};
 
-// T's four steps, by index. Where a block is not opaque, the one of index 2 leaves nothing.
+// T's four steps, by index. Where a block is not opaque, the one of index 2 leaves nothing. T and H have functions of their own, since one
+// for both is no plainer: they differ in fields and in the order of steps and of bases, and in no constant.
 fn t_steps(distance: u8, opaque: bool) -> [i16; 4]
     requires { distance < 65 }
     ensures { result ≡ pos 0 ∷ pos distance ∷ third_where opaque (pos 0) ∷ minus distance ∷ [] }
 {
-    let m = distance as i16;
+    let m = i16::from(distance);
     if opaque {
         [0, m, 0, -m]
     } else {
@@ -25,7 +26,7 @@ fn h_steps(distance: u8, opaque: bool) -> [i16; 4]
     requires { distance < 65 }
     ensures { result ≡ pos distance ∷ minus distance ∷ third_where opaque (pos distance) ∷ minus distance ∷ [] }
 {
-    let m = distance as i16;
+    let m = i16::from(distance);
     if opaque {
         [m, -m, m, -m]
     } else {

@@ -4,32 +4,17 @@ ghost use Rattle.rules.specs.Places.{tile};
 ghost use Rattle.rules.specs.Modes.{six, seven, planar_bases_lem, planar_channel, planar_pixel_lem};
 ghost use Rattle.etc_colour.specs.planar.Fields.{planar_fields};
 
+use super::widen::widened;
 use pixel::color;
-
-// Six bits as eight.
-fn wide6(v: u8) -> u8
-    requires { v < 64 }
-    ensures { result ≡ six v }
-{
-    4 * v + v / 16
-}
-
-// Seven bits as eight.
-fn wide7(v: u8) -> u8
-    requires { v < 128 }
-    ensures { result ≡ seven v }
-{
-    2 * v + v / 64
-}
 
 // The first of planar's base colours, O, from bytes 0 to 3.
 fn planar_origin(a: u8, b: u8, c: u8, d: u8) -> [u8; 3]
     ensures { result ≡ planar_fields 0 a b c d }
 {
     [
-        wide6(a / 2 % 64),
-        wide7(64 * (a % 2) + b / 2 % 64),
-        wide6(32 * (b % 2) + 8 * (c / 8 % 4) + 2 * (c % 4) + d / 128 % 2),
+        widened::<6>(a / 2 % 64),
+        widened::<7>(64 * (a % 2) + b / 2 % 64),
+        widened::<6>(32 * (b % 2) + 8 * (c / 8 % 4) + 2 * (c % 4) + d / 128 % 2),
     ]
 }
 
@@ -38,9 +23,9 @@ fn planar_right(d: u8, e: u8, f: u8) -> [u8; 3]
     ensures { result ≡ planar_fields 1 d e f 0 }
 {
     [
-        wide6(2 * (d / 4 % 32) + d % 2),
-        wide7(e / 2 % 128),
-        wide6(32 * (e % 2) + f / 8 % 32),
+        widened::<6>(2 * (d / 4 % 32) + d % 2),
+        widened::<7>(e / 2 % 128),
+        widened::<6>(32 * (e % 2) + f / 8 % 32),
     ]
 }
 
@@ -49,9 +34,9 @@ fn planar_below(f: u8, g: u8, h: u8) -> [u8; 3]
     ensures { result ≡ planar_fields 2 f g h 0 }
 {
     [
-        wide6(8 * (f % 8) + g / 32 % 8),
-        wide7(4 * (g % 32) + h / 64 % 4),
-        wide6(h % 64),
+        widened::<6>(8 * (f % 8) + g / 32 % 8),
+        widened::<7>(4 * (g % 32) + h / 64 % 4),
+        widened::<6>(h % 64),
     ]
 }
 
@@ -67,7 +52,8 @@ fn planar_bases(d: &[u8]) -> [[u8; 3]; 3]
     ]
 }
 
-// One channel, in column x of row y. A signed type of 16 bits holds every sum on the way.
+// One channel, in column x of row y. A signed type of 16 bits holds every sum on the way. Casts and no `i16::from`, which is no plainer:
+// eight conversions in one sum would fill two lines.
 fn channel(o: u8, h: u8, v: u8, x: u8, y: u8) -> u32
     requires { (x < 4) × (y < 4) }
     ensures { (result ≡ planar_channel o h v x y) × (result < 256) }
@@ -96,10 +82,8 @@ pub fn planar_block(d: &[u8]) -> [u32; 16]
 {
     let c = planar_bases(d);
     let mut out = [0u32; 16];
-    let mut i: usize = 0;
-    while i < 16 {
+    for i in 0..16 {
         out[i] = planar_pixel(c, (i % 4) as u8, (i / 4) as u8);
-        i += 1;
     }
     out
 }

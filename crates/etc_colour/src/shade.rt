@@ -13,7 +13,7 @@ fn stepped(channel: u8, step: i16) -> u32
     requires { mag step < 1024 }
     ensures { (result ≡ clamp 255 (pos channel +ℤ step)) × (result < 256) × (step ≡ minus 512 → result ≡ 0) }
 {
-    color::clamp(channel as i16 + step)
+    color::clamp(i16::from(channel) + step)
 }
 
 // A base colour with a step, and an alpha.
@@ -33,11 +33,7 @@ fn applicate_color(c: [u8; 3], step: i16, alpha: u32) -> u32
 fn alphas_where(opaque: bool) -> [u32; 4]
     ensures { result ≡ alphas_where_lem opaque }
 {
-    if opaque {
-        [255, 255, 255, 255]
-    } else {
-        [255, 255, 0, 255]
-    }
+    if opaque { [255; 4] } else { [255, 255, 0, 255] }
 }
 
 // Four base colours, each with its step: the one way in which a half, T and H make their colours. Where a block is not opaque, index 2 is
@@ -49,15 +45,13 @@ pub fn four_colours(bases: [[u8; 3]; 4], steps: &[i16; 4], opaque: bool) -> [u32
 {
     let alphas = alphas_where(opaque);
     let mut colours = [0u32; 4];
-    let mut i: usize = 0;
-    while i < 4 {
+    for i in 0..4 {
         colours[i] = applicate_color(bases[i], steps[i], alphas[i]);
-        i += 1;
     }
     colours
 }
 
-// The colours of the first half, and then those of the second.
+// The colours of the first half, and then those of the second. Written out, since no method joins two arrays into a third.
 pub fn joined(a: [u32; 4], b: [u32; 4]) -> [u32; 8]
     ensures { result ≡ slice_index a 0 ∷ slice_index a 1 ∷ slice_index a 2 ∷ slice_index a 3 ∷ slice_index b 0 ∷ slice_index b 1
         ∷ slice_index b 2 ∷ slice_index b 3 ∷ [] }
@@ -87,14 +81,12 @@ fn numbers(d: &[u8]) -> [u16; 16]
     ensures { result ≡ build 16 (number_at d.now) }
 {
     let half = second_half(d[3] % 2 == 1);
-    let high = color::two_bytes(d[4], d[5]) as u16;
-    let low = color::two_bytes(d[6], d[7]) as u16;
+    let high = u16::from_be_bytes([d[4], d[5]]);
+    let low = u16::from_be_bytes([d[6], d[7]]);
     let mut out = [0u16; 16];
-    let mut k: u16 = 0;
-    while k < 16 {
+    for k in 0..16 {
         let n = k % 4 * 4 + k / 4;
-        out[k as usize] = where_set(half, n, 4) + where_set(high, n, 2) + where_set(low, n, 1);
-        k += 1;
+        out[usize::from(k)] = where_set(half, n, 4) + where_set(high, n, 2) + where_set(low, n, 1);
     }
     out
 }
@@ -106,10 +98,8 @@ pub fn picked(d: &[u8], colours: [u32; 8]) -> [u32; 16]
 {
     let number = numbers(d);
     let mut out = [0u32; 16];
-    let mut i: usize = 0;
-    while i < 16 {
-        out[i] = colours[number[i] as usize];
-        i += 1;
+    for i in 0..16 {
+        out[i] = colours[usize::from(number[i])];
     }
     out
 }

@@ -1,5 +1,5 @@
-pub mod Picks
 pub mod Words
+pub mod Tables
 pub mod Walk
 pub mod KeyTurns
 pub mod SheetHeader

@@ -3,33 +3,33 @@
 use mathlib.Core.Path.{◌≡◌, ◌∙◌, refl, sym, ap}
 use mathlib.Core.Bool.{Bool, true, false, cond, not, ◌||◌}
 use mathlib.Core.List.{List}
-use Prim.Native.Nat.{ℕ, zero, suc, ◌+◌, ◌-◌, ◌*◌, ◌/◌, ◌≤◌, ◌<◌}
+use Prim.Native.Nat.{ℕ, zero, suc, ◌+◌, ◌-◌, ◌*◌, ◌/◌, ◌≤◌, ◌<◌, min, max}
 use native.Mathlib.Omega.{arith}
-use borrow.Author.Tests.{lt-ltb, le-ltb, ltb-false}
+use borrow.Author.Tests.{lt-ltb, le-ltb, ltb-true, ltb-false}
 use lib.Dec.{eqb, ltb}
 use lib.ListN.{length}
 use Rattle.numbers.specs.Numbers.{little}
 use Rattle.rules.specs.FileFormats.{word32}
-use Rattle.rules.specs.FileLevels.{bytes_for_lem, inside_of, after_size_lem, in_index_lem, fit_of_lem, level_at_lem, next_spot_lem, lesser, chosen, fits_then, levels_from, too_many_lem, larger}
+use Rattle.rules.specs.FileLevels.{bytes_for_lem, inside_of, after_size_lem, in_index_lem, fit_in, fit_of_lem, level_at_lem, next_spot_lem}
+use Rattle.rules.specs.FileLevels.{lesser, chosen, fits_then, levels_from, too_many_lem, larger}
 use Rattle.rules.specs.Places.{sized}
 use Rattle.rules.specs.Answers.{limit, too_large_lem}
-use Rattle.rules.specs.declared.Answer.{Answer}
+use Rattle.std.specs.Prelude.{Result, Ok, Err}
+use Rattle.rules.specs.declared.Container.{Container}
+use Rattle.rules.specs.declared.Container.TheVariants.{Pkm, Ktx1, Ktx2, Dds, Sheet}
+use Rattle.rules.specs.declared.Refusal.{Refusal}
 use Rattle.rules.specs.declared.Layout.{Layout}
 use Rattle.rules.specs.declared.Spot.{Spot}
-use Rattle.rules.specs.declared.Fit.{Fit}
-use Rattle.rules.specs.declared.Fit.TheVariants as fit
-use Rattle.rules.specs.declared.HeldLevels.{HeldLevels}
-use Rattle.rules.specs.declared.HeldLevels.TheVariants as held
 use Rattle.rules.specs.declared.FileLevel.{FileLevel}
 
 -- ---- what fits lies in the file
 
 -- a test that refuses was not met
-past : (b : Bool) (a : Answer) (x : Fit) (s : ℕ) → fit.Fits s ≡ cond b (fit.Refused a) x → (b ≡ false) × (fit.Fits s ≡ x)
+past : (b : Bool) (a : Refusal) (x : Result ℕ Refusal) (s : ℕ) → Ok s ≡ cond b (Err a) x → (b ≡ false) × (Ok s ≡ x)
 past true a x s e = absurd (let z : ◌≡◌ {A = ℕ} 0 1 = cc in omega arith)
 past false a x s e = (refl, e)
 
-pub inside_fits : (d : List ℕ) (start need s : ℕ) → fit.Fits s ≡ inside_of d start need → s + need ≤ length d
+pub inside_fits : (d : List ℕ) (start need s : ℕ) → Ok s ≡ inside_of d start need → s + need ≤ length d
 unfolding inside_of
 inside_fits d start need s e =
     let p = past (ltb (length d) start) _ _ s e in
@@ -37,52 +37,42 @@ inside_fits d start need s e =
     let r : s ≡ start = (let g = q.1 in cc) in
     omega (arith, ltb-false (length d) start p.0, ltb-false (length d - start) need q.0)
 
-after_fits : (order : Bool) (d : List ℕ) (at need s : ℕ) → fit.Fits s ≡ after_size_lem order d at need → s + need ≤ length d
+after_fits : (order : Bool) (d : List ℕ) (at need s : ℕ) → Ok s ≡ after_size_lem order d at need → s + need ≤ length d
 unfolding after_size_lem
 after_fits order d at need s e =
     let p = past (ltb (length d) (at + 4)) _ _ s e in
     let q = past (not (eqb (word32 order d at) need)) _ _ s p.1 in
     inside_fits d (at + 4) need s q.1
 
-index_fits : (d : List ℕ) (n need s : ℕ) → fit.Fits s ≡ in_index_lem d n need → s + need ≤ length d
+index_fits : (d : List ℕ) (n need s : ℕ) → Ok s ≡ in_index_lem d n need → s + need ≤ length d
 unfolding in_index_lem
 index_fits d n need s e =
     let p = past (ltb (length d) (104 + 24 * n)) _ _ s e in
     let q = past (not (eqb (little 8 (88 + 24 * n) d) need)) _ _ s p.1 in
     inside_fits d (little 8 (80 + 24 * n) d) need s q.1
 
--- one of three
-chosen_fits :
-    (P : Fit → Type 0) (a b : Bool) (x y z : Fit)
-    → P x
-    → P y
-    → P z
-    → P (cond a x (cond b y z))
-chosen_fits P true b x y z p q r = p
-chosen_fits P false true x y z p q r = q
-chosen_fits P false false x y z p q r = r
-
-pub fits : (l : Layout) (d : List ℕ) (n : ℕ) (s : Spot) (start : ℕ) → fit.Fits start ≡ fit_of_lem l d n s → start + bytes_for_lem l.format s.width s.height ≤ length d
-unfolding fit_of_lem
-fits l d n s start e =
-    let need = bytes_for_lem l.format s.width s.height in
-    chosen_fits
-    (λ (x : Fit). fit.Fits start ≡ x → start + need ≤ length d)
-    (eqb l.container 2)
-    (eqb l.container 3)
-    (after_size_lem (eqb l.big_endian 1) d s.at need)
-    (in_index_lem d n need)
-    (inside_of d s.at need)
-    (after_fits (eqb l.big_endian 1) d s.at need start)
-    (index_fits d n need start)
-    (inside_fits d s.at need start)
-    e
+-- by its container
+pub fits : (c : Container) (order : Bool) (d : List ℕ) (n at need start : ℕ) → Ok start ≡ fit_in c order d n at need → start + need ≤ length d
+unfolding fit_in
+fits Ktx1 order d n at need start e = after_fits order d at need start e
+fits Ktx2 order d n at need start e = index_fits d n need start e
+fits Pkm order d n at need start e = inside_fits d at need start e
+fits Dds order d n at need start e = inside_fits d at need start e
+fits Sheet order d n at need start e = inside_fits d at need start e
 
 -- ---- level by level
 
+-- the least of two numbers, as the rules have it
+pub least : (a b : ℕ) → min a b ≡ lesser a b
+least a b = by (ltb a b) refl
+  where
+    by : (t : Bool) → ltb a b ≡ t → min a b ≡ cond t a b
+    by true e = omega (arith, ltb-true a b e)
+    by false e = omega (arith, ltb-false a b e)
+
 module _ (l : Layout) (d : List ℕ) (n left : ℕ) (level : FileLevel) (i : ℕ) (s : Spot) where
   -- what is left to walk
-  pub rest : HeldLevels
+  pub rest : Result (ℕ × FileLevel) Refusal
   rest = levels_from l d n left level i (l.levels - i) s
 
   turn :
@@ -101,10 +91,10 @@ module _ (l : Layout) (d : List ℕ) (n left : ℕ) (level : FileLevel) (i : ℕ
       let one : l.levels - i ≡ suc (l.levels - (i + 1)) = omega arith in
       ap (λ (k : ℕ). levels_from l d n left level i k s) one
 
-  pub stops : (a : Answer) → i < l.levels → fit.Refused a ≡ fit_of_lem l d i s → held.Refused a ≡ levels_from l d n left level i (l.levels - i) s
+  pub stops : (a : Refusal) → i < l.levels → Err a ≡ fit_of_lem l d i s → Err a ≡ levels_from l d n left level i (l.levels - i) s
   stops a h e =
       ap
-      (λ (z : Fit).
+      (λ (z : Result ℕ Refusal).
       fits_then z
       (λ start.
       levels_from l d n
@@ -119,7 +109,7 @@ module _ (l : Layout) (d : List ℕ) (n left : ℕ) (level : FileLevel) (i : ℕ
   pub onward :
       (start left' : ℕ) (level' : FileLevel) (s' : Spot)
       → i < l.levels
-      → fit.Fits start ≡ fit_of_lem l d i s
+      → Ok start ≡ fit_of_lem l d i s
       → left' ≡ lesser left (length d - (start + bytes_for_lem l.format s.width s.height))
       → level' ≡ chosen n i (level_at_lem l s start) level
       → s' ≡ next_spot_lem l s start
@@ -137,7 +127,7 @@ module _ (l : Layout) (d : List ℕ) (n left : ℕ) (level : FileLevel) (i : ℕ
       z)
       g
       ∙ ap
-      (λ (z : Fit).
+      (λ (z : Result ℕ Refusal).
       fits_then z
       (λ start.
       levels_from l d n
@@ -149,7 +139,7 @@ module _ (l : Layout) (d : List ℕ) (n left : ℕ) (level : FileLevel) (i : ℕ
       e
       ∙ sym (turn h)
 
-  pub over : l.levels ≤ i → levels_from l d n left level i (l.levels - i) s ≡ held.Levels left level
+  pub over : l.levels ≤ i → levels_from l d n left level i (l.levels - i) s ≡ Ok (left, level)
   unfolding levels_from
   over h =
       let none : l.levels - i ≡ 0 = omega arith in
@@ -210,6 +200,14 @@ neither false b e = (refl, e)
 most : (w h levels : ℕ) (b : Bool) → w ≤ limit → h ≤ limit → too_many_lem (cond b h w) (levels - 1) ≡ false → levels < 256
 most w h levels true p q e = let r = seventeen h levels q e in omega arith
 most w h levels false p q e = let r = seventeen w levels p e in omega arith
+
+-- the larger of two numbers, as the rules have it
+pub largest : (a b : ℕ) → max a b ≡ larger a b
+largest a b = by (ltb a b) refl
+  where
+    by : (t : Bool) → ltb a b ≡ t → max a b ≡ cond t b a
+    by true e = omega (arith, ltb-true a b e)
+    by false e = omega (arith, ltb-false a b e)
 
 -- a picture that is not too large has few levels
 pub sound :

@@ -1,83 +1,91 @@
 // The header of a KTX 2 file. Its numbers and their places are in crates/rules/specs/Ktx2.antt.
 ghost use Rattle.std.specs.Prelude.{◌≡◌, ◌≤◌, length};
-ghost use Rattle.rules.specs.FileFormats.{known as known_in};
-ghost use Rattle.rules.specs.Ktx2.{is_ktx2_lem, vk_rows, ktx2_as, ktx2_of};
+ghost use Rattle.rules.specs.FileFormats.{known};
+ghost use Rattle.rules.specs.Ktx2.{vk_rows, ktx2_as, ktx2_of};
 
-use super::{formats, keys};
-use rules::{Answer, FileHeader, KnownFormat, Layout};
+use super::formats;
+use super::keys::Pairs;
+use rules::{Container, Format, Layout, Refusal};
 
-// Vulkan's numbers: the number, the format's, and 1 where it is sRGB.
-const ROWS: [usize; 72] = [
-    131, 8, 0, 132, 8, 1, 133, 9, 0, 134, 9, 1, 135, 12, 0, 136, 12, 1, 137, 10, 0, 138, 10, 1,
-    139, 13, 0, 140, 14, 0, 141, 15, 0, 142, 16, 0, 145, 11, 0, 146, 11, 1, 147, 1, 0, 148, 1, 1,
-    149, 2, 0, 150, 2, 1, 151, 3, 0, 152, 3, 1, 153, 4, 0, 154, 5, 0, 155, 6, 0, 156, 7, 0,
+// Vulkan's numbers.
+const ROWS: [(usize, Format, bool); 24] = [
+    (131, Format::Bc1, false),
+    (132, Format::Bc1, true),
+    (133, Format::Bc1Alpha, false),
+    (134, Format::Bc1Alpha, true),
+    (135, Format::Bc2, false),
+    (136, Format::Bc2, true),
+    (137, Format::Bc3, false),
+    (138, Format::Bc3, true),
+    (139, Format::Bc4, false),
+    (140, Format::Bc4Signed, false),
+    (141, Format::Bc5, false),
+    (142, Format::Bc5Signed, false),
+    (145, Format::Bc7, false),
+    (146, Format::Bc7, true),
+    (147, Format::Etc2Rgb, false),
+    (148, Format::Etc2Rgb, true),
+    (149, Format::Etc2Rgba1, false),
+    (150, Format::Etc2Rgba1, true),
+    (151, Format::Etc2Rgba8, false),
+    (152, Format::Etc2Rgba8, true),
+    (153, Format::EacR, false),
+    (154, Format::EacRSigned, false),
+    (155, Format::EacRg, false),
+    (156, Format::EacRgSigned, false),
 ];
 
 // What Vulkan's number stands for.
-fn vk_format(number: usize) -> KnownFormat
-    ensures { result ≡ known_in vk_rows number }
+fn vk_format(number: usize) -> Option<(Format, bool)>
+    ensures { result ≡ known vk_rows number }
 {
-    let rows = ROWS;
-    formats::known_in(&rows, number)
-}
-
-// Whether a file begins as KTX 2 does.
-pub fn is_ktx2(d: &[u8]) -> bool
-    ensures { result ≡ is_ktx2_lem d.now }
-{
-    let first = formats::has4(d, 0, 0xAB4B5458);
-    let second = formats::has4(d, 4, 0x203230BB);
-    let third = formats::has4(d, 8, 0x0D0A1A0A);
-    first & (second & third)
+    formats::known_in(&ROWS, number)
 }
 
 // The rest of the header, once its format is known.
-fn header_as(known: KnownFormat, d: &[u8]) -> FileHeader
+#[tactic(auto, unfolding(rules::specs::Ktx2::ktx2_as))]
+fn header_as(known: Option<(Format, bool)>, d: &[u8]) -> Result<Layout, Refusal>
     requires { 80 ≤ length d.now }
     ensures { result ≡ ktx2_as known d.now }
 {
-    match known {
-        KnownFormat::Not => FileHeader::Refused(Answer::UnknownFormat),
-        KnownFormat::As(format, srgb) => {
-            let width = numbers::little4(d, 20);
-            let height = numbers::little4(d, 24);
-            let count = numbers::little4(d, 40);
-            let levels = formats::one_at_least(count);
-            let pairs = numbers::little4(d, 56);
-            let size = numbers::little4(d, 60);
-            let orientation = keys::orientation(true, false, d, pairs, size);
-            FileHeader::Holds(Layout {
-                container: 3,
-                format: format,
-                srgb: srgb,
-                width: width,
-                height: height,
-                levels: levels,
-                big_endian: 0,
-                orientation: orientation,
-                start: 80,
-                agrees: true,
-            })
-        }
-    }
+    let (format, srgb) = known.ok_or(Refusal::UnknownFormat)?;
+    let start = numbers::little4(d, 56);
+    let size = numbers::little4(d, 60);
+    let pairs = Pairs {
+        second: true,
+        order: false,
+        d,
+    };
+    Ok(Layout {
+        container: Container::Ktx2,
+        format,
+        srgb,
+        width: numbers::little4(d, 20),
+        height: numbers::little4(d, 24),
+        levels: formats::one_at_least(numbers::little4(d, 40)),
+        big_endian: false,
+        orientation: pairs.orientation(start, size),
+        start: 80,
+        agrees: true,
+    })
 }
 
 // The header.
-pub fn header(d: &[u8]) -> FileHeader
+#[tactic(auto, unfolding(rules::specs::Ktx2::ktx2_of))]
+pub fn header(d: &[u8]) -> Result<Layout, Refusal>
     ensures { result ≡ ktx2_of d.now }
 {
     if d.len() < 80 {
-        return FileHeader::Refused(Answer::HeaderCut);
+        return Err(Refusal::HeaderCut);
     }
     let depth = numbers::little4(d, 28);
     let layers = numbers::little4(d, 32);
     let faces = numbers::little4(d, 36);
-    if formats::is_flat(depth, layers, faces) {
-        if numbers::little4(d, 44) != 0 {
-            return FileHeader::Refused(Answer::Supercompressed);
-        }
-        let number = numbers::little4(d, 12);
-        return header_as(vk_format(number), d);
+    if !formats::is_flat(depth, layers, faces) {
+        return Err(Refusal::NotFlat);
     }
-    FileHeader::Refused(Answer::NotFlat)
+    if numbers::little4(d, 44) != 0 {
+        return Err(Refusal::Supercompressed);
+    }
+    header_as(vk_format(numbers::little4(d, 12)), d)
 }

@@ -4,83 +4,82 @@ ghost use Rattle.rules.specs.FileFormats.{known};
 ghost use Rattle.rules.specs.Pkm.{pkm_rows1, pkm_rows2, padded as padded_to, pkm_as, pkm_of};
 
 use super::formats;
-use rules::{Answer, FileHeader, KnownFormat, Layout};
+use rules::{Container, Format, Layout, Orientation, Refusal};
 
-// The types of version 1.0 and 2.0: the type, the format's number, and 1 where it is sRGB.
-const ROWS_1: [usize; 3] = [0, 0, 0];
+// The types of version 1.0 and 2.0.
+const ROWS_1: [(usize, Format, bool); 1] = [(0, Format::Etc1, false)];
 
-const ROWS_2: [usize; 33] = [
-    0, 0, 0, 1, 1, 0, 3, 3, 0, 4, 2, 0, 5, 4, 0, 6, 6, 0, 7, 5, 0, 8, 7, 0, 9, 1, 1, 10, 3, 1, 11,
-    2, 1,
+const ROWS_2: [(usize, Format, bool); 11] = [
+    (0, Format::Etc1, false),
+    (1, Format::Etc2Rgb, false),
+    (3, Format::Etc2Rgba8, false),
+    (4, Format::Etc2Rgba1, false),
+    (5, Format::EacR, false),
+    (6, Format::EacRg, false),
+    (7, Format::EacRSigned, false),
+    (8, Format::EacRgSigned, false),
+    (9, Format::Etc2Rgb, true),
+    (10, Format::Etc2Rgba8, true),
+    (11, Format::Etc2Rgba1, true),
 ];
+
+// What a type of version 1.0 stands for.
+fn type_1(number: usize) -> Option<(Format, bool)>
+    ensures { result ≡ known pkm_rows1 number }
+{
+    formats::known_in(&ROWS_1, number)
+}
+
+// What a type of version 2.0 stands for.
+fn type_2(number: usize) -> Option<(Format, bool)>
+    ensures { result ≡ known pkm_rows2 number }
+{
+    formats::known_in(&ROWS_2, number)
+}
 
 // A side, made up to whole blocks.
 fn padded(side: usize) -> usize
     requires { side < 0x10000 }
     ensures { result ≡ padded_to side }
 {
-    (side + 3) / 4 * 4
+    side.next_multiple_of(4)
 }
 
 // The rest of the header, once its format is known.
-fn header_as(known: KnownFormat, d: &[u8]) -> FileHeader
+#[tactic(auto, unfolding(rules::specs::Pkm::pkm_as))]
+fn header_as(known: Option<(Format, bool)>, d: &[u8]) -> Result<Layout, Refusal>
     requires { 16 ≤ length d.now }
     ensures { result ≡ pkm_as known d.now }
 {
-    match known {
-        KnownFormat::Not => FileHeader::Refused(Answer::UnknownFormat),
-        KnownFormat::As(format, srgb) => {
-            let width = numbers::big2(d, 12);
-            let height = numbers::big2(d, 14);
-            let across = numbers::big2(d, 8) == padded(width);
-            let down = numbers::big2(d, 10) == padded(height);
-            let agrees = across & down;
-            FileHeader::Holds(Layout {
-                container: 1,
-                format: format,
-                srgb: srgb,
-                width: width,
-                height: height,
-                levels: 1,
-                big_endian: 1,
-                orientation: 0,
-                start: 16,
-                agrees: agrees,
-            })
-        }
-    }
-}
-
-// What a type of version 1.0 stands for.
-fn type_1(number: usize) -> KnownFormat
-    ensures { result ≡ known pkm_rows1 number }
-{
-    let rows = ROWS_1;
-    formats::known_in(&rows, number)
-}
-
-// What a type of version 2.0 stands for.
-fn type_2(number: usize) -> KnownFormat
-    ensures { result ≡ known pkm_rows2 number }
-{
-    let rows = ROWS_2;
-    formats::known_in(&rows, number)
+    let (format, srgb) = known.ok_or(Refusal::UnknownFormat)?;
+    let width = numbers::big2(d, 12);
+    let height = numbers::big2(d, 14);
+    Ok(Layout {
+        container: Container::Pkm,
+        format,
+        srgb,
+        width,
+        height,
+        levels: 1,
+        big_endian: true,
+        orientation: Orientation::Untold,
+        start: 16,
+        agrees: numbers::big2(d, 8) == padded(width) && numbers::big2(d, 10) == padded(height),
+    })
 }
 
 // The header.
-pub fn header(d: &[u8]) -> FileHeader
+#[tactic(auto, unfolding(rules::specs::Pkm::pkm_of))]
+pub fn header(d: &[u8]) -> Result<Layout, Refusal>
     ensures { result ≡ pkm_of d.now }
 {
     if d.len() < 16 {
-        return FileHeader::Refused(Answer::HeaderCut);
+        return Err(Refusal::HeaderCut);
     }
-    let version = numbers::big2(d, 4);
     let number = numbers::big2(d, 6);
-    if version == 0x3130 {
-        return header_as(type_1(number), d);
+    match numbers::big2(d, 4) {
+        0x3130 => header_as(type_1(number), d),
+        0x3230 => header_as(type_2(number), d),
+        _ => Err(Refusal::UnknownVersion),
     }
-    if version == 0x3230 {
-        return header_as(type_2(number), d);
-    }
-    FileHeader::Refused(Answer::UnknownVersion)
 }

@@ -14,7 +14,7 @@ use lib.ListN.{get_or, take, drop}
 use Rattle.rules.specs.Places.{bytes_of}
 use Rattle.rules.specs.Answers.{said, accepts, first_of, guarded}
 use Rattle.rules.specs.Guards.{Guard}
-use Rattle.rules.specs.declared.Answer.{Answer}
+use Rattle.rules.specs.Answers.{Answer}
 use Rattle.rules.specs.Formats.{size_of}
 use Rattle.laws.proofs.First.{first, only}
 use Rattle.laws.proofs.Guards.{Sound, strict_sound, opaque_sound}

@@ -7,7 +7,7 @@ ghost use Rattle.rules.specs.Guards.{not_opaque};
 ghost use Rattle.laws.specs.Kinds.{strange};
 ghost use Rattle.guard.specs.Viewers.{guard_of, scanned_from};
 
-use rules::{Answer, Format, Kind};
+use rules::{Format, Kind, Refusal};
 
 // The older viewers: one that knows ETC1 alone, and one that knows ETC2 RGB, but nothing transparent.
 #[derive(Clone, Copy)]
@@ -37,28 +37,28 @@ pub fn shown(viewer: Viewer) -> Format
 }
 
 // In range goes on; otherwise the refusal of ETC1 with the block's number.
-fn in_range(kind: Kind, block: usize) -> Answer
+fn in_range(kind: Kind, block: usize) -> Result<(), Refusal>
     ensures { said result ≡ cond (strange kind) (4 ∷ block ∷ []) (0 ∷ []) }
 {
-    let (Kind::Individual | Kind::Differential) = kind else {
-        return Answer::OutOfRange(block);
-    };
-    Answer::Done
+    match kind {
+        Kind::Individual | Kind::Differential => Ok(()),
+        _ => Err(Refusal::OutOfRange(block)),
+    }
 }
 
 // Opaque goes on; otherwise the refusal of an opaque-only viewer with the block's number.
-fn opaque(d: &[u8], block: usize) -> Answer
+fn opaque(d: &[u8], block: usize) -> Result<(), Refusal>
     requires { 8 ≤ length d.now }
     ensures { said result ≡ cond (not_opaque d.now) (11 ∷ block ∷ []) (0 ∷ []) }
 {
     if d[3] / 2 % 2 != 1 {
-        return Answer::NotOpaque(block);
+        return Err(Refusal::NotOpaque(block));
     }
-    Answer::Done
+    Ok(())
 }
 
 // What a viewer says of a block that has these bytes and this number.
-pub fn judged(viewer: Viewer, d: &[u8], block: usize) -> Answer
+pub fn judged(viewer: Viewer, d: &[u8], block: usize) -> Result<(), Refusal>
     requires { 8 ≤ length d.now }
     ensures { said result ≡ cond ((guard_of viewer).bad d.now) ((guard_of viewer).number ∷ block ∷ []) (0 ∷ []) }
 {
@@ -69,19 +69,14 @@ pub fn judged(viewer: Viewer, d: &[u8], block: usize) -> Answer
 }
 
 // What is to be said of n blocks, of which the first has the number from: the refusal of the first that a viewer must not show.
-pub fn refusal(viewer: Viewer, data: &[u8], from: usize, n: usize) -> Answer
+pub fn refusal(viewer: Viewer, data: &[u8], from: usize, n: usize) -> Result<(), Refusal>
     requires { (n * 8 ≤ length «data».now) × (from ≤ 0x1000000) }
     ensures { said result ≡ scanned_from (guard_of viewer) from n «data».now }
 {
-    let mut b: usize = 0;
-    while b < n {
+    for b in 0..n {
         let at = b * 8;
         let end = at + 8;
-        let answer = judged(viewer, &data[at..end], from + b);
-        let Answer::Done = answer else {
-            return answer;
-        };
-        b += 1;
+        judged(viewer, &data[at..end], from + b)?;
     }
-    Answer::Done
+    Ok(())
 }

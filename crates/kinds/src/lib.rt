@@ -11,10 +11,11 @@ fn beyond(b: u8) -> bool
     ensures { result ≡ is_beyond (sum b) }
 {
     let four_more = b / 8 + (b % 8 + 4) % 8;
-    if four_more < 4 { true } else { 35 < four_more }
+    !matches!(four_more, 4..=35)
 }
 
 // The kind of a block that is read as if its difference bit were set, as in RGBA1: red goes before green before blue.
+#[tactic(auto, unfolding(rules::specs::Colour::kind_by_sums_lem))]
 pub fn kind_by_sums(d: &[u8]) -> Kind
     requires { 8 ≤ length d.now }
     ensures { result ≡ kind_by_sums_lem d.now }

@@ -8,8 +8,7 @@ use Prim.Native.Nat.{ℕ, ◌<◌}
 use native.Mathlib.Omega.{arith}
 use borrow.Author.Tests.{ne_eqb}
 use lib.Dec.{T, ltb, ltb→lt}
-use Rattle.rules.specs.Answers.{said, accepts, Check, judged, verdict}
-use Rattle.rules.specs.declared.Answer.{Answer}
+use Rattle.rules.specs.Answers.{Answer, said, accepts, Check, judged, verdict}
 
 -- every check passes
 pub record Both (P Q : Type 0) : Type 0 where

@@ -11,6 +11,7 @@ pub mod Range
 pub mod Between
 pub mod Number
 pub mod Refuse
+pub mod Results
 pub mod Shift
 pub mod Tables
 pub mod Shades

@@ -4,9 +4,8 @@ use mathlib.Core.Path.{◌≡◌, ◌∙◌, sym, ap}
 use mathlib.Core.Bool.{Bool, false, cond}
 use mathlib.Core.List.{List}
 use Prim.Native.Nat.{ℕ}
-use Rattle.rules.specs.Answers.{said, accepts, Outcome}
-use Rattle.rules.specs.declared.Answer.{Answer}
-use Rattle.rules.specs.declared.Answer.TheVariants.{Done}
+use Rattle.std.specs.Prelude.{Ok}
+use Rattle.rules.specs.Answers.{Answer, said, accepts, Outcome}
 
 module _ (verdict after old : List ℕ) where
   -- a refusal changes nothing
@@ -15,5 +14,5 @@ module _ (verdict after old : List ℕ) where
       record { says = e; leaves = sym (ap (λ (t : Bool). cond t after old) (sym (ap accepts e) ∙ r)) }
 
   -- what is done is what the rules say
-  pub done : (new : List ℕ) → said Done ≡ verdict → new ≡ after → Outcome verdict after Done old new
+  pub done : (new : List ℕ) → said (Ok tt) ≡ verdict → new ≡ after → Outcome verdict after (Ok tt) old new
   done new e f = record { says = e; leaves = f ∙ ap (λ (v : List ℕ). cond (accepts v) after old) e }

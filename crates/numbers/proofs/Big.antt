@@ -21,6 +21,12 @@ four k d =
     let f : get_or d (k + 2 + 1) 0 ≡ get_or d (k + 3) 0 = ap (λ (z : ℕ). get_or d z 0) (omega arith) in
     omega arith
 
+pub four_bytes : (k : ℕ) (d : List ℕ)
+    → big 4 k d ≡ 0x1000000 * get_or d k 0 + 0x10000 * get_or d (k + 1) 0 + 0x100 * get_or d (k + 2) 0 + get_or d (k + 3) 0
+four_bytes k d =
+    let e : get_or d (k + 2 + 1) 0 ≡ get_or d (k + 3) 0 = ap (λ (z : ℕ). get_or d z 0) (omega arith) in
+    omega (arith, four k d, two k d, two (k + 2) d)
+
 -- the four bytes of a number, each by one division
 pub fourth : (x : ℕ) → big_bytes 4 x ≡ x / 0x1000000 % 256 ∷ x / 0x10000 % 256 ∷ x / 256 % 256 ∷ x % 256 ∷ []
 unfolding big_bytes

@@ -21,6 +21,12 @@ four k d =
     let f : get_or d (suc (k + 2)) 0 ≡ get_or d (suc (suc (suc k))) 0 = ap (λ (z : ℕ). get_or d z 0) (omega arith) in
     omega arith
 
+pub four_bytes : (k : ℕ) (d : List ℕ)
+    → little 4 k d ≡ get_or d k 0 + 0x100 * get_or d (k + 1) 0 + 0x10000 * get_or d (k + 2) 0 + 0x1000000 * get_or d (k + 3) 0
+four_bytes k d =
+    let e : get_or d (k + 2 + 1) 0 ≡ get_or d (k + 3) 0 = ap (λ (z : ℕ). get_or d z 0) (omega arith) in
+    omega (arith, four k d, two k d, two (k + 2) d)
+
 -- read behind n bytes
 pub moved : (n k at : ℕ) (d : List ℕ) → little n k (drop at d) ≡ little n (at + k) d
 unfolding little

@@ -10,39 +10,43 @@ ghost use Rattle.numbers.specs.Numbers.{little, big, in_bytes, big_bytes};
 pub fn wide(b: u8) -> usize
     ensures { (result ≡ b) × (result < 256) }
 {
-    b as usize
+    usize::from(b)
 }
 
 // The two bytes at a place, the least first.
+#[tactic(auto, using(crate::proofs::Little::two))]
 pub fn little2(d: &[u8], at: usize) -> usize
     requires { at + 2 ≤ length d.now }
     ensures { (result ≡ little 2 at d.now) × (result < 0x10000) }
 {
-    wide(d[at]) + 256 * wide(d[at + 1])
+    usize::from(u16::from_le_bytes([d[at], d[at + 1]]))
 }
 
 // The four bytes at a place, the least first.
+#[tactic(auto, using(crate::proofs::Little::four_bytes))]
 pub fn little4(d: &[u8], at: usize) -> usize
     requires { at + 4 ≤ length d.now }
     ensures { (result ≡ little 4 at d.now) × (result < 0x100000000) }
 {
-    little2(d, at) + 0x10000 * little2(d, at + 2)
+    u32::from_le_bytes([d[at], d[at + 1], d[at + 2], d[at + 3]]) as usize
 }
 
 // The two bytes at a place, the greatest first.
+#[tactic(auto, using(crate::proofs::Big::two))]
 pub fn big2(d: &[u8], at: usize) -> usize
     requires { at + 2 ≤ length d.now }
     ensures { (result ≡ big 2 at d.now) × (result < 0x10000) }
 {
-    256 * wide(d[at]) + wide(d[at + 1])
+    usize::from(u16::from_be_bytes([d[at], d[at + 1]]))
 }
 
 // The four bytes at a place, the greatest first.
+#[tactic(auto, using(crate::proofs::Big::four_bytes))]
 pub fn big4(d: &[u8], at: usize) -> usize
     requires { at + 4 ≤ length d.now }
     ensures { (result ≡ big 4 at d.now) × (result < 0x100000000) }
 {
-    0x10000 * big2(d, at) + big2(d, at + 2)
+    u32::from_be_bytes([d[at], d[at + 1], d[at + 2], d[at + 3]]) as usize
 }
 
 // A number as a byte.
@@ -66,40 +70,32 @@ pub fn put2(a: u8, b: u8, out: &mut [u8], at: usize)
     requires { at + 2 ≤ length out.old }
     ensures { out.new ≡ sets out.old at (a ∷ b ∷ []) }
 {
-    out[at] = a;
-    out[at + 1] = b;
+    out[at..at + 2].copy_from_slice(&[a, b]);
 }
 
 // Puts four bytes.
+#[tactic(auto, using(crate::proofs::Stores::copied))]
 pub fn put4(a: u8, b: u8, c: u8, d: u8, out: &mut [u8], at: usize)
     requires { at + 4 ≤ length out.old }
     ensures { out.new ≡ sets out.old at (a ∷ b ∷ c ∷ d ∷ []) }
 {
-    out[at] = a;
-    out[at + 1] = b;
-    out[at + 2] = c;
-    out[at + 3] = d;
+    out[at..at + 4].copy_from_slice(&[a, b, c, d]);
 }
 
 // Puts a number in two bytes, the least first.
+#[tactic(auto, using(crate::proofs::Stores::copied), unfolding(crate::specs::Numbers::in_bytes))]
 pub fn put_little2(n: u32, out: &mut [u8], at: usize)
     requires { at + 2 ≤ length out.old }
     ensures { out.new ≡ sets out.old at (in_bytes 2 n) }
 {
-    put2(byte(n % 256), byte(n / 256 % 256), out, at);
+    out[at..at + 2].copy_from_slice(&((n % 0x10000) as u16).to_le_bytes());
 }
 
 // Puts a number in four bytes, the greatest first.
+#[tactic(auto, using(crate::proofs::Stores::copied, crate::proofs::Big::fourth))]
 pub fn put_big4(n: u32, out: &mut [u8], at: usize)
     requires { at + 4 ≤ length out.old }
     ensures { out.new ≡ sets out.old at (big_bytes 4 n) }
 {
-    put4(
-        byte(n / 0x1000000 % 256),
-        byte(n / 0x10000 % 256),
-        byte(n / 256 % 256),
-        byte(n % 256),
-        out,
-        at,
-    );
+    out[at..at + 4].copy_from_slice(&n.to_be_bytes());
 }

@@ -1,23 +1,21 @@
 -- The counts of one block more, and what is said where a check fails and where both pass.
 -- Assumes nothing.
 use mathlib.Core.Path.{◌≡◌, refl}
-use mathlib.Core.Bool.{true, false, cond}
-use mathlib.Core.List.{List, [], ◌∷◌}
-use Prim.Native.Nat.{ℕ, suc, ◌+◌, ◌*◌, ◌≤◌}
+use mathlib.Core.Bool.{cond}
+use mathlib.Core.List.{List}
+use Prim.Native.Nat.{ℕ, suc, ◌+◌, ◌≤◌}
 use native.Mathlib.Numerals.{add-one}
 use native.Mathlib.Decide.{dec_lt}
 use native.Mathlib.Omega.{arith}
 use borrow.Author.Tests.{lt-ltb, le-ltb}
 use lib.Dec.{ltb}
-use lib.ListN.{length}
-use Rattle.rules.specs.Places.{blocks}
-use Rattle.rules.specs.Answers.{limit, too_large_lem, first_of}
+use Rattle.rules.specs.Answers.{first_of}
 use Rattle.rules.specs.Census.{count_of}
 use Rattle.rules.specs.Counting.{sum_of, most_of}
 use Rattle.rules.specs.Guards.{Guard}
 use Rattle.rules.specs.declared.Picture.{Picture}
 use Rattle.laws.proofs.First.{first}
-use Rattle.rules.specs.Older.{wrong_at, has_wrong, older_counts_lem, older_verdict, older_values}
+use Rattle.rules.specs.Older.{wrong_at, has_wrong}
 use Rattle.older.specs.Compared.{FindsIn, Counted, Joined}
 use Rattle.older.specs.declared.Found.{Found}
 use Rattle.rules.specs.declared.OlderCounts.{OlderCounts}
@@ -62,17 +60,3 @@ module _ (g : Guard) (p : Picture) (d : List ℕ) where
         colour = rw (j.colour, q.colour, w.all.farthest);
         alpha = rw (j.alpha, q.alpha, w.all.clearest);
       })
-
-  -- what is said
-  pub told : (n : ℕ) (c : OlderCounts) → Counted g p d n c → older_values c ≡ older_counts_lem g p d n
-  told n c q = rw (q.pixels, q.blocks, q.block, q.place, q.colour, q.alpha)
-
-  pub too_large : too_large_lem limit p ≡ true → 1 ∷ [] ≡ older_verdict g d p
-  too_large e = rw e
-
-  module _ (small : too_large_lem limit p ≡ false) where
-    pub too_short : ltb (length d) (blocks p * 8) ≡ true → 2 ∷ [] ≡ older_verdict g d p
-    too_short e = rw (small, e)
-
-    pub passes : ltb (length d) (blocks p * 8) ≡ false → 0 ∷ older_counts_lem g p d (blocks p) ≡ older_verdict g d p
-    passes e = rw (small, e)

@@ -4,6 +4,7 @@ use mathlib.Core.Path.{◌≡◌, ◌∙◌, refl, sym}
 use mathlib.Core.Bool.{Bool, true, false, cond, ◌&&◌}
 use Prim.Native.Nat.{ℕ, zero, suc, ◌+◌, ◌<◌, ◌≤◌, max}
 use native.Mathlib.Numerals.{add-one}
+use mir.Val.{bool_byte}
 use native.Mathlib.Omega.{arith}
 use borrow.Author.Tests.{eq-eqb}
 use Rattle.rules.specs.Pixel.{alpha_of}
@@ -21,6 +22,11 @@ use Rattle.older.specs.declared.Found.{Found}
 pub more_most : (t : Bool) (n k : ℕ) → n ≤ k → more t n ≤ k + 1
 more_most true n k h = omega arith
 more_most false n k h = omega arith
+
+-- one more where a test holds is the sum with 1 or 0
+pub one_or_none : (t : Bool) (n r : ℕ) → r ≡ bool_byte t → n + r ≡ more t n
+one_or_none true n r e = omega (arith, e)
+one_or_none false n r e = omega (arith, e)
 
 module _ (shown : ℕ → Bool) (old new : ℕ → ℕ) where
   pub begin : Compared shown old new 0 0 0 0

@@ -13,7 +13,7 @@ ghost use Rattle.older.specs.Compared.{Finds, FindsIn, clipped, Counted, Joined}
 
 use bake::distance;
 use guard::Viewer;
-use rules::{Answer, Older, OlderCounts, Picture};
+use rules::{OlderCounts, Picture, Refusal};
 
 // The same of one block: how many pixels, the first of them or 16, and the differences.
 #[derive(Clone, Copy)]
@@ -29,14 +29,6 @@ fn is_wrong(shown: bool, p: u32, q: u32) -> bool
     ensures { result ≡ (shown && not (eqb p q)) }
 {
     shown & (p != q)
-}
-
-// One more where a test holds.
-fn one_more(n: u32, holds: bool) -> u32
-    requires { n ≤ 16 }
-    ensures { result ≡ more holds n }
-{
-    if holds { n + 1 } else { n }
 }
 
 // How far the colour of a wrong pixel is off; any other is off by 0.
@@ -73,12 +65,10 @@ fn first_wrong(old: &[u32; 16], new: &[u32; 16], columns: usize, rows: usize) ->
     ensures { result ≡ first_of (wrong (clipped columns rows) (λ (k : ℕ). get_or old.now k 0)
         (λ (k : ℕ). get_or new.now k 0)) 16 }
 {
-    let mut k: usize = 0;
-    while k < 16 {
+    for k in 0..16 {
         if is_wrong(is_shown(k, columns, rows), old[k], new[k]) {
             return k;
         }
-        k += 1;
     }
     16
 }
@@ -92,60 +82,20 @@ fn compare(old: [u32; 16], new: [u32; 16], columns: usize, rows: usize) -> Found
     let mut pixels: u32 = 0;
     let mut colour: u32 = 0;
     let mut alpha: u32 = 0;
-    let mut k: usize = 0;
-    while k < 16 {
+    for k in 0..16 {
         let p = old[k];
         let q = new[k];
         let wrong = is_wrong(is_shown(k, columns, rows), p, q);
-        pixels = one_more(pixels, wrong);
+        pixels += u32::from(wrong);
         colour = distance::larger(colour_off(wrong, p, q), colour);
         alpha = distance::larger(alpha_off(wrong, p, q), alpha);
-        k += 1;
     }
     Found {
-        pixels: pixels,
+        pixels,
         place: first,
-        colour: colour,
-        alpha: alpha,
+        colour,
+        alpha,
     }
-}
-
-// Compares block b of a picture under both rules.
-fn compare_at(viewer: Viewer, data: &[u8], pic: Picture, b: usize) -> Found
-    requires { (b < blocks pic) × (blocks pic * 8 ≤ length «data».now) × (pic.width ≤ limit) × (pic.height ≤ limit) }
-    ensures { FindsIn (guard_of viewer) pic «data».now b result }
-{
-    let old = blocks::block_at(guard::own(viewer), data, b);
-    let new = blocks::block_at(guard::shown(viewer), data, b);
-    let row = checks::across(pic.width);
-    compare(old, new, pic.width - b % row * 4, pic.height - b / row * 4)
-}
-
-// What is wrong in block b of a picture. The two rules agree on a block that the guard lets pass: it is not read.
-fn in_block(viewer: Viewer, data: &[u8], pic: Picture, b: usize) -> Found
-    requires { (b < blocks pic) × (blocks pic * 8 ≤ length «data».now) × (pic.width ≤ limit) × (pic.height ≤ limit) }
-    ensures { FindsIn (guard_of viewer) pic «data».now b result }
-{
-    let at = b * 8;
-    let end = at + 8;
-    let answer = guard::judged(viewer, &data[at..end], b);
-    let Answer::Done = answer else {
-        return compare_at(viewer, data, pic, b);
-    };
-    Found {
-        pixels: 0,
-        place: 16,
-        colour: 0,
-        alpha: 0,
-    }
-}
-
-// One more block where it has a wrong pixel.
-fn block_more(n: usize, some: bool) -> usize
-    requires { n ≤ 0x10000000 }
-    ensures { result ≡ more some n }
-{
-    if some { n + 1 } else { n }
 }
 
 // The first block of those up to b, where the first of those before b is known.
@@ -159,13 +109,6 @@ fn first_up_to(first: usize, b: usize, some: bool) -> usize
     if some { b } else { b + 1 }
 }
 
-// The first of two numbers where a test holds, and else the second.
-fn either(holds: bool, a: usize, b: usize) -> usize
-    ensures { result ≡ cond holds a b }
-{
-    if holds { a } else { b }
-}
-
 // The counts of the blocks before block b, with those of block b.
 fn join(c: OlderCounts, b: usize, f: Found) -> OlderCounts
     requires { (c.pixels ≤ b * 16) × (c.blocks ≤ b) × (f.pixels ≤ 16) × (b ≤ 0x10000000) }
@@ -175,45 +118,81 @@ fn join(c: OlderCounts, b: usize, f: Found) -> OlderCounts
     let found = c.block < b;
     OlderCounts {
         pixels: c.pixels + f.pixels as usize,
-        blocks: block_more(c.blocks, some),
+        blocks: c.blocks + usize::from(some),
         block: first_up_to(c.block, b, some),
-        place: either(found, c.place, f.place),
+        place: if found { c.place } else { f.place },
         colour: distance::larger(f.colour, c.colour),
         alpha: distance::larger(f.alpha, c.alpha),
     }
 }
 
-// Counts what is wrong in the first n blocks of a picture.
-fn tally(viewer: Viewer, data: &[u8], pic: Picture, n: usize) -> OlderCounts
-    requires { (n ≡ blocks pic) × (blocks pic * 8 ≤ length «data».now) × (n ≤ 0x10000000)
-        × (pic.width ≤ limit) × (pic.height ≤ limit) }
-    ensures { Counted (guard_of viewer) pic «data».now n result }
-{
-    let mut c = OlderCounts {
-        pixels: 0,
-        blocks: 0,
-        block: 0,
-        place: 16,
-        colour: 0,
-        alpha: 0,
-    };
-    let mut b: usize = 0;
-    while b < n {
-        c = join(c, b, in_block(viewer, data, pic, b));
-        b += 1;
+// A viewer, and a picture whose blocks the data have.
+#[derive(Clone, Copy)]
+struct Viewed<'a> {
+    viewer: Viewer,
+    data: &'a [u8],
+    pic: Picture,
+    ghost narrow: { pic.width ≤ limit },
+    ghost low: { pic.height ≤ limit },
+    ghost enough: { blocks pic * 8 ≤ length «data».now },
+}
+
+impl<'a> Viewed<'a> {
+    // Compares block b under both rules.
+    fn compare_at(self, b: usize) -> Found
+        requires { b < blocks self.pic }
+        ensures { FindsIn (guard_of self.entry.viewer) self.entry.pic self.entry.«data».now b result }
+    {
+        let old = blocks::block_at(guard::own(self.viewer), self.data, b);
+        let new = blocks::block_at(guard::shown(self.viewer), self.data, b);
+        let row = checks::across(self.pic.width);
+        let columns = self.pic.width - b % row * 4;
+        let rows = self.pic.height - b / row * 4;
+        compare(old, new, columns, rows)
     }
-    c
+
+    // What is wrong in block b. The two rules agree on a block that the guard lets pass: it is not read.
+    fn in_block(self, b: usize) -> Found
+        requires { b < blocks self.pic }
+        ensures { FindsIn (guard_of self.entry.viewer) self.entry.pic self.entry.«data».now b result }
+    {
+        let at = b * 8;
+        let end = at + 8;
+        match guard::judged(self.viewer, &self.data[at..end], b) {
+            Ok(()) => Found {
+                pixels: 0,
+                place: 16,
+                colour: 0,
+                alpha: 0,
+            },
+            Err(_) => self.compare_at(b),
+        }
+    }
+
+    // Counts what is wrong in the first n blocks.
+    fn tally(self, n: usize) -> OlderCounts
+        requires { (n ≡ blocks self.pic) × (n ≤ 0x10000000) }
+        ensures { Counted (guard_of self.entry.viewer) self.entry.pic self.entry.«data».now n result }
+    {
+        let mut c = OlderCounts {
+            pixels: 0,
+            blocks: 0,
+            block: 0,
+            place: 16,
+            colour: 0,
+            alpha: 0,
+        };
+        for b in 0..n {
+            c = join(c, b, self.in_block(b));
+        }
+        c
+    }
 }
 
 // Counts what an older viewer shows wrong of a picture, for all inputs.
-pub fn count(viewer: Viewer, data: &[u8], pic: Picture) -> Older
+pub fn count(viewer: Viewer, data: &[u8], pic: Picture) -> Result<OlderCounts, Refusal>
     ensures { CountsOlder (guard_of viewer) «data».now pic result }
 {
-    if checks::too_large(65536, pic) {
-        return Older::TooLarge;
-    }
-    if checks::short_data(8, pic, data.len()) {
-        return Older::ShortData;
-    }
-    Older::Counted(tally(viewer, data, pic, checks::blocks_of(pic)))
+    let n = checks::countable(pic, data.len())?;
+    Ok(Viewed { viewer, data, pic }.tally(n))
 }

@@ -12,7 +12,7 @@ use Rattle.rules.specs.Answers.{accepts, left, Check, first_of, guarded, Outcome
 use Rattle.rules.specs.Formats.{size_of, shows_of}
 use Rattle.rules.specs.Guards.{Guard, bad_at, guard_verdict}
 use Rattle.rules.specs.Readers.{picture_of, ReadsGuarded}
-use Rattle.rules.specs.declared.Answer.{Answer}
+use Rattle.rules.specs.Answers.{Answer}
 use Rattle.rules.specs.declared.Picture.{Picture}
 use Rattle.laws.proofs.First.{first}
 use Rattle.laws.proofs.Guards.{Sound, accepted}

@@ -1,14 +1,12 @@
 -- What each older viewer's checks come to, one viewer at a time; above this, nothing asks which viewer it is.
 -- Assumes nothing.
-use mathlib.Core.Path.{◌≡◌, subst}
+use mathlib.Core.Path.{◌≡◌}
 use mathlib.Core.Bool.{true}
 use mathlib.Core.List.{List}
 use Prim.Native.Nat.{ℕ}
 use lib.Dec.{T as So}
-use Rattle.rules.specs.Answers.{said, accepts, judged, Outcome}
-use Rattle.rules.specs.Readers.{picture_of}
-use Rattle.rules.specs.declared.Answer.{Answer}
-use Rattle.rules.specs.declared.Format.{Format}
+use Rattle.rules.specs.Answers.{said, accepts, judged}
+use Rattle.rules.specs.Answers.{Answer}
 use Rattle.rules.specs.declared.Picture.{Picture}
 use Rattle.laws.proofs.Judged.{numbered}
 use Rattle.checks.specs.Passed.{Passed}
@@ -27,7 +25,3 @@ passed_by_lem Opaque = checks.passed_by_lem 8
 pub in_order : (viewer : Viewer) (pic : Picture) (bytes elements : ℕ) → So (numbered (checks_for viewer pic bytes elements))
 in_order Etc1 pic bytes elements = tt
 in_order Opaque pic bytes elements = tt
-
--- what is painted by a format that is the viewer's own
-pub as_own : (f own : Format) (pic : Picture) (d old v new : List ℕ) (a : Answer) → f ≡ own → Outcome v (picture_of f pic d old) a old new → Outcome v (picture_of own pic d old) a old new
-as_own f own pic d old v new a e o = subst (λ (g : Format). Outcome v (picture_of g pic d old) a old new) e o

@@ -1,5 +1,6 @@
 // The blocks of a picture painted one after another, each in its place: those of a row that are whole in one run, and each that the
 // picture's edge clips by itself. After `block_decoder!` of src/macros.rs.
+// `pic` and `image` are apart, as README and docs/API.md have them: a struct that lends the image would be opened at each call.
 ghost use Rattle.std.specs.Prelude.{ℕ, ◌+◌, ◌-◌, ◌*◌, ◌<◌, ◌≤◌, length};
 ghost use Rattle.rules.specs.Places.{across, blocks};
 ghost use Rattle.rules.specs.Answers.{limit};
@@ -10,46 +11,42 @@ ghost use Rattle.blocks.specs.Run.{Stands, PaintsRow, PaintsRun};
 use pixel::place;
 use rules::{Format, Picture};
 
-// The column and the row in which a block stands.
+// The column and the row in which a block stands. The bound of the row stands with the functions: as a ghost field it would have to be
+// proved again at each turn of the loop of `paint`, whose invariant would see the fields by position.
 #[derive(Clone, Copy)]
 struct Spot {
     bx: usize,
     by: usize,
 }
 
-// Where the block stands that follows n others, beginning with the one at the spot, in rows of so many blocks.
-fn after(spot: Spot, n: usize, row: usize) -> Spot
-    requires { (spot.bx + n ≤ row) × (row ≤ 0x10000) × (spot.by < 0x10000) }
-    ensures { (b : ℕ) → Stands row b spot.bx spot.by → Stands row (b + n) result.bx result.by }
-{
-    let right = spot.bx + n;
-    if right < row {
-        Spot {
-            bx: right,
-            by: spot.by,
-        }
-    } else {
-        Spot {
-            bx: 0,
-            by: spot.by + 1,
+impl Spot {
+    // Where the block stands that follows n others, beginning with the one here, in rows of so many blocks.
+    fn after(self, n: usize, row: usize) -> Spot
+        requires { (self.bx + n ≤ row) × (row ≤ 0x10000) × (self.by < 0x10000) }
+        ensures { (b : ℕ) → Stands row b self.bx self.by → Stands row (b + n) result.bx result.by }
+    {
+        let right = self.bx + n;
+        if right < row {
+            Spot { bx: right, ..self }
+        } else {
+            Spot {
+                bx: 0,
+                by: self.by + 1,
+            }
         }
     }
-}
 
-// How many of the blocks that are left, the one at the spot and those beside it, the picture has whole.
-fn whole(spot: Spot, left: usize, pic: Picture) -> usize
-    requires { spot.by < 0x10000 }
-    ensures { (result ≤ left) × (0 < result → ((spot.bx + result) * 4 ≤ pic.width) × (spot.by * 4 + 4 ≤ pic.height)) }
-{
-    if pic.height < spot.by * 4 + 4 {
-        return 0;
+    // How many of the blocks that are left, the one here and those beside it, the picture has whole.
+    fn whole(self, left: usize, pic: Picture) -> usize
+        requires { self.by < 0x10000 }
+        ensures { (result ≤ left) × (0 < result → ((self.bx + result) * 4 ≤ pic.width) × (self.by * 4 + 4 ≤ pic.height)) }
+    {
+        if pic.height < self.by * 4 + 4 {
+            return 0;
+        }
+        let columns = pic.width / 4;
+        columns.saturating_sub(self.bx).min(left)
     }
-    let columns = pic.width / 4;
-    if columns <= spot.bx {
-        return 0;
-    }
-    let beside = columns - spot.bx;
-    if left < beside { left } else { beside }
 }
 
 // Paints the block at a spot, with which the data begins, and of those that are left the ones beside it that are whole as it is: how
@@ -67,7 +64,7 @@ fn paint_some(
     ensures { (0 < result) × (result ≤ left) × (spot.bx + result ≤ across pic.width)
         × PaintsRow (shows_of f) (size_of f) «data».now pic spot.bx spot.by result image.old image.new }
 {
-    let n = whole(spot, left, pic);
+    let n = spot.whole(left, pic);
     if n == 0 {
         let tile = blocks::block_at(f, data, 0);
         place::place(tile, spot.bx, spot.by, pic, image);
@@ -89,14 +86,16 @@ pub fn paint(f: Format, data: &[u8], pic: Picture, first: usize, last: usize, im
         return;
     }
     let s = checks::size(f);
-    let bx = first % row;
-    let by = first / row;
-    let mut spot = Spot { bx: bx, by: by };
+    let mut spot = Spot {
+        bx: first % row,
+        by: first / row,
+    };
     let mut b = first;
+    // by hand, since a turn paints a run of blocks and goes on by so many
     while b < last {
         let from = (b - first) * s;
         let n = paint_some(f, &data[from..], spot, last - b, pic, image);
-        spot = after(spot, n, row);
+        spot = spot.after(n, row);
         b += n;
     }
 }

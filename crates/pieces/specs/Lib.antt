@@ -1,1 +1,2 @@
+pub mod Arrived
 pub mod Took

@@ -1,47 +1,50 @@
 // The kept bytes of a picture that arrives in pieces, followed by the new ones: one list, of which no copy is made.
-ghost use Rattle.std.specs.Prelude.{◌≡◌, ◌++◌, ◌+◌, ◌≤◌, length, take};
+ghost use Rattle.std.specs.Prelude.{◌≡◌, ◌+◌, ◌≤◌, length};
 ghost use Rattle.rules.specs.Notation.{build, byte};
 ghost use Rattle.rules.specs.Pieces.{padded};
 
-// Byte i of them, and 0 past their end.
-fn byte_at(kept: [u8; 15], held: usize, bytes: &[u8], i: usize) -> u8
-    requires { held ≤ 15 }
-    ensures { result ≡ byte (take held kept ++ bytes.now) i }
-{
-    if i < held {
-        return kept[i];
-    }
-    let j = i - held;
-    if j < bytes.len() {
-        return bytes[j];
-    }
-    0
+// The kept bytes, of which the first `held` count, and the new ones.
+#[derive(Clone, Copy)]
+pub struct Arrived<'a> {
+    pub kept: [u8; 15],
+    pub held: usize,
+    pub bytes: &'a [u8],
+    pub ghost few: { held ≤ 15 },
 }
 
-// The first sixteen of them: the block that began with the kept ones.
-pub fn first_block(kept: [u8; 15], held: usize, bytes: &[u8]) -> [u8; 16]
-    requires { held ≤ 15 }
-    ensures { result ≡ build 16 (byte (take held kept ++ bytes.now)) }
-{
-    let mut out: [u8; 16] = [0; 16];
-    let mut i: usize = 0;
-    while i < 16 {
-        out[i] = byte_at(kept, held, bytes, i);
-        i += 1;
-    }
-    out
-}
+impl Arrived<'_> {
+    ghost use Rattle.pieces.specs.Arrived.{all_of};
 
-// The n of them from number at on, with zeros behind: what is kept for the next piece.
-pub fn rest_of(kept: [u8; 15], held: usize, bytes: &[u8], at: usize, n: usize) -> [u8; 15]
-    requires { (held ≤ 15) × (n ≤ 15) × (at + n ≤ held + length bytes.now) }
-    ensures { result ≡ padded (take held kept ++ bytes.now) at n }
-{
-    let mut out: [u8; 15] = [0; 15];
-    let mut i: usize = 0;
-    while i < n {
-        out[i] = byte_at(kept, held, bytes, at + i);
-        i += 1;
+    // Byte i of them, and 0 past their end.
+    fn byte_at(&self, i: usize) -> u8
+        ensures { result ≡ byte (all_of self.now) i }
+    {
+        if i < self.held {
+            return self.kept[i];
+        }
+        self.bytes.get(i - self.held).copied().unwrap_or(0)
     }
-    out
+
+    // The first sixteen of them: the block that began with the kept ones.
+    pub fn first_block(&self) -> [u8; 16]
+        ensures { result ≡ build 16 (byte (all_of self.now)) }
+    {
+        let mut out = [0u8; 16];
+        for i in 0..16 {
+            out[i] = self.byte_at(i);
+        }
+        out
+    }
+
+    // The n of them from number at on, with zeros behind: what is kept for the next piece.
+    pub fn rest_of(&self, at: usize, n: usize) -> [u8; 15]
+        requires { (n ≤ 15) × (at + n ≤ self.now.held + length self.now.bytes.now) }
+        ensures { result ≡ padded (all_of self.now) at n }
+    {
+        let mut out = [0u8; 15];
+        for i in 0..n {
+            out[i] = self.byte_at(at + i);
+        }
+        out
+    }
 }

@@ -1,18 +1,16 @@
-// Pixels put one after another through a part of a lent image, and the elements 0 to 15 of one.
+// Elements put one after another through a part of a lent image, and the elements 0 to 15 of one.
 ghost use Rattle.std.specs.Prelude.{◌≡◌, ℕ, ◌+◌, ◌<◌, ◌≤◌, ltb, length, get_or};
 ghost use Rattle.rules.specs.Notation.{build};
 ghost use Rattle.rules.specs.Places.{painted};
-ghost use Rattle.laws.specs.Painted.{Painted};
+ghost use Rattle.laws.specs.Painted.{PaintedOver};
 
-// Writes the pixels of a tile, from one on, through a part of a lent image: as many as the part has.
-pub fn fill(tile: [u32; 16], from: usize, part: &mut [u32])
+// Writes the elements of a tile, from one on, through a part of a lent image: as many as the part has.
+pub fn fill<T: Copy>(tile: [T; 16], from: usize, part: &mut [T])
     requires { from + length part.old ≤ 16 }
-    ensures { Painted (λ k. k < length part.old) (λ k. get_or tile (from + k) 0) part.old part.new }
+    ensures { (z : T) → PaintedOver z (λ k. k < length part.old) (λ k. get_or tile (from + k) z) part.old part.new }
 {
-    let mut k: usize = 0;
-    while k < part.len() {
+    for k in 0..part.len() {
         part[k] = tile[from + k];
-        k += 1;
     }
 }
 
@@ -30,10 +28,8 @@ pub fn first_sixteen(image: &[u32]) -> [u32; 16]
     ensures { result ≡ build 16 (λ (k : ℕ). get_or image.now k 0) }
 {
     let mut first: [u32; 16] = [0; 16];
-    let mut i: usize = 0;
-    while i < 16 {
+    for i in 0..16 {
         first[i] = image[i];
-        i += 1;
     }
     first
 }

@@ -1,8 +1,6 @@
-// The pixel word (`color`), and pixels put into an image: one after another (`fill`), a tile of sixteen (`place`), a tile of sixteen
-// 16-bit numbers (`lanes`).
+// The pixel word (`color`), and pixels or 16-bit numbers put into an image: one after another (`fill`), a tile of sixteen (`place`).
 #![tactic(auto)]
 
 pub mod color;
 pub mod fill;
-pub mod lanes;
 pub mod place;

@@ -1,4 +1,5 @@
-// What a case's number calls, by the table of oracle/PROTOCOL.md. A new function is one number there, one arm here.
+// What a case's number calls, by the table of oracle/PROTOCOL.md. A new function is one number there, one arm here. The numbers stay
+// numbers here and in call_*.rt: an enum by TryFrom and then a match would say each twice. `n` and `m` are the protocol's too.
 ghost use Rattle.std.specs.Prelude.{◌≤◌, length};
 
 use super::case::{Case, Said};
@@ -6,13 +7,13 @@ use super::{
     call_baking, call_bits, call_blocks, call_census, call_degrees, call_files, call_pictures,
     call_pieces, call_pitched, call_sheets,
 };
-use rules::Answer;
+use rules::Refusal;
 
 // The number of an answer, and the block that a refusal names, and otherwise 0; a picture has fewer than 2^32.
-pub fn told(answer: Answer) -> Said {
+pub fn told(answer: Result<(), Refusal>) -> Said {
     Said {
         number: readers::number(answer),
-        extra: (answer_numbers::block_or(answer, 0) % 0x100000000) as u32,
+        extra: (answer_numbers::block_of(answer).unwrap_or(0) % 0x100000000) as u32,
     }
 }
 

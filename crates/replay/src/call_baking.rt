@@ -3,9 +3,9 @@ ghost use Rattle.std.specs.Prelude.{◌≤◌, length};
 
 use super::case::Said;
 use super::{call, elements, words};
-use rules::Baking;
+use rules::BakingRefusal;
 
-fn told(answer: Baking) -> Said {
+fn told(answer: Result<(), BakingRefusal>) -> Said {
     Said {
         number: readers::baking_number(answer),
         extra: 0,
@@ -25,7 +25,7 @@ pub fn bake(flip: usize, data: &[u8], image: &mut [u32]) -> Said {
     }
     let mut tile = [0u32; 17];
     let n = elements_of(data.len());
-    words::unpack(&data[6..], n, &mut tile);
+    words::unpack(&data[6..], &mut tile[..n]);
     let mut room = [0u8; 65600];
     bake_in(flip, data, &tile[..n], &mut room, image)
 }
@@ -49,10 +49,10 @@ fn bake_in(flip: usize, data: &[u8], tile: &[u32], room: &mut [u8], image: &mut 
     if room.len() < n {
         return call::unknown();
     }
-    elements::to_bytes(image, room);
+    elements::turn(image, room, |x| (x % 256) as u8);
     let first = [data[0], data[1], data[2]];
     let second = [data[3], data[4], data[5]];
     let answer = readers::bake_etc1_block(first, second, flip, tile, &mut room[..n]);
-    elements::from_bytes(room, image);
+    elements::turn(room, image, |b| u32::from(b));
     told(answer)
 }

@@ -1,7 +1,7 @@
 // The block readers: by the format's number, then the alpha half of RGBA8 and those that name a channel.
-use rules::Answer;
+use rules::Refusal;
 
-pub fn read(k: usize, channel: usize, data: &[u8], image: &mut [u32]) -> Answer {
+pub fn read(k: usize, channel: usize, data: &[u8], image: &mut [u32]) -> Result<(), Refusal> {
     if k < 4 {
         return etc(k, data, image);
     }
@@ -17,7 +17,7 @@ pub fn read(k: usize, channel: usize, data: &[u8], image: &mut [u32]) -> Answer 
     joined(k, channel, data, image)
 }
 
-fn etc(k: usize, data: &[u8], image: &mut [u32]) -> Answer {
+fn etc(k: usize, data: &[u8], image: &mut [u32]) -> Result<(), Refusal> {
     match k {
         0 => readers::decode_etc1_block(data, image),
         1 => readers::decode_etc2_rgb_block(data, image),
@@ -26,7 +26,7 @@ fn etc(k: usize, data: &[u8], image: &mut [u32]) -> Answer {
     }
 }
 
-fn eac(k: usize, data: &[u8], image: &mut [u32]) -> Answer {
+fn eac(k: usize, data: &[u8], image: &mut [u32]) -> Result<(), Refusal> {
     match k {
         4 => readers::decode_eacr_block(data, image),
         5 => readers::decode_eacr_signed_block(data, image),
@@ -35,7 +35,7 @@ fn eac(k: usize, data: &[u8], image: &mut [u32]) -> Answer {
     }
 }
 
-fn desktop(k: usize, data: &[u8], image: &mut [u32]) -> Answer {
+fn desktop(k: usize, data: &[u8], image: &mut [u32]) -> Result<(), Refusal> {
     match k {
         8 => readers::decode_bc1_block(data, image),
         9 => readers::decode_bc1a_block(data, image),
@@ -44,7 +44,7 @@ fn desktop(k: usize, data: &[u8], image: &mut [u32]) -> Answer {
     }
 }
 
-fn rgtc(k: usize, data: &[u8], image: &mut [u32]) -> Answer {
+fn rgtc(k: usize, data: &[u8], image: &mut [u32]) -> Result<(), Refusal> {
     match k {
         12 => readers::decode_bc2_block(data, image),
         13 => readers::decode_bc4_block(data, image),
@@ -54,7 +54,7 @@ fn rgtc(k: usize, data: &[u8], image: &mut [u32]) -> Answer {
     }
 }
 
-fn joined(k: usize, channel: usize, data: &[u8], image: &mut [u32]) -> Answer {
+fn joined(k: usize, channel: usize, data: &[u8], image: &mut [u32]) -> Result<(), Refusal> {
     match k {
         24 => readers::decode_etc2_a8_block(data, image),
         25 => readers::decode_eac_block(data, channel, image),

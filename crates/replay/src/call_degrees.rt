@@ -2,7 +2,7 @@
 // that the legend and the picture name, and c is the legend's kind. A reading's three values are the first elements.
 use super::case::{Case, Said};
 use super::{call, elements, words};
-use rules::{Answer, Legend, Reading, Reply};
+use rules::{Legend, NoReading, Reading, Refusal};
 use std::num;
 
 // The float of a bit pattern. A pattern that is no number gives one by its sums, which says nothing of its digits.
@@ -21,23 +21,13 @@ fn bits_of(x: f32) -> usize {
 fn legend(kind: usize, low: f32, step: f32, second: f32) -> Legend {
     match kind {
         0 => Legend::Level(low),
-        1 => Legend::Line {
-            low: low,
-            step: step,
-        },
-        _ => Legend::Bend {
-            low: low,
-            step: step,
-            second: second,
-        },
+        1 => Legend::Line { low, step },
+        _ => Legend::Bend { low, step, second },
     }
 }
 
 fn refused(number: u32) -> Said {
-    Said {
-        number: number,
-        extra: 0,
-    }
+    Said { number, extra: 0 }
 }
 
 pub fn read(c: Case, data: &[u8], image: &mut [u32]) -> Said {
@@ -51,15 +41,15 @@ pub fn read(c: Case, data: &[u8], image: &mut [u32]) -> Said {
     let pixel = words::word_at(data, 16);
     let reply = readers::degrees(legend(c.c, low, step, second), c.a, c.b, pixel, measured);
     match reply {
-        Reply::Read(reading) => call::told(shown(reading, image)),
-        Reply::NotMeasured => refused(17),
-        Reply::BadLegend => refused(13),
-        Reply::BadDigit => refused(14),
-        Reply::BadMeasurement => refused(15),
+        Ok(reading) => call::told(shown(reading, image)),
+        Err(NoReading::NotMeasured) => refused(17),
+        Err(NoReading::BadLegend) => refused(13),
+        Err(NoReading::BadDigit) => refused(14),
+        Err(NoReading::BadMeasurement) => refused(15),
     }
 }
 
-fn shown(reading: Reading, image: &mut [u32]) -> Answer {
+fn shown(reading: Reading, image: &mut [u32]) -> Result<(), Refusal> {
     let values = [
         bits_of(reading.predicted),
         bits_of(reading.measured),

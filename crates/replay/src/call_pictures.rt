@@ -1,8 +1,14 @@
 // The picture readers without a pitch: by the format's number, then strict ETC1, opaque RGBA1, and EAC's whole values.
 use super::call_whole;
-use rules::Answer;
+use rules::Refusal;
 
-pub fn read(k: usize, data: &[u8], width: usize, height: usize, image: &mut [u32]) -> Answer {
+pub fn read(
+    k: usize,
+    data: &[u8],
+    width: usize,
+    height: usize,
+    image: &mut [u32],
+) -> Result<(), Refusal> {
     if k < 4 {
         return etc(k, data, width, height, image);
     }
@@ -21,7 +27,13 @@ pub fn read(k: usize, data: &[u8], width: usize, height: usize, image: &mut [u32
     call_whole::read(k, data, width, height, image)
 }
 
-fn etc(k: usize, data: &[u8], width: usize, height: usize, image: &mut [u32]) -> Answer {
+fn etc(
+    k: usize,
+    data: &[u8],
+    width: usize,
+    height: usize,
+    image: &mut [u32],
+) -> Result<(), Refusal> {
     match k {
         0 => readers::decode_etc1(data, width, height, image),
         1 => readers::decode_etc2_rgb(data, width, height, image),
@@ -30,7 +42,13 @@ fn etc(k: usize, data: &[u8], width: usize, height: usize, image: &mut [u32]) ->
     }
 }
 
-fn eac(k: usize, data: &[u8], width: usize, height: usize, image: &mut [u32]) -> Answer {
+fn eac(
+    k: usize,
+    data: &[u8],
+    width: usize,
+    height: usize,
+    image: &mut [u32],
+) -> Result<(), Refusal> {
     match k {
         4 => readers::decode_eacr(data, width, height, image),
         5 => readers::decode_eacr_signed(data, width, height, image),
@@ -39,7 +57,13 @@ fn eac(k: usize, data: &[u8], width: usize, height: usize, image: &mut [u32]) ->
     }
 }
 
-fn desktop(k: usize, data: &[u8], width: usize, height: usize, image: &mut [u32]) -> Answer {
+fn desktop(
+    k: usize,
+    data: &[u8],
+    width: usize,
+    height: usize,
+    image: &mut [u32],
+) -> Result<(), Refusal> {
     match k {
         8 => readers::decode_bc1(data, width, height, image),
         9 => readers::decode_bc1a(data, width, height, image),
@@ -48,7 +72,13 @@ fn desktop(k: usize, data: &[u8], width: usize, height: usize, image: &mut [u32]
     }
 }
 
-fn rgtc(k: usize, data: &[u8], width: usize, height: usize, image: &mut [u32]) -> Answer {
+fn rgtc(
+    k: usize,
+    data: &[u8],
+    width: usize,
+    height: usize,
+    image: &mut [u32],
+) -> Result<(), Refusal> {
     match k {
         12 => readers::decode_bc2(data, width, height, image),
         13 => readers::decode_bc4(data, width, height, image),
@@ -58,7 +88,13 @@ fn rgtc(k: usize, data: &[u8], width: usize, height: usize, image: &mut [u32]) -
     }
 }
 
-fn guarded(k: usize, data: &[u8], width: usize, height: usize, image: &mut [u32]) -> Answer {
+fn guarded(
+    k: usize,
+    data: &[u8],
+    width: usize,
+    height: usize,
+    image: &mut [u32],
+) -> Result<(), Refusal> {
     match k {
         24 => readers::decode_etc1_strict(data, width, height, image),
         _ => readers::decode_etc2_rgba1_opaque(data, width, height, image),

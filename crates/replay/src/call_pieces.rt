@@ -4,7 +4,7 @@ ghost use Rattle.std.specs.Prelude.{◌≤◌};
 
 use super::case::{Case, Said};
 use super::{call, elements};
-use rules::{Answer, Format, Picture, Progress};
+use rules::{Format, Picture, Progress, Refusal};
 
 // How far a picture has come: the next byte's number, and what stands for all that was answered.
 #[derive(Clone, Copy)]
@@ -14,65 +14,21 @@ struct Course {
     sum: u64,
 }
 
-fn etc(k: usize) -> Format {
-    match k {
-        0 => Format::Etc1,
-        1 => Format::Etc2Rgb,
-        2 => Format::Etc2Rgba1,
-        3 => Format::Etc2Rgba8,
-        _ => Format::EacR,
-    }
-}
-
-fn format_of(k: usize) -> Format {
-    match k {
-        5 => Format::EacRSigned,
-        6 => Format::EacRg,
-        7 => Format::EacRgSigned,
-        8 => Format::Bc1,
-        9 => Format::Bc1Alpha,
-        10 => Format::Bc3,
-        11 => Format::Bc7,
-        _ => rgtc(k),
-    }
-}
-
-fn rgtc(k: usize) -> Format {
-    match k {
-        12 => Format::Bc2,
-        13 => Format::Bc4,
-        14 => Format::Bc4Signed,
-        15 => Format::Bc5,
-        16 => Format::Bc5Signed,
-        _ => etc(k),
-    }
-}
-
-fn sum(a: usize, b: usize) -> usize {
-    a.wrapping_add(b)
-}
-
-fn least(a: usize, b: usize) -> usize
-    ensures { (result ≤ a) × (result ≤ b) }
-{
-    if a < b { a } else { b }
-}
-
-fn number(answer: Answer) -> usize {
+fn number(answer: Result<(), Refusal>) -> usize {
     readers::number(answer) as usize
 }
 
-fn begin(k: usize, c: Case, image: &[u32]) -> Course {
+fn begin(format: Format, c: Case, image: &[u32]) -> Course {
     let pic = Picture {
         width: c.width,
         height: c.height,
         pitch: c.a,
     };
-    let started = readers::start_pieces(format_of(k), pic, image);
+    let started = readers::start_pieces(format, pic, image);
     let progress = started.progress;
     let answer = started.answer;
     Course {
-        progress: progress,
+        progress,
         at: 0,
         sum: elements::mixed(0, number(answer)),
     }
@@ -80,8 +36,8 @@ fn begin(k: usize, c: Case, image: &[u32]) -> Course {
 
 // One piece more, of so many bytes or as many as are left.
 fn follow(course: Course, n: usize, data: &[u8], image: &mut [u32]) -> Course {
-    let end = least(sum(course.at, n), data.len());
-    let at = least(course.at, end);
+    let end = course.at.wrapping_add(n).min(data.len());
+    let at = course.at.min(end);
     let state = course.progress;
     let taken = readers::take_piece(state, &data[at..end], image);
     let after = taken.progress;
@@ -91,7 +47,7 @@ fn follow(course: Course, n: usize, data: &[u8], image: &mut [u32]) -> Course {
     Course {
         progress: after,
         at: end,
-        sum: elements::digest(image, image.len(), told),
+        sum: elements::digest(image, told),
     }
 }
 
@@ -105,10 +61,10 @@ fn ended(course: Course) -> Said {
 
 // Cut at two places: a piece of b bytes, one of c, and the rest.
 pub fn cut(k: usize, c: Case, data: &[u8], image: &mut [u32]) -> Said {
-    if 16 < k {
+    let Ok(format) = Format::try_from(k) else {
         return call::unknown();
-    }
-    let one = follow(begin(k, c, image), c.b, data, image);
+    };
+    let one = follow(begin(format, c, image), c.b, data, image);
     let two = follow(one, c.c, data, image);
     ended(follow(two, data.len(), data, image))
 }
@@ -132,12 +88,12 @@ fn moved(v: usize) -> usize {
 
 // So many pieces as c says, of lengths that are drawn from b on, and then the rest.
 pub fn scattered(k: usize, c: Case, data: &[u8], image: &mut [u32]) -> Said {
-    if 16 < k {
+    let Ok(format) = Format::try_from(k) else {
         return call::unknown();
-    }
-    let mut course = begin(k, c, image);
+    };
+    let mut course = begin(format, c, image);
     let mut v = moved(c.b);
-    for _ in 0..least(c.c, 64) {
+    for _ in 0..c.c.min(64) {
         course = follow(course, length_of(v), data, image);
         v = moved(v);
     }

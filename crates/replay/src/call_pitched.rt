@@ -1,6 +1,6 @@
 // The picture readers that take a pitch, in the order of their twins in call_pictures.rt.
 use super::call_whole;
-use rules::{Answer, Picture};
+use rules::{Picture, Refusal};
 
 pub fn read(
     k: usize,
@@ -9,11 +9,11 @@ pub fn read(
     height: usize,
     pitch: usize,
     image: &mut [u32],
-) -> Answer {
+) -> Result<(), Refusal> {
     let pic = Picture {
-        width: width,
-        height: height,
-        pitch: pitch,
+        width,
+        height,
+        pitch,
     };
     if k < 4 {
         return etc(k, data, pic, image);
@@ -33,7 +33,7 @@ pub fn read(
     call_whole::read_pitched(k, data, pic, image)
 }
 
-fn etc(k: usize, data: &[u8], pic: Picture, image: &mut [u32]) -> Answer {
+fn etc(k: usize, data: &[u8], pic: Picture, image: &mut [u32]) -> Result<(), Refusal> {
     match k {
         0 => readers::decode_etc1_pitched(data, pic, image),
         1 => readers::decode_etc2_rgb_pitched(data, pic, image),
@@ -42,7 +42,7 @@ fn etc(k: usize, data: &[u8], pic: Picture, image: &mut [u32]) -> Answer {
     }
 }
 
-fn eac(k: usize, data: &[u8], pic: Picture, image: &mut [u32]) -> Answer {
+fn eac(k: usize, data: &[u8], pic: Picture, image: &mut [u32]) -> Result<(), Refusal> {
     match k {
         4 => readers::decode_eacr_pitched(data, pic, image),
         5 => readers::decode_eacr_signed_pitched(data, pic, image),
@@ -51,7 +51,7 @@ fn eac(k: usize, data: &[u8], pic: Picture, image: &mut [u32]) -> Answer {
     }
 }
 
-fn desktop(k: usize, data: &[u8], pic: Picture, image: &mut [u32]) -> Answer {
+fn desktop(k: usize, data: &[u8], pic: Picture, image: &mut [u32]) -> Result<(), Refusal> {
     match k {
         8 => readers::decode_bc1_pitched(data, pic, image),
         9 => readers::decode_bc1a_pitched(data, pic, image),
@@ -60,7 +60,7 @@ fn desktop(k: usize, data: &[u8], pic: Picture, image: &mut [u32]) -> Answer {
     }
 }
 
-fn rgtc(k: usize, data: &[u8], pic: Picture, image: &mut [u32]) -> Answer {
+fn rgtc(k: usize, data: &[u8], pic: Picture, image: &mut [u32]) -> Result<(), Refusal> {
     match k {
         12 => readers::decode_bc2_pitched(data, pic, image),
         13 => readers::decode_bc4_pitched(data, pic, image),
@@ -70,7 +70,7 @@ fn rgtc(k: usize, data: &[u8], pic: Picture, image: &mut [u32]) -> Answer {
     }
 }
 
-fn guarded(k: usize, data: &[u8], pic: Picture, image: &mut [u32]) -> Answer {
+fn guarded(k: usize, data: &[u8], pic: Picture, image: &mut [u32]) -> Result<(), Refusal> {
     match k {
         24 => readers::decode_etc1_strict_pitched(data, pic, image),
         _ => readers::decode_etc2_rgba1_opaque_pitched(data, pic, image),

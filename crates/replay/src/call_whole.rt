@@ -1,17 +1,20 @@
 // The readers of EAC's whole values, with and without a pitch: an element has one value in its low sixteen bits.
-use rules::{Answer, Picture};
+use super::elements;
+use rules::{Picture, Refusal};
 
-pub fn read(k: usize, data: &[u8], width: usize, height: usize, image: &mut [u32]) -> Answer {
-    let pic = Picture {
-        width: width,
-        height: height,
-        pitch: width,
-    };
+pub fn read(
+    k: usize,
+    data: &[u8],
+    width: usize,
+    height: usize,
+    image: &mut [u32],
+) -> Result<(), Refusal> {
+    let pic = Picture::sized(width, height);
     let mut room = [0u16; 65600];
     read_in(k, false, data, pic, &mut room, image)
 }
 
-pub fn read_pitched(k: usize, data: &[u8], pic: Picture, image: &mut [u32]) -> Answer {
+pub fn read_pitched(k: usize, data: &[u8], pic: Picture, image: &mut [u32]) -> Result<(), Refusal> {
     let mut room = [0u16; 65600];
     read_in(k, true, data, pic, &mut room, image)
 }
@@ -23,49 +26,37 @@ fn read_in(
     pic: Picture,
     room: &mut [u16],
     image: &mut [u32],
-) -> Answer {
+) -> Result<(), Refusal> {
     let n = image.len();
     if room.len() < n {
-        return Answer::ShortImage;
+        return Err(Refusal::ShortImage);
     }
-    narrowed(image, room);
+    elements::turn(image, room, |x| (x % 0x10000) as u16);
     let answer = decoded(k, pitched, data, pic, &mut room[..n]);
-    widened(room, image);
+    elements::turn(room, image, |value| u32::from(value));
     answer
 }
 
-// The low sixteen bits of the elements, where there is room.
-fn narrowed(image: &[u32], values: &mut [u16]) {
-    if values.len() < image.len() {
-        return;
-    }
-    for (value, element) in values.iter_mut().zip(image) {
-        *value = (element % 0x10000) as u16;
-    }
-}
-
-fn wide(value: u16) -> u32 {
-    value as u32
-}
-
-// And back.
-fn widened(values: &[u16], image: &mut [u32]) {
-    if values.len() < image.len() {
-        return;
-    }
-    for (element, value) in image.iter_mut().zip(values) {
-        *element = wide(*value);
-    }
-}
-
-fn decoded(k: usize, pitched: bool, data: &[u8], pic: Picture, values: &mut [u16]) -> Answer {
+fn decoded(
+    k: usize,
+    pitched: bool,
+    data: &[u8],
+    pic: Picture,
+    values: &mut [u16],
+) -> Result<(), Refusal> {
     if pitched {
         return with_a_pitch(k, data, pic, values);
     }
     plain(k, data, pic.width, pic.height, values)
 }
 
-fn plain(k: usize, data: &[u8], width: usize, height: usize, values: &mut [u16]) -> Answer {
+fn plain(
+    k: usize,
+    data: &[u8],
+    width: usize,
+    height: usize,
+    values: &mut [u16],
+) -> Result<(), Refusal> {
     match k {
         28 => readers::decode_eacr11(data, width, height, values),
         29 => readers::decode_eacr11_signed(data, width, height, values),
@@ -74,7 +65,7 @@ fn plain(k: usize, data: &[u8], width: usize, height: usize, values: &mut [u16])
     }
 }
 
-fn with_a_pitch(k: usize, data: &[u8], pic: Picture, values: &mut [u16]) -> Answer {
+fn with_a_pitch(k: usize, data: &[u8], pic: Picture, values: &mut [u16]) -> Result<(), Refusal> {
     match k {
         28 => readers::decode_eacr11_pitched(data, pic, values),
         29 => readers::decode_eacr11_signed_pitched(data, pic, values),

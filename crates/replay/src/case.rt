@@ -6,7 +6,8 @@ use std::io;
 use std::io::Read;
 
 // What a case is taken into: its data, the bytes of its image, which are those of the answer afterwards, and the words of the
-// image. They are lent to each case, since making room for them anew takes longer than a block.
+// image. They are lent to each case, since making room for them anew takes longer than a block, and the program has no heap: their
+// sizes are fixed.
 #[derive(Drop)]
 pub struct Room {
     pub data: [u8; 262144],
@@ -42,24 +43,18 @@ fn field(head: &[u8; 64], k: usize) -> usize
     numbers::little4(head, at) + numbers::little4(head, at + 4) * 0x100000000
 }
 
-pub fn at_most(most: usize, n: usize) -> usize
-    ensures { result ≤ most }
-{
-    if most < n { most } else { n }
-}
-
 // How many bytes of data the head of a case asks for, or the most that there is room for.
 fn data_length(head: &[u8; 64]) -> usize
     ensures { result ≤ 262144 }
 {
-    at_most(262144, field(head, 6))
+    field(head, 6).min(262144)
 }
 
 // How many elements.
 pub fn elements(head: &[u8; 64]) -> usize
     ensures { result ≤ 65536 }
 {
-    at_most(65536, field(head, 7))
+    field(head, 7).min(65536)
 }
 
 fn of_head(head: &[u8; 64]) -> Case
@@ -79,39 +74,34 @@ fn of_head(head: &[u8; 64]) -> Case
 
 // Takes a case: its head, its data, and the bytes of its image. False where the input has none, or one that is too long.
 pub fn taken<R: Read>(input: &mut R, head: &mut [u8; 64], room: &mut Room) -> io::Result<bool> {
-    if !stdio::taken(input, head, 64)? {
+    if !stdio::taken(input, head)? {
         return Ok(false);
     }
-    if !stdio::taken(input, &mut room.data, field(head, 6))? {
+    let n = field(head, 6);
+    if room.data.len() < n {
+        return Ok(false);
+    }
+    if !stdio::taken(input, &mut room.data[..n])? {
         return Ok(false);
     }
     if 65536 < field(head, 7) {
         return Ok(false);
     }
-    stdio::taken(input, &mut room.shown, elements(head) * 4)
+    stdio::taken(input, &mut room.shown[..elements(head) * 4])
 }
 
 // Answers the case that was taken: the eight bytes of the answer, and the image afterwards in place of the one before.
 pub fn answered(head: &[u8; 64], room: &mut Room) -> [u8; 8] {
     let c = of_head(head);
-    let m = c.m;
-    words::unpack(&room.shown, m, &mut room.image);
-    let said = call::call_on(c, &room.data, &mut room.image);
-    words::pack(&room.image, m, &mut room.shown);
+    let image = &mut room.image[..];
+    words::unpack(&room.shown, &mut image[..c.m]);
+    let said = call::call_on(c, &room.data, image);
+    words::pack(&image[..c.m], &mut room.shown);
     spelled(said)
 }
 
 fn spelled(said: Said) -> [u8; 8] {
-    let n = said.number;
-    let x = said.extra;
-    [
-        words::low(n),
-        words::low(n / 0x100),
-        words::low(n / 0x10000),
-        words::low(n / 0x1000000),
-        words::low(x),
-        words::low(x / 0x100),
-        words::low(x / 0x10000),
-        words::low(x / 0x1000000),
-    ]
+    let n = said.number.to_le_bytes();
+    let x = said.extra.to_le_bytes();
+    [n[0], n[1], n[2], n[3], x[0], x[1], x[2], x[3]]
 }

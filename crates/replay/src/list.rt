@@ -16,7 +16,7 @@ pub fn replay<R: Read, W: Write>(
     room: &mut Room,
     due: &mut [u8; 262144],
 ) -> io::Result<()> {
-    stdio::taken(input, due, 1024)?;
+    stdio::taken(input, &mut due[..1024])?;
     for _ in 0..u64::MAX {
         if !group(input, output, room, due)? {
             break;
@@ -33,16 +33,17 @@ fn group<R: Read, W: Write>(
     due: &mut [u8; 262144],
 ) -> io::Result<bool> {
     let mut name = [0u8; 52];
-    if !stdio::taken(input, &mut name, 52)? {
+    if !stdio::taken(input, &mut name)? {
         return Ok(false);
     }
+    let title = &name[..44];
     let count = words::word_at(&name, 44);
     if count > 99999 {
         return Ok(false);
     }
     let form = words::word_at(&name, 48);
     let differ = differing(input, output, count, form, room, due)?;
-    stdio::given(output, &name, 44)?;
+    output.write_all(title)?;
     report(output, count, differ)?;
     Ok(true)
 }
@@ -97,7 +98,7 @@ fn is_whole_held<R: Read>(
 // Whether the next eight bytes of the list are these.
 fn is_said<R: Read>(input: &mut R, said: &[u8; 8]) -> io::Result<bool> {
     let mut due = [0u8; 8];
-    if !stdio::taken(input, &mut due, 8)? {
+    if !stdio::taken(input, &mut due)? {
         return Ok(false);
     }
     Ok(*said == due)
@@ -110,21 +111,13 @@ fn is_shown<R: Read>(
     due: &mut [u8; 262144],
     n: usize,
 ) -> io::Result<bool> {
-    if 262144 < n {
+    if due.len() < n {
         return Ok(false);
     }
-    if !stdio::taken(input, due, n)? {
+    if !stdio::taken(input, &mut due[..n])? {
         return Ok(false);
     }
-    Ok(is_same(shown, due, n))
-}
-
-// Whether the first n bytes are the same.
-fn is_same(a: &[u8], b: &[u8], n: usize) -> bool
-    requires n_in_bounds { n ≤ length a.now }
-    requires n_in_bounds_2 { n ≤ length b.now }
-{
-    &a[..n] == &b[..n]
+    Ok(shown[..n] == due[..n])
 }
 
 fn name_case<W: Write>(output: &mut W, i: u32) -> io::Result<()> {

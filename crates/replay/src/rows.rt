@@ -12,7 +12,7 @@ use std::io::Read;
 // Takes a row, and compares. False too where the list is cut short.
 pub fn is_held<R: Read>(input: &mut R, form: u32, room: &mut Room) -> io::Result<bool> {
     let mut row = [0u8; 52];
-    if !stdio::taken(input, &mut row, size_of(form))? {
+    if !stdio::taken(input, &mut row[..size_of(form)])? {
         return Ok(false);
     }
     Ok(is_due(&row, form, room))
@@ -22,19 +22,20 @@ pub fn is_held<R: Read>(input: &mut R, form: u32, room: &mut Room) -> io::Result
 fn is_due(row: &[u8; 52], form: u32, room: &mut Room) -> bool {
     let c = of_row(row, form);
     fill(
-        &mut room.data,
-        c.n,
+        &mut room.data[..c.n],
         field(row, form, 8),
         field(row, form, 9) == 1,
     );
-    clear(&mut room.image, c.m);
+    room.image[..c.m].fill(0x11111111);
     let said = call::call_on(c, &room.data, &mut room.image);
-    let sum = elements::digest(&room.image, c.m, said.extra as u64);
+    let sum = elements::digest(&room.image[..c.m], u64::from(said.extra));
     (elements::wide(said.number) == field(row, form, 10)) & (sum as usize == digest_due(row, form))
 }
 
 // The bytes of a row.
-fn size_of(form: u32) -> usize {
+fn size_of(form: u32) -> usize
+    ensures { result ≤ 52 }
+{
     if form == 1 { 16 } else { 52 }
 }
 
@@ -43,7 +44,7 @@ fn field(row: &[u8; 52], form: u32, k: usize) -> usize
     requires { k < 12 }
 {
     if form == 1 {
-        return numbers::wide(row[k]);
+        return usize::from(row[k]);
     }
     numbers::little4(row, k * 4)
 }
@@ -65,8 +66,8 @@ fn of_row(row: &[u8; 52], form: u32) -> Case
         c: field(row, form, 3),
         width: field(row, form, 4),
         height: field(row, form, 5),
-        n: case::at_most(262144, field(row, form, 6)),
-        m: case::at_most(65600, field(row, form, 7)),
+        n: field(row, form, 6).min(262144),
+        m: field(row, form, 7).min(65600),
     }
 }
 
@@ -85,20 +86,10 @@ fn next(v: usize) -> usize {
 }
 
 // Bytes of every value, in an order that the seed moves. Where plain is set, no block has its difference bit, so that strict accepts it.
-fn fill(data: &mut [u8], n: usize, seed: usize, plain: bool) {
-    if data.len() < n {
-        return;
-    }
+fn fill(data: &mut [u8], seed: usize, plain: bool) {
     let mut v = seed;
-    for byte in &mut data[..n] {
+    for byte in data {
         *byte = byte_of(v, plain);
         v = next(v);
     }
-}
-
-fn clear(image: &mut [u32], m: usize) {
-    if image.len() < m {
-        return;
-    }
-    image[..m].fill(0x11111111);
 }

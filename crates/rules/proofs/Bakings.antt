@@ -8,6 +8,7 @@ use mathlib.Core.Path.{◌≡◌}
 use Prim.Native.Nat.{ℕ, ◌+◌, ◌-◌, ◌/◌}
 use lib.Dec.{T, eqb}
 use lib.ListN.{length, replicate, take}
+use Rattle.std.specs.Prelude.{Result, Ok, Err, ⊤}
 use Rattle.rules.specs.Answers.{left}
 use Rattle.rules.specs.Notation.{build}
 use Rattle.rules.specs.Colour.{code, differential, wrapped, out_of_range_lem}
@@ -27,30 +28,30 @@ use Rattle.rules.specs.Baking.{
   eight_over,
   Bakes,
 }
-use Rattle.rules.specs.declared.Baking.{Baking}
-use Rattle.rules.specs.declared.Baking.TheVariants.{Done, ShortBlock, ShortTile, NoBase, NotAccepted}
+use Rattle.rules.specs.declared.BakingRefusal.{BakingRefusal}
+use Rattle.rules.specs.declared.BakingRefusal.TheVariants.{ShortBlock, ShortTile, NoBase, NotAccepted}
 use Rattle.rules.proofs.Rows.{digits, same}
 
 -- what is promised
-check_no_less : (tolerance : ℕ) (d t : List ℕ) (a : Baking) → Checks tolerance d t a → baking_said a ≡ check_verdict tolerance d t
+check_no_less : (tolerance : ℕ) (d t : List ℕ) (a : Result ⊤ BakingRefusal) → Checks tolerance d t a → baking_said a ≡ check_verdict tolerance d t
 check_no_less tolerance d t a o = o
 
-bake_says : (first second : List ℕ) (flip : ℕ) (t : List ℕ) (a : Baking) (old new : List ℕ) → Bakes first second flip t a old new
+bake_says : (first second : List ℕ) (flip : ℕ) (t : List ℕ) (a : Result ⊤ BakingRefusal) (old new : List ℕ) → Bakes first second flip t a old new
     → baking_said a ≡ bake_verdict first second flip (length old) (length t)
 bake_says first second flip t a old new o = o.says
 
-bake_leaves : (first second : List ℕ) (flip : ℕ) (t : List ℕ) (a : Baking) (old new : List ℕ) → Bakes first second flip t a old new
+bake_leaves : (first second : List ℕ) (flip : ℕ) (t : List ℕ) (a : Result ⊤ BakingRefusal) (old new : List ℕ) → Bakes first second flip t a old new
     → new ≡ left (bake_verdict first second flip (length old) (length t)) (eight_over (baked_block first second flip t) old) old
 bake_leaves first second flip t a old new o = o.leaves
 
 -- "2", "3", "16"; and 18
 answers : Bool
 answers =
-    same (baking_said Done) (0 ∷ [])
-    && same (baking_said ShortBlock) (2 ∷ [])
-    && same (baking_said ShortTile) (3 ∷ [])
-    && same (baking_said NoBase) (16 ∷ [])
-    && same (baking_said NotAccepted) (18 ∷ [])
+    same (baking_said (Ok tt)) (0 ∷ [])
+    && same (baking_said (Err ShortBlock)) (2 ∷ [])
+    && same (baking_said (Err ShortTile)) (3 ∷ [])
+    && same (baking_said (Err NoBase)) (16 ∷ [])
+    && same (baking_said (Err NotAccepted)) (18 ∷ [])
 
 -- three channels of four bits, the bytes of a block and the elements of a tile, each as one number
 unfoldable pub base : ℕ → List ℕ

@@ -7,12 +7,12 @@ use Prim.Native.Nat.{ℕ}
 use lib.Dec.{T, eqb}
 use Rattle.numbers.specs.Numbers.{little}
 use Rattle.rules.specs.Bits.{number, refuses, bits_said, read_verdict, place_after_lem}
-use Rattle.rules.specs.declared.Bits.TheVariants.{Value, Refused}
+use Rattle.std.specs.Prelude.{Some, None}
 use Rattle.rules.proofs.Rows.{same}
 
 -- "is refused with 2"
 answers : Bool
-answers = same (bits_said (Value 5)) (0 ∷ 5 ∷ []) && same (bits_said Refused) (2 ∷ [])
+answers = same (bits_said (Some 5)) (0 ∷ 5 ∷ []) && same (bits_said None) (2 ∷ [])
 
 -- n bits from place p on of some bytes: what is said, and the place after
 record Row : Type 0 where

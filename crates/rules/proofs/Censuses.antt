@@ -9,34 +9,35 @@ use mathlib.Core.Path.{◌≡◌}
 use Prim.Native.Nat.{ℕ}
 use lib.Dec.{T}
 use lib.ListN.{drop}
+use Rattle.std.specs.Prelude.{Result, Ok, Err}
 use Rattle.rules.specs.Places.{pitched, sized}
 use Rattle.rules.specs.Census.{Test, count_of, rgb_tests, rgba1_tests, census, rgb_said, rgba1_said, CountsRgb, CountsRgba1}
 use Rattle.rules.specs.declared.Picture.{Picture}
-use Rattle.rules.specs.declared.RgbCensus.{RgbCensus}
-use Rattle.rules.specs.declared.RgbCensus.TheVariants as rgb
-use Rattle.rules.specs.declared.Rgba1Census.{Rgba1Census}
-use Rattle.rules.specs.declared.Rgba1Census.TheVariants as rgba1
+use Rattle.rules.specs.declared.Refusal.{Refusal}
+use Rattle.rules.specs.declared.Refusal.TheVariants.{TooLarge, ShortData}
+use Rattle.rules.specs.declared.RgbCounts.{RgbCounts}
+use Rattle.rules.specs.declared.Rgba1Counts.{Rgba1Counts}
 use Rattle.rules.proofs.Rows.{same, bytes as eights}
 
 -- what is promised
-rgb_no_less : (d : List ℕ) (p : Picture) (a : RgbCensus) → CountsRgb d p a → rgb_said a ≡ census rgb_tests d p
+rgb_no_less : (d : List ℕ) (p : Picture) (a : Result RgbCounts Refusal) → CountsRgb d p a → rgb_said a ≡ census rgb_tests d p
 rgb_no_less d p a o = o
 
-rgba1_no_less : (d : List ℕ) (p : Picture) (a : Rgba1Census) → CountsRgba1 d p a → rgba1_said a ≡ census rgba1_tests d p
+rgba1_no_less : (d : List ℕ) (p : Picture) (a : Result Rgba1Counts Refusal) → CountsRgba1 d p a → rgba1_said a ≡ census rgba1_tests d p
 rgba1_no_less d p a o = o
 
 -- "how many blocks are individual, differential, T, H and planar", in that order; "four kinds, each split by the opaque bit"; and
 -- refusals 1 and 2, which return no counts
 answers : Bool
 answers =
-    same (rgb_said (rgb.Counted (record { individual = 5; differential = 6; t = 7; h = 8; planar = 9 }))) (0 ∷ 5 ∷ 6 ∷ 7 ∷ 8 ∷ 9 ∷ [])
-    && same (rgb_said rgb.TooLarge) (1 ∷ [])
-    && same (rgb_said rgb.ShortData) (2 ∷ [])
+    same (rgb_said (Ok (record { individual = 5; differential = 6; t = 7; h = 8; planar = 9 }))) (0 ∷ 5 ∷ 6 ∷ 7 ∷ 8 ∷ 9 ∷ [])
+    && same (rgb_said (Err TooLarge)) (1 ∷ [])
+    && same (rgb_said (Err ShortData)) (2 ∷ [])
     && same
-    (rgba1_said (rgba1.Counted (record { opaque = record { differential = 1; t = 2; h = 3; planar = 4 }; clear = record { differential = 5; t = 6; h = 7; planar = 8 } })))
+    (rgba1_said (Ok (record { opaque = record { differential = 1; t = 2; h = 3; planar = 4 }; clear = record { differential = 5; t = 6; h = 7; planar = 8 } })))
     (0 ∷ 1 ∷ 2 ∷ 3 ∷ 4 ∷ 5 ∷ 6 ∷ 7 ∷ 8 ∷ [])
-    && same (rgba1_said rgba1.TooLarge) (1 ∷ [])
-    && same (rgba1_said rgba1.ShortData) (2 ∷ [])
+    && same (rgba1_said (Err TooLarge)) (1 ∷ [])
+    && same (rgba1_said (Err ShortData)) (2 ∷ [])
 
 record Row : Type 0 where
   tests : List Test

@@ -10,10 +10,9 @@ use lib.IntN.{pos}
 use lib.ListN.{length, replicate}
 use Rattle.rules.specs.Notation.{minus}
 use Rattle.rules.specs.Places.{pitched, needed, painted}
-use Rattle.rules.specs.Answers.{said, left}
+use Rattle.rules.specs.Answers.{Answer, said, left}
 use Rattle.rules.specs.Channels.{alpha_step}
 use Rattle.rules.specs.Whole.{byte_from, eac_whole_lem, whole_pixel, whole_picture, whole_verdict, ReadsWhole}
-use Rattle.rules.specs.declared.Answer.{Answer}
 use Rattle.rules.proofs.Rows.{bytes, same}
 
 -- A row says whether the values are signed, how many there are to a pixel, the width, the height and the pitch, and the blocks, each eight

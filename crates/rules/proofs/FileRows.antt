@@ -10,9 +10,10 @@ use Rattle.numbers.specs.Numbers.{little, big, in_bytes, big_bytes}
 use Rattle.rules.specs.Formats.{size_of}
 use Rattle.rules.specs.Records.{walked, kept, payload_at}
 use Rattle.rules.specs.Sheets.{format_of, head_verdict}
-use Rattle.rules.specs.FileFormats.{format_list, format_number, format_at_lem, known, word32}
+use Rattle.rules.specs.FileFormats.{format_list, format_number, known, word32}
 use Rattle.rules.specs.declared.Format.{Format}
-use Rattle.rules.specs.FileLevels.{bytes_for_lem, inside_of, after_size_lem, in_index_lem, fit_of_lem, level_at_lem, next_spot_lem, levels_from, levels_of, too_many_lem, held_of, opened_by, found_by}
+use Rattle.rules.specs.FileLevels.{bytes_for_lem, inside_of, after_size_lem, in_index_lem, fit_in, fit_of_lem, level_at_lem, next_spot_lem}
+use Rattle.rules.specs.FileLevels.{levels_from, levels_of, too_many_lem, held_of, opened_by, found_by}
 use Rattle.rules.specs.Keys.{is_orientation_lem, rows_told_lem, rows_in_lem, orientation_of}
 use Rattle.rules.specs.Pkm.{pkm_as, pkm_of}
 use Rattle.rules.specs.Ktx1.{ktx1_as, ktx1_in, ktx1_of}
@@ -141,8 +142,8 @@ others =
 
 hold_others : T (every others)
 unfolding answer row every zeros word words pkm identifier ktx1 level ktx2 entry dds dx10 rec orientation qt_orientation keyed keyed2 others
-    little big in_bytes big_bytes size_of walked kept payload_at format_of head_verdict format_at_lem known word32
-    bytes_for_lem inside_of after_size_lem in_index_lem fit_of_lem level_at_lem next_spot_lem levels_from levels_of too_many_lem held_of opened_by found_by
+    little big in_bytes big_bytes size_of walked kept payload_at format_of head_verdict known word32
+    bytes_for_lem inside_of after_size_lem in_index_lem fit_in fit_of_lem level_at_lem next_spot_lem levels_from levels_of too_many_lem held_of opened_by found_by
     is_orientation_lem rows_told_lem rows_in_lem orientation_of pkm_as pkm_of ktx1_as ktx1_in ktx1_of ktx2_as ktx2_of dds_flat_lem dx10_flat_lem dds_as four_cc_format dx10_of dds_of sheet_header
     header_of opened_as found_as opened_verdict found_verdict
 hold_others = tt
@@ -178,8 +179,8 @@ pkms =
 
 hold_pkms : T (every pkms)
 unfolding answer row every zeros word words pkm identifier ktx1 level ktx2 entry dds dx10 rec orientation qt_orientation keyed keyed2 pkms
-    little big in_bytes big_bytes size_of walked kept payload_at format_of head_verdict format_at_lem known word32
-    bytes_for_lem inside_of after_size_lem in_index_lem fit_of_lem level_at_lem next_spot_lem levels_from levels_of too_many_lem held_of opened_by found_by
+    little big in_bytes big_bytes size_of walked kept payload_at format_of head_verdict known word32
+    bytes_for_lem inside_of after_size_lem in_index_lem fit_in fit_of_lem level_at_lem next_spot_lem levels_from levels_of too_many_lem held_of opened_by found_by
     is_orientation_lem rows_told_lem rows_in_lem orientation_of pkm_as pkm_of ktx1_as ktx1_in ktx1_of ktx2_as ktx2_of dds_flat_lem dx10_flat_lem dds_as four_cc_format dx10_of dds_of sheet_header
     header_of opened_as found_as opened_verdict found_verdict
 hold_pkms = tt
@@ -198,8 +199,8 @@ padded_pkms =
 
 hold_padded_pkms : T (every padded_pkms)
 unfolding answer row every zeros word words pkm identifier ktx1 level ktx2 entry dds dx10 rec orientation qt_orientation keyed keyed2 padded_pkms
-    little big in_bytes big_bytes size_of walked kept payload_at format_of head_verdict format_at_lem known word32
-    bytes_for_lem inside_of after_size_lem in_index_lem fit_of_lem level_at_lem next_spot_lem levels_from levels_of too_many_lem held_of opened_by found_by
+    little big in_bytes big_bytes size_of walked kept payload_at format_of head_verdict known word32
+    bytes_for_lem inside_of after_size_lem in_index_lem fit_in fit_of_lem level_at_lem next_spot_lem levels_from levels_of too_many_lem held_of opened_by found_by
     is_orientation_lem rows_told_lem rows_in_lem orientation_of pkm_as pkm_of ktx1_as ktx1_in ktx1_of ktx2_as ktx2_of dds_flat_lem dx10_flat_lem dds_as four_cc_format dx10_of dds_of sheet_header
     header_of opened_as found_as opened_verdict found_verdict
 hold_padded_pkms = tt
@@ -239,8 +240,8 @@ ktx1s =
 
 hold_ktx1s : T (every ktx1s)
 unfolding answer row every zeros word words pkm identifier ktx1 level ktx2 entry dds dx10 rec orientation qt_orientation keyed keyed2 ktx1s
-    little big in_bytes big_bytes size_of walked kept payload_at format_of head_verdict format_at_lem known word32
-    bytes_for_lem inside_of after_size_lem in_index_lem fit_of_lem level_at_lem next_spot_lem levels_from levels_of too_many_lem held_of opened_by found_by
+    little big in_bytes big_bytes size_of walked kept payload_at format_of head_verdict known word32
+    bytes_for_lem inside_of after_size_lem in_index_lem fit_in fit_of_lem level_at_lem next_spot_lem levels_from levels_of too_many_lem held_of opened_by found_by
     is_orientation_lem rows_told_lem rows_in_lem orientation_of pkm_as pkm_of ktx1_as ktx1_in ktx1_of ktx2_as ktx2_of dds_flat_lem dx10_flat_lem dds_as four_cc_format dx10_of dds_of sheet_header
     header_of opened_as found_as opened_verdict found_verdict
 hold_ktx1s = tt
@@ -263,8 +264,8 @@ flat_ktx1s =
 
 hold_flat_ktx1s : T (every flat_ktx1s)
 unfolding answer row every zeros word words pkm identifier ktx1 level ktx2 entry dds dx10 rec orientation qt_orientation keyed keyed2 flat_ktx1s
-    little big in_bytes big_bytes size_of walked kept payload_at format_of head_verdict format_at_lem known word32
-    bytes_for_lem inside_of after_size_lem in_index_lem fit_of_lem level_at_lem next_spot_lem levels_from levels_of too_many_lem held_of opened_by found_by
+    little big in_bytes big_bytes size_of walked kept payload_at format_of head_verdict known word32
+    bytes_for_lem inside_of after_size_lem in_index_lem fit_in fit_of_lem level_at_lem next_spot_lem levels_from levels_of too_many_lem held_of opened_by found_by
     is_orientation_lem rows_told_lem rows_in_lem orientation_of pkm_as pkm_of ktx1_as ktx1_in ktx1_of ktx2_as ktx2_of dds_flat_lem dx10_flat_lem dds_as four_cc_format dx10_of dds_of sheet_header
     header_of opened_as found_as opened_verdict found_verdict
 hold_flat_ktx1s = tt
@@ -307,8 +308,8 @@ sized_ktx1s =
 
 hold_sized_ktx1s : T (every sized_ktx1s)
 unfolding answer row every zeros word words pkm identifier ktx1 level ktx2 entry dds dx10 rec orientation qt_orientation keyed keyed2 sized_ktx1s
-    little big in_bytes big_bytes size_of walked kept payload_at format_of head_verdict format_at_lem known word32
-    bytes_for_lem inside_of after_size_lem in_index_lem fit_of_lem level_at_lem next_spot_lem levels_from levels_of too_many_lem held_of opened_by found_by
+    little big in_bytes big_bytes size_of walked kept payload_at format_of head_verdict known word32
+    bytes_for_lem inside_of after_size_lem in_index_lem fit_in fit_of_lem level_at_lem next_spot_lem levels_from levels_of too_many_lem held_of opened_by found_by
     is_orientation_lem rows_told_lem rows_in_lem orientation_of pkm_as pkm_of ktx1_as ktx1_in ktx1_of ktx2_as ktx2_of dds_flat_lem dx10_flat_lem dds_as four_cc_format dx10_of dds_of sheet_header
     header_of opened_as found_as opened_verdict found_verdict
 hold_sized_ktx1s = tt
@@ -363,8 +364,8 @@ ktx2s =
 
 hold_ktx2s : T (every ktx2s)
 unfolding answer row every zeros word words pkm identifier ktx1 level ktx2 entry dds dx10 rec orientation qt_orientation keyed keyed2 ktx2s
-    little big in_bytes big_bytes size_of walked kept payload_at format_of head_verdict format_at_lem known word32
-    bytes_for_lem inside_of after_size_lem in_index_lem fit_of_lem level_at_lem next_spot_lem levels_from levels_of too_many_lem held_of opened_by found_by
+    little big in_bytes big_bytes size_of walked kept payload_at format_of head_verdict known word32
+    bytes_for_lem inside_of after_size_lem in_index_lem fit_in fit_of_lem level_at_lem next_spot_lem levels_from levels_of too_many_lem held_of opened_by found_by
     is_orientation_lem rows_told_lem rows_in_lem orientation_of pkm_as pkm_of ktx1_as ktx1_in ktx1_of ktx2_as ktx2_of dds_flat_lem dx10_flat_lem dds_as four_cc_format dx10_of dds_of sheet_header
     header_of opened_as found_as opened_verdict found_verdict
 hold_ktx2s = tt
@@ -399,8 +400,8 @@ placed_ktx2s =
 
 hold_placed_ktx2s : T (every placed_ktx2s)
 unfolding answer row every zeros word words pkm identifier ktx1 level ktx2 entry dds dx10 rec orientation qt_orientation keyed keyed2 placed_ktx2s
-    little big in_bytes big_bytes size_of walked kept payload_at format_of head_verdict format_at_lem known word32
-    bytes_for_lem inside_of after_size_lem in_index_lem fit_of_lem level_at_lem next_spot_lem levels_from levels_of too_many_lem held_of opened_by found_by
+    little big in_bytes big_bytes size_of walked kept payload_at format_of head_verdict known word32
+    bytes_for_lem inside_of after_size_lem in_index_lem fit_in fit_of_lem level_at_lem next_spot_lem levels_from levels_of too_many_lem held_of opened_by found_by
     is_orientation_lem rows_told_lem rows_in_lem orientation_of pkm_as pkm_of ktx1_as ktx1_in ktx1_of ktx2_as ktx2_of dds_flat_lem dx10_flat_lem dds_as four_cc_format dx10_of dds_of sheet_header
     header_of opened_as found_as opened_verdict found_verdict
 hold_placed_ktx2s = tt
@@ -465,8 +466,8 @@ keyed_files =
 
 hold_keyed_files : T (every keyed_files)
 unfolding answer row every zeros word words pkm identifier ktx1 level ktx2 entry dds dx10 rec orientation qt_orientation keyed keyed2 keyed_files
-    little big in_bytes big_bytes size_of walked kept payload_at format_of head_verdict format_at_lem known word32
-    bytes_for_lem inside_of after_size_lem in_index_lem fit_of_lem level_at_lem next_spot_lem levels_from levels_of too_many_lem held_of opened_by found_by
+    little big in_bytes big_bytes size_of walked kept payload_at format_of head_verdict known word32
+    bytes_for_lem inside_of after_size_lem in_index_lem fit_in fit_of_lem level_at_lem next_spot_lem levels_from levels_of too_many_lem held_of opened_by found_by
     is_orientation_lem rows_told_lem rows_in_lem orientation_of pkm_as pkm_of ktx1_as ktx1_in ktx1_of ktx2_as ktx2_of dds_flat_lem dx10_flat_lem dds_as four_cc_format dx10_of dds_of sheet_header
     header_of opened_as found_as opened_verdict found_verdict
 hold_keyed_files = tt
@@ -520,8 +521,8 @@ edges =
 
 hold_edges : T (every edges)
 unfolding answer row every zeros word words pkm identifier ktx1 level ktx2 entry dds dx10 rec orientation qt_orientation keyed keyed2 edges
-    little big in_bytes big_bytes size_of walked kept payload_at format_of head_verdict format_at_lem known word32
-    bytes_for_lem inside_of after_size_lem in_index_lem fit_of_lem level_at_lem next_spot_lem levels_from levels_of too_many_lem held_of opened_by found_by
+    little big in_bytes big_bytes size_of walked kept payload_at format_of head_verdict known word32
+    bytes_for_lem inside_of after_size_lem in_index_lem fit_in fit_of_lem level_at_lem next_spot_lem levels_from levels_of too_many_lem held_of opened_by found_by
     is_orientation_lem rows_told_lem rows_in_lem orientation_of pkm_as pkm_of ktx1_as ktx1_in ktx1_of ktx2_as ktx2_of dds_flat_lem dx10_flat_lem dds_as four_cc_format dx10_of dds_of sheet_header
     header_of opened_as found_as opened_verdict found_verdict
 hold_edges = tt
@@ -551,8 +552,8 @@ keyed_edges =
 
 hold_keyed_edges : T (every keyed_edges)
 unfolding answer row every zeros word words pkm identifier ktx1 level ktx2 entry dds dx10 rec orientation qt_orientation keyed keyed2 keyed_edges
-    little big in_bytes big_bytes size_of walked kept payload_at format_of head_verdict format_at_lem known word32
-    bytes_for_lem inside_of after_size_lem in_index_lem fit_of_lem level_at_lem next_spot_lem levels_from levels_of too_many_lem held_of opened_by found_by
+    little big in_bytes big_bytes size_of walked kept payload_at format_of head_verdict known word32
+    bytes_for_lem inside_of after_size_lem in_index_lem fit_in fit_of_lem level_at_lem next_spot_lem levels_from levels_of too_many_lem held_of opened_by found_by
     is_orientation_lem rows_told_lem rows_in_lem orientation_of pkm_as pkm_of ktx1_as ktx1_in ktx1_of ktx2_as ktx2_of dds_flat_lem dx10_flat_lem dds_as four_cc_format dx10_of dds_of sheet_header
     header_of opened_as found_as opened_verdict found_verdict
 hold_keyed_edges = tt
@@ -607,8 +608,8 @@ ddss =
 
 hold_ddss : T (every ddss)
 unfolding answer row every zeros word words pkm identifier ktx1 level ktx2 entry dds dx10 rec orientation qt_orientation keyed keyed2 ddss
-    little big in_bytes big_bytes size_of walked kept payload_at format_of head_verdict format_at_lem known word32
-    bytes_for_lem inside_of after_size_lem in_index_lem fit_of_lem level_at_lem next_spot_lem levels_from levels_of too_many_lem held_of opened_by found_by
+    little big in_bytes big_bytes size_of walked kept payload_at format_of head_verdict known word32
+    bytes_for_lem inside_of after_size_lem in_index_lem fit_in fit_of_lem level_at_lem next_spot_lem levels_from levels_of too_many_lem held_of opened_by found_by
     is_orientation_lem rows_told_lem rows_in_lem orientation_of pkm_as pkm_of ktx1_as ktx1_in ktx1_of ktx2_as ktx2_of dds_flat_lem dx10_flat_lem dds_as four_cc_format dx10_of dds_of sheet_header
     header_of opened_as found_as opened_verdict found_verdict
 hold_ddss = tt
@@ -638,8 +639,8 @@ flat_ddss =
 
 hold_flat_ddss : T (every flat_ddss)
 unfolding answer row every zeros word words pkm identifier ktx1 level ktx2 entry dds dx10 rec orientation qt_orientation keyed keyed2 flat_ddss
-    little big in_bytes big_bytes size_of walked kept payload_at format_of head_verdict format_at_lem known word32
-    bytes_for_lem inside_of after_size_lem in_index_lem fit_of_lem level_at_lem next_spot_lem levels_from levels_of too_many_lem held_of opened_by found_by
+    little big in_bytes big_bytes size_of walked kept payload_at format_of head_verdict known word32
+    bytes_for_lem inside_of after_size_lem in_index_lem fit_in fit_of_lem level_at_lem next_spot_lem levels_from levels_of too_many_lem held_of opened_by found_by
     is_orientation_lem rows_told_lem rows_in_lem orientation_of pkm_as pkm_of ktx1_as ktx1_in ktx1_of ktx2_as ktx2_of dds_flat_lem dx10_flat_lem dds_as four_cc_format dx10_of dds_of sheet_header
     header_of opened_as found_as opened_verdict found_verdict
 hold_flat_ddss = tt
@@ -672,8 +673,8 @@ sized_ddss =
 
 hold_sized_ddss : T (every sized_ddss)
 unfolding answer row every zeros word words pkm identifier ktx1 level ktx2 entry dds dx10 rec orientation qt_orientation keyed keyed2 sized_ddss
-    little big in_bytes big_bytes size_of walked kept payload_at format_of head_verdict format_at_lem known word32
-    bytes_for_lem inside_of after_size_lem in_index_lem fit_of_lem level_at_lem next_spot_lem levels_from levels_of too_many_lem held_of opened_by found_by
+    little big in_bytes big_bytes size_of walked kept payload_at format_of head_verdict known word32
+    bytes_for_lem inside_of after_size_lem in_index_lem fit_in fit_of_lem level_at_lem next_spot_lem levels_from levels_of too_many_lem held_of opened_by found_by
     is_orientation_lem rows_told_lem rows_in_lem orientation_of pkm_as pkm_of ktx1_as ktx1_in ktx1_of ktx2_as ktx2_of dds_flat_lem dx10_flat_lem dds_as four_cc_format dx10_of dds_of sheet_header
     header_of opened_as found_as opened_verdict found_verdict
 hold_sized_ddss = tt
@@ -714,8 +715,8 @@ sheets =
 
 hold_sheets : T (every sheets)
 unfolding answer row every zeros word words pkm identifier ktx1 level ktx2 entry dds dx10 rec orientation qt_orientation keyed keyed2 sheets
-    little big in_bytes big_bytes size_of walked kept payload_at format_of head_verdict format_at_lem known word32
-    bytes_for_lem inside_of after_size_lem in_index_lem fit_of_lem level_at_lem next_spot_lem levels_from levels_of too_many_lem held_of opened_by found_by
+    little big in_bytes big_bytes size_of walked kept payload_at format_of head_verdict known word32
+    bytes_for_lem inside_of after_size_lem in_index_lem fit_in fit_of_lem level_at_lem next_spot_lem levels_from levels_of too_many_lem held_of opened_by found_by
     is_orientation_lem rows_told_lem rows_in_lem orientation_of pkm_as pkm_of ktx1_as ktx1_in ktx1_of ktx2_as ktx2_of dds_flat_lem dx10_flat_lem dds_as four_cc_format dx10_of dds_of sheet_header
     header_of opened_as found_as opened_verdict found_verdict
 hold_sheets = tt

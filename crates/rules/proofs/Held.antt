@@ -10,10 +10,11 @@ use Prim.Native.Nat.{ℕ, zero, suc, ◌/◌, ◌%◌}
 use lib.Dec.{T, leb}
 use lib.IntN.{pos}
 use lib.ListN.{length}
+use Rattle.std.specs.Prelude.{Ok, Err}
 use Rattle.rules.specs.Notation.{minus, modulo}
 use Rattle.rules.specs.Pixel.{alpha_of, red_of, green_of, blue_of}
 use Rattle.rules.specs.Places.{sized, pitched, element, needed, inside, bytes_of, bytes_from, in_tile, tile, pixel_at, painted}
-use Rattle.rules.specs.Answers.{said, Check, left, first_of}
+use Rattle.rules.specs.Answers.{Answer, said, Check, left, first_of}
 use Rattle.rules.specs.Colour.{differential, wrapped, kind_by_sums_lem, out_of_range_lem}
 use Rattle.rules.specs.Modes.{t_bases, t_distance, h_bases, not_less_lem, h_distance, planar_bases_lem, planar_channel, indexed}
 use Rattle.rules.specs.Modes.{rgb_pixel, rgba1_pixel, etc1_pixel}
@@ -27,10 +28,9 @@ use Rattle.rules.specs.Formats.{size_of, shows_of}
 use Rattle.rules.specs.Readers.{picture_of, picture_verdict, ReadsPicture, strict_checks, strict_verdict, ReadsStrict, opaque_checks, opaque_verdict, ReadsOpaque}
 use Rattle.rules.specs.Readers.{block_verdict, block_painted, ReadsBlock, alpha_painted, ReadsAlpha, channel_verdict, channel_painted, ReadsChannel}
 use Rattle.rules.specs.Readers.{replaced_painted, ReplacesChannel}
-use Rattle.rules.specs.declared.Answer.{Answer}
-use Rattle.rules.specs.declared.Answer.TheVariants.{Done, TooLarge, ShortData, ShortImage, OutOfRange, NoChannel, LongData, NotOpaque, ShortPitch}
-use Rattle.rules.specs.declared.Answer.TheVariants.{HeaderCut, UnknownContainer, UnknownVersion, UnknownFormat, SizesDisagree}
-use Rattle.rules.specs.declared.Answer.TheVariants.{NotFlat, NoPixel, LevelsMissing, NoLevel, Supercompressed}
+use Rattle.rules.specs.declared.Refusal.TheVariants.{TooLarge, ShortData, ShortImage, OutOfRange, NoChannel, LongData, NotOpaque, ShortPitch}
+use Rattle.rules.specs.declared.Refusal.TheVariants.{HeaderCut, UnknownContainer, UnknownVersion, UnknownFormat, SizesDisagree}
+use Rattle.rules.specs.declared.Refusal.TheVariants.{NotFlat, NoPixel, LevelsMissing, NoLevel, Supercompressed}
 use Rattle.rules.specs.declared.Format.TheVariants.{Etc2Rgb, Etc2Rgba1}
 use Rattle.rules.proofs.Rows.{Reader, picture, strict, opaque, padded, padded_strict, padded_opaque, block, alpha_half, channel, alpha_into, Row}
 use Rattle.rules.proofs.Rows.{shows, packed, joins, refuses, answers}
@@ -140,25 +140,25 @@ short (r ∷ rs) = cond (is_short r) (r ∷ short rs) (short rs)
 -- "When the reader says no": the numbers
 numbers : Bool
 numbers =
-    same (said Done) (0 ∷ [])
-    && same (said TooLarge) (1 ∷ [])
-    && same (said ShortData) (2 ∷ [])
-    && same (said ShortImage) (3 ∷ [])
-    && same (said (OutOfRange 7)) (4 ∷ 7 ∷ [])
-    && same (said NoChannel) (5 ∷ [])
-    && same (said LongData) (6 ∷ [])
-    && same (said (NotOpaque 7)) (11 ∷ 7 ∷ [])
-    && same (said ShortPitch) (12 ∷ [])
-    && same (said HeaderCut) (20 ∷ [])
-    && same (said UnknownContainer) (21 ∷ [])
-    && same (said UnknownVersion) (22 ∷ [])
-    && same (said UnknownFormat) (23 ∷ [])
-    && same (said SizesDisagree) (24 ∷ [])
-    && same (said NotFlat) (25 ∷ [])
-    && same (said NoPixel) (26 ∷ [])
-    && same (said LevelsMissing) (37 ∷ [])
-    && same (said NoLevel) (38 ∷ [])
-    && same (said Supercompressed) (41 ∷ [])
+    same (said (Ok tt)) (0 ∷ [])
+    && same (said (Err TooLarge)) (1 ∷ [])
+    && same (said (Err ShortData)) (2 ∷ [])
+    && same (said (Err ShortImage)) (3 ∷ [])
+    && same (said (Err (OutOfRange 7))) (4 ∷ 7 ∷ [])
+    && same (said (Err NoChannel)) (5 ∷ [])
+    && same (said (Err LongData)) (6 ∷ [])
+    && same (said (Err (NotOpaque 7))) (11 ∷ 7 ∷ [])
+    && same (said (Err ShortPitch)) (12 ∷ [])
+    && same (said (Err HeaderCut)) (20 ∷ [])
+    && same (said (Err UnknownContainer)) (21 ∷ [])
+    && same (said (Err UnknownVersion)) (22 ∷ [])
+    && same (said (Err UnknownFormat)) (23 ∷ [])
+    && same (said (Err SizesDisagree)) (24 ∷ [])
+    && same (said (Err NotFlat)) (25 ∷ [])
+    && same (said (Err NoPixel)) (26 ∷ [])
+    && same (said (Err LevelsMissing)) (37 ∷ [])
+    && same (said (Err NoLevel)) (38 ∷ [])
+    && same (said (Err Supercompressed)) (41 ∷ [])
 
 -- the order in which strict ETC1 tests: no row can tell 2 and 6 apart, which are never both due; and that of the opaque-only viewer
 numbers_of : List Check → List ℕ

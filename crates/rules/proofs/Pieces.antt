@@ -9,14 +9,13 @@ use Prim.Native.Nat.{ℕ}
 use lib.Dec.{T}
 use lib.ListN.{length, replicate}
 use Rattle.rules.specs.Places.{sized, pitched, needed, painted}
-use Rattle.rules.specs.Answers.{said, verdict}
+use Rattle.rules.specs.Answers.{Answer, said, verdict}
 use Rattle.rules.specs.Colour.{differential, wrapped, kind_by_sums_lem}
 use Rattle.rules.specs.Modes.{t_bases, t_distance, h_bases, h_distance, planar_bases_lem, planar_channel, indexed, rgb_pixel, rgba1_pixel, etc1_pixel}
 use Rattle.rules.specs.Channels.{alpha_step, alpha_byte, rgba8_pixel, eac_value, eac_byte, red_pixel, red_green_pixel}
 use Rattle.rules.specs.Formats.{size_of, shows_of}
 use Rattle.rules.specs.Pieces.{completed, behind_last, after, image_after, start_checks, fresh, Starts, piece_verdict, if_taken, Takes, end_checks, Ends}
 use Rattle.rules.specs.Pieces.{held, used, wholes, state_of, so_far, joined}
-use Rattle.rules.specs.declared.Answer.{Answer}
 use Rattle.rules.specs.declared.Format.{Format}
 use Rattle.rules.specs.declared.Format.TheVariants.{Etc1, Etc2Rgba8, EacR}
 use Rattle.rules.specs.declared.Picture.{Picture}

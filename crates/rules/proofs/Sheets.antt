@@ -8,26 +8,27 @@ use Prim.Native.Nat.{ℕ, ◌/◌, ◌%◌}
 use lib.Dec.{T}
 use lib.ListN.{length, replicate}
 use Rattle.numbers.specs.Numbers.{little, in_bytes}
+use Rattle.std.specs.Prelude.{Result, Ok, Err}
+use Rattle.std.specs.Result.{result_unwrap_or}
 use Rattle.rules.specs.Places.{sized, needed, painted}
-use Rattle.rules.specs.Answers.{said, accepts, left}
+use Rattle.rules.specs.Answers.{Answer, answered, said, accepts, left}
 use Rattle.rules.specs.Colour.{differential, wrapped, kind_by_sums_lem}
 use Rattle.rules.specs.Modes.{t_bases, t_distance, h_bases, h_distance, planar_bases_lem, planar_channel, indexed, rgb_pixel, rgba1_pixel, etc1_pixel}
 use Rattle.rules.specs.Channels.{alpha_step, alpha_byte, rgba8_pixel, eac_value, eac_byte, red_pixel, red_green_pixel}
 use Rattle.rules.specs.Formats.{size_of, shows_of}
 use Rattle.rules.specs.Records.{walked, kept}
 use Rattle.rules.specs.Sheets.{format_of, told, head_verdict, TellsHead, read_verdict, sheet_picture, ReadsSheet, sheet_of, write_verdict, sheet_over, WritesSheet}
-use Rattle.rules.specs.declared.Answer.{Answer}
-use Rattle.rules.specs.declared.Answer.TheVariants.{CutShort, NoHead, OtherKind, WrongBlocks}
+use Rattle.rules.specs.declared.Refusal.TheVariants.{CutShort, NoHead, OtherKind, WrongBlocks}
 use Rattle.rules.specs.declared.Picture.{Picture}
-use Rattle.rules.specs.declared.Sheet.{Sheet}
-use Rattle.rules.specs.declared.Sheet.TheVariants.{Holds, Refused}
-use Rattle.rules.specs.declared.Written.{Written}
+use Rattle.rules.specs.declared.Format.TheVariants.{Etc2Rgba1}
+use Rattle.rules.specs.declared.Head.{Head}
+use Rattle.rules.specs.declared.Refusal.{Refusal}
 use Rattle.rules.proofs.Rows.{same, untouched}
 
 -- what an answer says; what a sheet says of its head; what its reader says with so many elements, and the image that it leaves; what
 -- the writer says with so much room, and the room that it leaves
 data Asked : Type 0 where
-  say : Sheet → Asked
+  say : Result Head Refusal → Asked
   head_of : List ℕ → Asked
   read : List ℕ → ℕ → Asked
   image_of : List ℕ → ℕ → Asked
@@ -47,7 +48,7 @@ answer (write f p b n) = write_verdict f p b n
 answer (room_of f p b n) = left (write_verdict f p b n) (sheet_over f p b (room n)) (room n)
 
 -- which is all that is promised
-head_no_less : (d : List ℕ) (s : Sheet) → TellsHead d s → told s ≡ head_verdict d
+head_no_less : (d : List ℕ) (s : Result Head Refusal) → TellsHead d s → told s ≡ head_verdict d
 head_no_less d s p = p
 
 read_no_less :
@@ -57,11 +58,11 @@ read_no_less :
 read_no_less d image new a o = (o.says, o.leaves)
 
 write_no_less :
-    (f : ℕ) (p : Picture) (b out new : List ℕ) (w : Written)
+    (f : ℕ) (p : Picture) (b out new : List ℕ) (w : Result ℕ Refusal)
     → WritesSheet f p b out w new
-    → (said w.answer ≡ write_verdict f p b (length out))
+    → (said (answered w) ≡ write_verdict f p b (length out))
     × (new ≡ left (write_verdict f p b (length out)) (sheet_over f p b out) out)
-    × (w.bytes ≡ cond (accepts (write_verdict f p b (length out))) (length (sheet_of f p b)) 0)
+    × (result_unwrap_or w 0 ≡ cond (accepts (write_verdict f p b (length out))) (length (sheet_of f p b)) 0)
 write_no_less f p b out new w o = (o.outcome.says, o.outcome.leaves, o.bytes)
 
 record Row : Type 0 where
@@ -103,11 +104,11 @@ one f b pixel =
 
 rows : List Row
 rows =
-    row (say (Refused CutShort)) (7 ∷ [])
-    ∷ row (say (Refused NoHead)) (8 ∷ [])
-    ∷ row (say (Refused OtherKind)) (9 ∷ [])
-    ∷ row (say (Refused WrongBlocks)) (10 ∷ [])
-    ∷ row (say (Holds (record { format = 2; width = 4; height = 3 }))) (good 2)
+    row (say (Err CutShort)) (7 ∷ [])
+    ∷ row (say (Err NoHead)) (8 ∷ [])
+    ∷ row (say (Err OtherKind)) (9 ∷ [])
+    ∷ row (say (Err WrongBlocks)) (10 ∷ [])
+    ∷ row (say (Ok (record { format = Etc2Rgba1; width = 4; height = 3 }))) (good 2)
     -- every format has its own number, and its blocks their 8 or 16 bytes: S2, S5, S13, S15 and zeros
     ∷ one 0 (4 ∷ 0 ∷ 0 ∷ 2 ∷ replicate 4 0) 0xFF020202
     ∷ one 1 (4 ∷ 0 ∷ 0 ∷ 2 ∷ replicate 4 0) 0xFF000000

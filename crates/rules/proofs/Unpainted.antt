@@ -8,11 +8,10 @@ use Prim.Native.Nat.{ℕ}
 use lib.Dec.{T}
 use lib.ListN.{replicate}
 use Rattle.rules.specs.Places.{sized}
-use Rattle.rules.specs.Answers.{said, first_of}
+use Rattle.rules.specs.Answers.{Answer, said, first_of}
 use Rattle.rules.specs.Colour.{out_of_range_lem}
 use Rattle.rules.specs.Formats.{size_of}
 use Rattle.rules.specs.Readers.{strict_check, opaque_check, ChecksStrict, ChecksOpaque}
-use Rattle.rules.specs.declared.Answer.{Answer}
 use Rattle.rules.specs.declared.Picture.{Picture}
 use Rattle.rules.proofs.Rows.{same, bytes as eights}
 

@@ -1,71 +1,91 @@
 -- The answers, what each says on paper, and the order of the checks.
 -- Assumes nothing.
-use Rattle.std.specs.Prelude.{Bool, cond, ◌||◌, List, [], ◌∷◌, ◌≡◌, ℕ, zero, suc, ◌*◌, ltb, eqb, get_or}
+use Rattle.std.specs.Prelude.{Bool, cond, ◌||◌, List, [], ◌∷◌, ◌≡◌, ℕ, zero, suc, ◌*◌, ltb, eqb, get_or, Result, Ok, Err, ⊤}
 use Rattle.rules.specs.Places.{needed, blocks}
 use Rattle.rules.specs.declared.Picture.{Picture}
-use Rattle.rules.specs.declared.Answer.{Answer}
-use Rattle.rules.specs.declared.Answer.TheVariants.{Done, TooLarge, ShortData, ShortImage, OutOfRange, NoChannel, LongData}
-use Rattle.rules.specs.declared.Answer.TheVariants.{CutShort, NoHead, OtherKind, WrongBlocks, NotOpaque, ShortPitch}
-use Rattle.rules.specs.declared.Answer.TheVariants.{HeaderCut, UnknownContainer, UnknownVersion, UnknownFormat, SizesDisagree}
-use Rattle.rules.specs.declared.Answer.TheVariants.{NotFlat, NoPixel, LevelsMissing, NoLevel, Supercompressed}
+use Rattle.rules.specs.declared.Refusal.{Refusal}
+use Rattle.rules.specs.declared.Refusal.TheVariants.{TooLarge, ShortData, ShortImage, OutOfRange, NoChannel, LongData}
+use Rattle.rules.specs.declared.Refusal.TheVariants.{CutShort, NoHead, OtherKind, WrongBlocks, NotOpaque, ShortPitch}
+use Rattle.rules.specs.declared.Refusal.TheVariants.{HeaderCut, UnknownContainer, UnknownVersion, UnknownFormat, SizesDisagree}
+use Rattle.rules.specs.declared.Refusal.TheVariants.{NotFlat, NoPixel, LevelsMissing, NoLevel, Supercompressed}
 
 -- the table of refusals: the number of each, and what it "also returns"
+abbrev pub refusal_said : Refusal → List ℕ
+refusal_said TooLarge = 1 ∷ []
+refusal_said ShortData = 2 ∷ []
+refusal_said ShortImage = 3 ∷ []
+refusal_said (OutOfRange n) = 4 ∷ n ∷ []
+refusal_said NoChannel = 5 ∷ []
+refusal_said LongData = 6 ∷ []
+refusal_said CutShort = 7 ∷ []
+refusal_said NoHead = 8 ∷ []
+refusal_said OtherKind = 9 ∷ []
+refusal_said WrongBlocks = 10 ∷ []
+refusal_said (NotOpaque n) = 11 ∷ n ∷ []
+refusal_said ShortPitch = 12 ∷ []
+refusal_said HeaderCut = 20 ∷ []
+refusal_said UnknownContainer = 21 ∷ []
+refusal_said UnknownVersion = 22 ∷ []
+refusal_said UnknownFormat = 23 ∷ []
+refusal_said SizesDisagree = 24 ∷ []
+refusal_said NotFlat = 25 ∷ []
+refusal_said NoPixel = 26 ∷ []
+refusal_said LevelsMissing = 37 ∷ []
+refusal_said NoLevel = 38 ∷ []
+refusal_said Supercompressed = 41 ∷ []
+
+-- an answer on paper: 0 with the values of what is handed out, or a refusal
+abbrev pub said_with : {A : Type 0} → (A → List ℕ) → Result A Refusal → List ℕ
+said_with values (Ok a) = 0 ∷ values a
+said_with values (Err r) = refusal_said r
+
+-- the answer of what hands out nothing: "done", or a refusal
+abbrev pub Answer : Type 0
+Answer = Result ⊤ Refusal
+
 abbrev pub said : Answer → List ℕ
-said Done = 0 ∷ []
-said TooLarge = 1 ∷ []
-said ShortData = 2 ∷ []
-said ShortImage = 3 ∷ []
-said (OutOfRange n) = 4 ∷ n ∷ []
-said NoChannel = 5 ∷ []
-said LongData = 6 ∷ []
-said CutShort = 7 ∷ []
-said NoHead = 8 ∷ []
-said OtherKind = 9 ∷ []
-said WrongBlocks = 10 ∷ []
-said (NotOpaque n) = 11 ∷ n ∷ []
-said ShortPitch = 12 ∷ []
-said HeaderCut = 20 ∷ []
-said UnknownContainer = 21 ∷ []
-said UnknownVersion = 22 ∷ []
-said UnknownFormat = 23 ∷ []
-said SizesDisagree = 24 ∷ []
-said NotFlat = 25 ∷ []
-said NoPixel = 26 ∷ []
-said LevelsMissing = 37 ∷ []
-said NoLevel = 38 ∷ []
-said Supercompressed = 41 ∷ []
+said = said_with (λ u. [])
+
+-- the answer alone, without what is handed out; and what is handed out, where the answer is "done"
+abbrev pub answered : {A : Type 0} → Result A Refusal → Answer
+answered (Ok a) = Ok tt
+answered (Err r) = Err r
+
+abbrev pub given : {A : Type 0} → Answer → A → Result A Refusal
+given (Ok u) a = Ok a
+given (Err r) a = Err r
 
 -- every answer, with the value that some of them return
 abbrev pub answers : List (ℕ → Answer)
 answers =
-    (λ n. Done)
-    ∷ (λ n. TooLarge)
-    ∷ (λ n. ShortData)
-    ∷ (λ n. ShortImage)
-    ∷ (λ n. OutOfRange n)
-    ∷ (λ n. NoChannel)
-    ∷ (λ n. LongData)
-    ∷ (λ n. CutShort)
-    ∷ (λ n. NoHead)
-    ∷ (λ n. OtherKind)
-    ∷ (λ n. WrongBlocks)
-    ∷ (λ n. NotOpaque n)
-    ∷ (λ n. ShortPitch)
-    ∷ (λ n. HeaderCut)
-    ∷ (λ n. UnknownContainer)
-    ∷ (λ n. UnknownVersion)
-    ∷ (λ n. UnknownFormat)
-    ∷ (λ n. SizesDisagree)
-    ∷ (λ n. NotFlat)
-    ∷ (λ n. NoPixel)
-    ∷ (λ n. LevelsMissing)
-    ∷ (λ n. NoLevel)
-    ∷ (λ n. Supercompressed)
+    (λ n. Ok tt)
+    ∷ (λ n. Err TooLarge)
+    ∷ (λ n. Err ShortData)
+    ∷ (λ n. Err ShortImage)
+    ∷ (λ n. Err (OutOfRange n))
+    ∷ (λ n. Err NoChannel)
+    ∷ (λ n. Err LongData)
+    ∷ (λ n. Err CutShort)
+    ∷ (λ n. Err NoHead)
+    ∷ (λ n. Err OtherKind)
+    ∷ (λ n. Err WrongBlocks)
+    ∷ (λ n. Err (NotOpaque n))
+    ∷ (λ n. Err ShortPitch)
+    ∷ (λ n. Err HeaderCut)
+    ∷ (λ n. Err UnknownContainer)
+    ∷ (λ n. Err UnknownVersion)
+    ∷ (λ n. Err UnknownFormat)
+    ∷ (λ n. Err SizesDisagree)
+    ∷ (λ n. Err NotFlat)
+    ∷ (λ n. Err NoPixel)
+    ∷ (λ n. Err LevelsMissing)
+    ∷ (λ n. Err NoLevel)
+    ∷ (λ n. Err Supercompressed)
     ∷ []
 
 -- and the answer that says a number and a value: the first of them with that number
 abbrev pub find_answer : List (ℕ → Answer) → ℕ → ℕ → Answer
-find_answer [] n v = Done
+find_answer [] n v = Ok tt
 find_answer (a ∷ rest) n v = cond (eqb (get_or (said (a 0)) 0 0) n) (a v) (find_answer rest n v)
 
 abbrev pub answer_of : List ℕ → Answer

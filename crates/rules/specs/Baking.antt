@@ -1,11 +1,12 @@
 -- M-112, the baker: the bytes of an individual block with given bases, flip, codes and indices, and the codes and indices it chooses.
 -- Assumes nothing.
-use Rattle.std.specs.Prelude.{Bool, cond, ◌||◌, List, [], ◌∷◌, ◌++◌, ◌≡◌, ℕ, zero, suc, ◌+◌, ◌*◌, ◌/◌, ◌%◌, ltb, eqb, length, get_or, drop}
+use Rattle.std.specs.Prelude.{Bool, cond, ◌||◌, List, [], ◌∷◌, ◌++◌, ◌≡◌, ℕ, zero, suc, ◌+◌, ◌*◌, ◌/◌, ◌%◌, ltb, eqb, length}
+use Rattle.std.specs.Prelude.{get_or, drop, Result, ⊤}
 use Rattle.rules.specs.Answers.{Check, refusal, verdict, block_checks, left}
 use Rattle.rules.specs.Colour.{steps_of, half_colours}
 use Rattle.rules.specs.Counting.{least_of_lem, sum_of, from_bits_lem}
 use Rattle.rules.specs.Checking.{differ, baking_said}
-use Rattle.rules.specs.declared.Baking.{Baking}
+use Rattle.rules.specs.declared.BakingRefusal.{BakingRefusal}
 
 -- what half h has, of the first and the second half
 abbrev pub of_half_lem : {A : Type 0} → A → A → ℕ → A
@@ -99,6 +100,6 @@ abbrev pub eight_over : List ℕ → List ℕ → List ℕ
 eight_over bytes old = bytes ++ drop 8 old
 
 -- The promise of the baker: bases, flip, tile and room go in; an answer and the room come out.
-pub record Bakes (first second : List ℕ) (flip : ℕ) (t : List ℕ) (answer : Baking) (old new : List ℕ) : Type 0 where
+pub record Bakes (first second : List ℕ) (flip : ℕ) (t : List ℕ) (answer : Result ⊤ BakingRefusal) (old new : List ℕ) : Type 0 where
   pub says : baking_said answer ≡ bake_verdict first second flip (length old) (length t)
   pub leaves : new ≡ left (bake_verdict first second flip (length old) (length t)) (eight_over (baked_block first second flip t) old) old

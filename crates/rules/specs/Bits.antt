@@ -1,9 +1,7 @@
 -- The bits of a list of bytes, and what a read of some of them answers (M-108 of document 02).
 -- Assumes nothing.
-use Rattle.std.specs.Prelude.{Bool, cond, ◌||◌, List, [], ◌∷◌, ℕ, ◌+◌, ◌*◌, ◌/◌, ◌%◌, ◌^◌, ltb, length}
+use Rattle.std.specs.Prelude.{Option, Some, None, Bool, cond, ◌||◌, List, [], ◌∷◌, ℕ, ◌+◌, ◌*◌, ◌/◌, ◌%◌, ◌^◌, ltb, length}
 use Rattle.numbers.specs.Numbers.{little}
-use Rattle.rules.specs.declared.Bits.{Bits}
-use Rattle.rules.specs.declared.Bits.TheVariants.{Value, Refused}
 
 -- the bytes as one number, the first byte lowest: bit i of the bytes is bit i of this number
 unfoldable pub number : List ℕ → ℕ
@@ -24,10 +22,10 @@ lacks d p n = ltb (length d * 8) (p + n) || ltb 18446744073709551615 (p + n)
 unfoldable pub refuses : List ℕ → ℕ → ℕ → Bool
 refuses d p n = ltb 8 n || lacks d p n
 
--- a read's answer as document 01 has answers, a number and its values: "is refused with 2"
-abbrev pub bits_said : Bits → List ℕ
-bits_said (Value v) = 0 ∷ v ∷ []
-bits_said Refused = 2 ∷ []
+-- a read's answer, the bits or none, as document 01 has answers, a number and its values: "is refused with 2"
+abbrev pub bits_said : Option ℕ → List ℕ
+bits_said (Some v) = 0 ∷ v ∷ []
+bits_said None = 2 ∷ []
 
 -- what a read answers, and where the place is after it: "the place kept"
 abbrev pub read_verdict : List ℕ → ℕ → ℕ → List ℕ

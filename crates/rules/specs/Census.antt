@@ -1,18 +1,15 @@
 -- M-100, the census: one test for each kind of block, and how many blocks of a picture meet it.
 -- Assumes nothing.
-use Rattle.std.specs.Prelude.{Bool, cond, not, ◌&&◌, List, [], ◌∷◌, ◌++◌, ◌≡◌, ℕ, zero, suc, ◌+◌, length}
+use Rattle.std.specs.Prelude.{Bool, cond, not, ◌&&◌, List, [], ◌∷◌, ◌++◌, ◌≡◌, ℕ, zero, suc, ◌+◌, length, Result}
 use Rattle.rules.specs.Notation.{byte}
 use Rattle.rules.specs.Places.{blocks, bytes_of}
-use Rattle.rules.specs.Answers.{Check, judged, data_checks}
+use Rattle.rules.specs.Answers.{Check, judged, data_checks, said_with}
 use Rattle.rules.specs.Colour.{differs, sum, beyond}
 use Rattle.rules.specs.declared.Picture.{Picture}
 use Rattle.rules.specs.declared.RgbCounts.{RgbCounts}
 use Rattle.rules.specs.declared.KindCounts.{KindCounts}
 use Rattle.rules.specs.declared.Rgba1Counts.{Rgba1Counts}
-use Rattle.rules.specs.declared.RgbCensus.{RgbCensus}
-use Rattle.rules.specs.declared.RgbCensus.TheVariants as rgb
-use Rattle.rules.specs.declared.Rgba1Census.{Rgba1Census}
-use Rattle.rules.specs.declared.Rgba1Census.TheVariants as rgba1
+use Rattle.rules.specs.declared.Refusal.{Refusal}
 
 -- "how many": of the places 0 .. n - 1, those at which a test holds; the twin of `first_of`
 abbrev pub more : Bool → ℕ → ℕ
@@ -121,10 +118,8 @@ census tests d p = judged (census_checks p (length d)) (0 ∷ counts (bytes_of 8
 abbrev pub rgb_values : RgbCounts → List ℕ
 rgb_values c = c.individual ∷ c.differential ∷ c.t ∷ c.h ∷ c.planar ∷ []
 
-abbrev pub rgb_said : RgbCensus → List ℕ
-rgb_said (rgb.Counted c) = 0 ∷ rgb_values c
-rgb_said rgb.TooLarge = 1 ∷ []
-rgb_said rgb.ShortData = 2 ∷ []
+abbrev pub rgb_said : Result RgbCounts Refusal → List ℕ
+rgb_said = said_with rgb_values
 
 abbrev pub kind_values : KindCounts → List ℕ
 kind_values c = c.differential ∷ c.t ∷ c.h ∷ c.planar ∷ []
@@ -132,14 +127,12 @@ kind_values c = c.differential ∷ c.t ∷ c.h ∷ c.planar ∷ []
 abbrev pub rgba1_values : Rgba1Counts → List ℕ
 rgba1_values c = kind_values c.opaque ++ kind_values c.clear
 
-abbrev pub rgba1_said : Rgba1Census → List ℕ
-rgba1_said (rgba1.Counted c) = 0 ∷ rgba1_values c
-rgba1_said rgba1.TooLarge = 1 ∷ []
-rgba1_said rgba1.ShortData = 2 ∷ []
+abbrev pub rgba1_said : Result Rgba1Counts Refusal → List ℕ
+rgba1_said = said_with rgba1_values
 
 -- The promises of the two censuses, of bytes d and a picture's description.
-abbrev pub CountsRgb : List ℕ → Picture → RgbCensus → Type 0
+abbrev pub CountsRgb : List ℕ → Picture → Result RgbCounts Refusal → Type 0
 CountsRgb d p answer = rgb_said answer ≡ census rgb_tests d p
 
-abbrev pub CountsRgba1 : List ℕ → Picture → Rgba1Census → Type 0
+abbrev pub CountsRgba1 : List ℕ → Picture → Result Rgba1Counts Refusal → Type 0
 CountsRgba1 d p answer = rgba1_said answer ≡ census rgba1_tests d p

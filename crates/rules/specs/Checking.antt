@@ -1,13 +1,14 @@
 -- M-112, the checker: how far the pixels of an ETC1 block are from those of a tile, and when that is near enough.
 -- Assumes nothing.
-use Rattle.std.specs.Prelude.{Bool, cond, not, ◌&&◌, List, [], ◌∷◌, ◌≡◌, ℕ, ◌+◌, ◌-◌, ◌/◌, ◌%◌, max, leb, length, get_or}
+use Rattle.std.specs.Prelude.{Bool, cond, not, ◌&&◌, List, [], ◌∷◌, ◌≡◌, ℕ, ◌+◌, ◌-◌, ◌/◌, ◌%◌, max, leb, length, get_or, Result}
+use Rattle.std.specs.Prelude.{Ok, Err, ⊤}
 use Rattle.rules.specs.Pixel.{red_of, green_of, blue_of}
 use Rattle.rules.specs.Answers.{judged, block_checks}
 use Rattle.rules.specs.Colour.{out_of_range_lem}
 use Rattle.rules.specs.Modes.{etc1_pixel}
 use Rattle.rules.specs.Counting.{sum_of, most_of, each}
-use Rattle.rules.specs.declared.Baking.{Baking}
-use Rattle.rules.specs.declared.Baking.TheVariants.{Done, ShortBlock, ShortTile, NoBase, NotAccepted}
+use Rattle.rules.specs.declared.BakingRefusal.{BakingRefusal}
+use Rattle.rules.specs.declared.BakingRefusal.TheVariants.{ShortBlock, ShortTile, NoBase, NotAccepted}
 
 -- how far two numbers differ
 abbrev pub apart : ℕ → ℕ → ℕ
@@ -52,13 +53,13 @@ check_verdict tolerance d t =
     judged (block_checks 8 (length d) (length t)) (cond (accepted tolerance d t) (0 ∷ []) (18 ∷ []))
 
 -- the number of each answer of the checker and of the baker
-abbrev pub baking_said : Baking → List ℕ
-baking_said Done = 0 ∷ []
-baking_said ShortBlock = 2 ∷ []
-baking_said ShortTile = 3 ∷ []
-baking_said NoBase = 16 ∷ []
-baking_said NotAccepted = 18 ∷ []
+abbrev pub baking_said : Result ⊤ BakingRefusal → List ℕ
+baking_said (Ok u) = 0 ∷ []
+baking_said (Err ShortBlock) = 2 ∷ []
+baking_said (Err ShortTile) = 3 ∷ []
+baking_said (Err NoBase) = 16 ∷ []
+baking_said (Err NotAccepted) = 18 ∷ []
 
 -- The promise of the checker, of a tolerance, the bytes of a block and the elements of a tile.
-abbrev pub Checks : ℕ → List ℕ → List ℕ → Baking → Type 0
+abbrev pub Checks : ℕ → List ℕ → List ℕ → Result ⊤ BakingRefusal → Type 0
 Checks tolerance d t answer = baking_said answer ≡ check_verdict tolerance d t

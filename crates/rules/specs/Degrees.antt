@@ -1,15 +1,15 @@
 -- From colour to degrees (M-111 of document 02): what a legend predicts, when it is refused, and what the reader owes, for all inputs.
 -- Its own sentences stand in quotes above the definitions that they become.
 -- Assumes nothing.
-use Rattle.std.specs.Prelude.{◌≡◌, Bool, true, cond, not, ◌&&◌, List, [], ◌∷◌, ℕ, ◌-◌, T, leb, eqb, Float}
+use Rattle.std.specs.Prelude.{◌≡◌, Bool, true, cond, not, ◌&&◌, List, [], ◌∷◌, ℕ, ◌-◌, T, leb, eqb, Float, Result, Ok, Err}
 use Rattle.rules.specs.Pixel.{alpha_of, red_of}
 use Rattle.rules.specs.Answers.{Check, refusal, judged}
 use Rattle.rules.specs.Floats.{plus, less, times, whole, float_bits, is_number, within}
 use Rattle.rules.specs.declared.Legend.{Legend}
 use Rattle.rules.specs.declared.Legend.TheVariants.{Level, Line, Bend}
 use Rattle.rules.specs.declared.Reading.{Reading}
-use Rattle.rules.specs.declared.Reply.{Reply}
-use Rattle.rules.specs.declared.Reply.TheVariants.{Read, NotMeasured, BadLegend, BadDigit, BadMeasurement}
+use Rattle.rules.specs.declared.NoReading.TheVariants.{NotMeasured, BadLegend, BadDigit, BadMeasurement}
+use Rattle.rules.specs.declared.NoReading.{NoReading}
 
 -- "line (low + step * red)"
 abbrev pub line_at : Float → Float → ℕ → Float
@@ -51,12 +51,12 @@ reading_of degrees measured =
 
 -- "State the answers by bits": a reading says 0 and the bits of its three values. "not measured" has no number in the document; it
 -- says 17
-abbrev pub degrees_said : Reply → List ℕ
-degrees_said (Read r) = 0 ∷ float_bits r.predicted ∷ float_bits r.measured ∷ float_bits r.difference ∷ []
-degrees_said NotMeasured = 17 ∷ []
-degrees_said BadLegend = 13 ∷ []
-degrees_said BadDigit = 14 ∷ []
-degrees_said BadMeasurement = 15 ∷ []
+abbrev pub degrees_said : Result Reading NoReading → List ℕ
+degrees_said (Ok r) = 0 ∷ float_bits r.predicted ∷ float_bits r.measured ∷ float_bits r.difference ∷ []
+degrees_said (Err NotMeasured) = 17 ∷ []
+degrees_said (Err BadLegend) = 13 ∷ []
+degrees_said (Err BadDigit) = 14 ∷ []
+degrees_said (Err BadMeasurement) = 15 ∷ []
 
 -- "a measurement outside -720 to 720, or not a number, with 15. The order is 13, 14, 15;
 abbrev pub degrees_checks : Legend → ℕ → ℕ → Float → List Check
@@ -67,18 +67,18 @@ degrees_checks legend named shown measured =
 abbrev pub degrees_verdict : Legend → ℕ → ℕ → ℕ → Float → List ℕ
 degrees_verdict legend named shown pixel measured =
     judged (degrees_checks legend named shown measured)
-    (cond (eqb (alpha_of pixel) 0) (degrees_said NotMeasured)
-    (degrees_said (Read (reading_of (predicted_at legend (red_of pixel)) measured))))
+    (cond (eqb (alpha_of pixel) 0) (degrees_said (Err NotMeasured))
+    (degrees_said (Ok (reading_of (predicted_at legend (red_of pixel)) measured))))
 
 -- every value of an answer is a number of 32 bits: no NaN, so that its bits say which it is
-abbrev pub in_numbers : Reply → Bool
-in_numbers (Read r) = is_number r.predicted && (is_number r.measured && is_number r.difference)
-in_numbers NotMeasured = true
-in_numbers BadLegend = true
-in_numbers BadDigit = true
-in_numbers BadMeasurement = true
+abbrev pub in_numbers : Result Reading NoReading → Bool
+in_numbers (Ok r) = is_number r.predicted && (is_number r.measured && is_number r.difference)
+in_numbers (Err NotMeasured) = true
+in_numbers (Err BadLegend) = true
+in_numbers (Err BadDigit) = true
+in_numbers (Err BadMeasurement) = true
 
 -- What the reader of degrees owes its caller: it says the verdict, and its values are numbers.
-pub record ReadsDegrees (legend : Legend) (named shown pixel : ℕ) (measured : Float) (reply : Reply) : Type 0 where
+pub record ReadsDegrees (legend : Legend) (named shown pixel : ℕ) (measured : Float) (reply : Result Reading NoReading) : Type 0 where
   pub says : degrees_said reply ≡ degrees_verdict legend named shown pixel measured
   pub holds : T (in_numbers reply)

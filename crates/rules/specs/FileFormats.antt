@@ -1,12 +1,14 @@
 -- What the containers share: the formats by number, tables of formats, and numbers in a file's own byte order.
 -- Assumes nothing.
-use Rattle.std.specs.Prelude.{Bool, true, false, cond, not, ◌&&◌, List, [], ◌∷◌, ℕ, ◌+◌, eqb, ltb, length, get_or}
+use Rattle.std.specs.Prelude.{Bool, true, false, cond, not, ◌&&◌, List, [], ◌∷◌, ℕ, ◌+◌, eqb, ltb, length, get_or, Option, Some, None}
 use Rattle.numbers.specs.Numbers.{little, big}
+use Rattle.rules.specs.declared.Container.{Container}
+use Rattle.rules.specs.declared.Container.TheVariants.{Pkm, Ktx1, Ktx2, Dds, Sheet}
+use Rattle.rules.specs.declared.Orientation.{Orientation}
+use Rattle.rules.specs.declared.Orientation.TheVariants.{Untold, TopDown, BottomUp}
 use Rattle.rules.specs.declared.Format.{Format}
 use Rattle.rules.specs.declared.Format.TheVariants.{Etc1, Etc2Rgb, Etc2Rgba1, Etc2Rgba8, EacR, EacRSigned, EacRg, EacRgSigned}
 use Rattle.rules.specs.declared.Format.TheVariants.{Bc1, Bc1Alpha, Bc3, Bc7, Bc2, Bc4, Bc4Signed, Bc5, Bc5Signed}
-use Rattle.rules.specs.declared.KnownFormat.{KnownFormat}
-use Rattle.rules.specs.declared.KnownFormat.TheVariants.{As, Not}
 
 -- the formats in the order of their numbers: 0 to 7 are those of a sheet
 abbrev pub format_list : List Format
@@ -53,16 +55,30 @@ format_number Bc4Signed = 14
 format_number Bc5 = 15
 format_number Bc5Signed = 16
 
--- a row of a container's table of formats: the container's number, the format, and 1 where its colours are sRGB
-abbrev pub row : ℕ → Format → ℕ → List ℕ
-row n f srgb = n ∷ format_number f ∷ srgb ∷ []
+-- the number of a container, and of which row comes first; and of what is so or not
+abbrev pub container_number : Container → ℕ
+container_number Pkm = 1
+container_number Ktx1 = 2
+container_number Ktx2 = 3
+container_number Dds = 4
+container_number Sheet = 5
 
--- what a number stands for: the first row that has it
-unfoldable pub known : List ℕ → ℕ → KnownFormat
-known [] x = Not
-known (n ∷ []) x = Not
-known (n ∷ f ∷ []) x = Not
-known (n ∷ f ∷ srgb ∷ rows) x = cond (eqb x n) (As f srgb) (known rows x)
+abbrev pub orientation_number : Orientation → ℕ
+orientation_number Untold = 0
+orientation_number TopDown = 1
+orientation_number BottomUp = 2
+
+abbrev pub flag : Bool → ℕ
+flag b = cond b 1 0
+
+-- a row of a container's table of formats: the container's number, the format, and whether its colours are sRGB
+abbrev pub Row : Type 0
+Row = ℕ × Format × Bool
+
+-- what a number stands for, by the first row that has it: the format, and whether its colours are sRGB
+unfoldable pub known : List Row → ℕ → Option (Format × Bool)
+known [] x = None
+known (r ∷ rows) x = cond (eqb x r.0) (Some (r.1, r.2)) (known rows x)
 
 -- the four bytes at a place, in a file's own order: the greatest first, or the least
 unfoldable pub word32 : Bool → List ℕ → ℕ → ℕ

@@ -1,9 +1,9 @@
 -- What an older viewer shows wrong, in numbers, over a pair of rules: a guard's own, the older one, and the one that is shown.
 -- Assumes nothing.
-use Rattle.std.specs.Prelude.{Bool, cond, not, ◌&&◌, List, [], ◌∷◌, ◌≡◌, ℕ, ◌+◌, ◌*◌, ◌/◌, ◌%◌, ltb, eqb, length}
+use Rattle.std.specs.Prelude.{Bool, cond, not, ◌&&◌, List, [], ◌∷◌, ◌≡◌, ℕ, ◌+◌, ◌*◌, ◌/◌, ◌%◌, ltb, eqb, length, Result}
 use Rattle.rules.specs.Pixel.{alpha_of}
 use Rattle.rules.specs.Places.{across, blocks, bytes_of}
-use Rattle.rules.specs.Answers.{judged, first_of}
+use Rattle.rules.specs.Answers.{judged, first_of, said_with}
 use Rattle.rules.specs.Formats.{shows_of}
 use Rattle.rules.specs.Guards.{Guard}
 use Rattle.rules.specs.Census.{count_of, census_checks}
@@ -11,8 +11,7 @@ use Rattle.rules.specs.Counting.{sum_of, most_of}
 use Rattle.rules.specs.Checking.{apart, farthest}
 use Rattle.rules.specs.declared.Picture.{Picture}
 use Rattle.rules.specs.declared.OlderCounts.{OlderCounts}
-use Rattle.rules.specs.declared.Older.{Older}
-use Rattle.rules.specs.declared.Older.TheVariants as older
+use Rattle.rules.specs.declared.Refusal.{Refusal}
 
 -- "by block and place": a block has places 0 to 15, row by row. What the two rules show at place k of block n
 abbrev pub older_at : Guard → List ℕ → ℕ → ℕ → ℕ
@@ -81,11 +80,9 @@ older_verdict g d p = judged (census_checks p (length d)) (0 ∷ older_counts_le
 abbrev pub older_values : OlderCounts → List ℕ
 older_values c = c.pixels ∷ c.blocks ∷ c.block ∷ c.place ∷ c.colour ∷ c.alpha ∷ []
 
-abbrev pub older_said : Older → List ℕ
-older_said (older.Counted c) = 0 ∷ older_values c
-older_said older.TooLarge = 1 ∷ []
-older_said older.ShortData = 2 ∷ []
+abbrev pub older_said : Result OlderCounts Refusal → List ℕ
+older_said = said_with older_values
 
 -- The promises: ETC1 for RGB, and RGB for RGBA1, of bytes d and a picture's description.
-abbrev pub CountsOlder : Guard → List ℕ → Picture → Older → Type 0
+abbrev pub CountsOlder : Guard → List ℕ → Picture → Result OlderCounts Refusal → Type 0
 CountsOlder g d p answer = older_said answer ≡ older_verdict g d p

@@ -4,9 +4,8 @@
 use Rattle.std.specs.Prelude.{◌≡◌, Bool, true, cond, ◌&&◌, List, [], ◌∷◌, ◌++◌, ℕ, ◌+◌, ◌-◌, ◌*◌, ◌/◌, ◌%◌, min, leb, ltb, length, take}
 use Rattle.rules.specs.Notation.{build, byte}
 use Rattle.rules.specs.Places.{needed, inside, blocks, block_at, bytes_from, pixel_by, pixel_at, painted}
-use Rattle.rules.specs.Answers.{said, accepts, Check, verdict, limit_check, pitch_check, data_check, image_check}
+use Rattle.rules.specs.Answers.{Answer, said, accepts, Check, verdict, limit_check, pitch_check, data_check, image_check}
 use Rattle.rules.specs.Formats.{size_of, shows_of}
-use Rattle.rules.specs.declared.Answer.{Answer}
 use Rattle.rules.specs.declared.Format.{Format}
 use Rattle.rules.specs.declared.Picture.{Picture}
 use Rattle.rules.specs.declared.Progress.{Progress}

@@ -3,13 +3,12 @@
 use Rattle.std.specs.Prelude.{Bool, List, ◌≡◌, ℕ, ◌/◌, ◌%◌, ltb, length, get_or}
 use Rattle.rules.specs.Pixel.{Shows}
 use Rattle.rules.specs.Places.{bytes_of, painted, picture_by}
-use Rattle.rules.specs.Answers.{said, Check, verdict, picture_checks, exact_checks, data_checks, exact_data_checks}
+use Rattle.rules.specs.Answers.{Answer, said, Check, verdict, picture_checks, exact_checks, data_checks, exact_data_checks}
 use Rattle.rules.specs.Answers.{block_checks, channel_checks, Outcome}
 use Rattle.rules.specs.Channels.{with_alpha, alpha_byte, eac_byte, or_channel}
 use Rattle.rules.specs.Desktop.{bc3_alpha, replaced}
 use Rattle.rules.specs.Formats.{size_of, shows_of}
 use Rattle.rules.specs.Guards.{Guard, guard_verdict, in_range, opaque_only}
-use Rattle.rules.specs.declared.Answer.{Answer}
 use Rattle.rules.specs.declared.Format.{Format}
 use Rattle.rules.specs.declared.Picture.{Picture}
 

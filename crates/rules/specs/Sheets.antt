@@ -1,21 +1,21 @@
 -- Sheets (M-101 of document 02): what they hold, when they are refused, and what their readers and their writer owe, for all inputs.
 -- Its own sentences stand in quotes above the definitions that they become.
 -- Assumes nothing.
-use Rattle.std.specs.Prelude.{◌≡◌, Bool, cond, not, ◌&&◌, List, [], ◌∷◌, ◌++◌, ℕ, ◌*◌, eqb, ltb, length, get_or, drop}
+use Rattle.std.specs.Prelude.{◌≡◌, Bool, cond, not, ◌&&◌, List, [], ◌∷◌, ◌++◌, ℕ, ◌*◌, eqb, ltb, length, get_or, drop, Result}
+use Rattle.std.specs.Result.{result_unwrap_or}
 use Rattle.numbers.specs.Numbers.{little, in_bytes}
 use Rattle.rules.specs.Notation.{byte}
 use Rattle.rules.specs.Places.{sized, needed, blocks}
-use Rattle.rules.specs.Answers.{said, accepts, Check, refusal, judged, sides_check, image_check, verdict, Outcome}
+use Rattle.rules.specs.Answers.{Answer, answered, accepts, Check, refusal, judged, sides_check, image_check, verdict, Outcome, said_with}
 use Rattle.rules.specs.Formats.{size_of}
+use Rattle.rules.specs.FileFormats.{format_number}
 use Rattle.rules.specs.Readers.{picture_of}
-use Rattle.rules.specs.declared.Answer.{Answer}
 use Rattle.rules.specs.declared.Format.{Format}
 use Rattle.rules.specs.declared.Format.TheVariants.{Etc1, Etc2Rgb, Etc2Rgba1, Etc2Rgba8, EacR, EacRSigned, EacRg, EacRgSigned}
 use Rattle.rules.specs.declared.Picture.{Picture}
-use Rattle.rules.specs.declared.Sheet.{Sheet}
-use Rattle.rules.specs.declared.Sheet.TheVariants.{Holds, Refused}
-use Rattle.rules.specs.declared.Written.{Written}
 use Rattle.rules.specs.Records.{Record, encoded, Records, more, ended, short, records_of, first, later, kept}
+use Rattle.rules.specs.declared.Refusal.{Refusal}
+use Rattle.rules.specs.declared.Head.{Head}
 
 -- "Size limit 1", and M-104: "A sheet .. keeps the limit of 16,384 for its length field's sake"
 abbrev pub sheet_limit : ℕ
@@ -79,16 +79,15 @@ abbrev pub blocks_in : List ℕ → List ℕ
 blocks_in d = (first (kept (later (records_of d)))).payload
 
 -- what a sheet that is asked for its head says on paper: 0 with format, width and height, or a refusal
-abbrev pub told : Sheet → List ℕ
-told (Holds h) = 0 ∷ h.format ∷ h.width ∷ h.height ∷ []
-told (Refused a) = said a
+abbrev pub told : Result Head Refusal → List ℕ
+told = said_with (λ h. format_number h.format ∷ h.width ∷ h.height ∷ [])
 
 -- The head's reader: the whole walk, without an image.
 unfoldable pub head_verdict : List ℕ → List ℕ
 head_verdict d =
     walk_verdict (0 ∷ format_in (head_in d) ∷ (size_in (head_in d)).width ∷ (size_in (head_in d)).height ∷ []) (records_of d)
 
-abbrev pub TellsHead : List ℕ → Sheet → Type 0
+abbrev pub TellsHead : List ℕ → Result Head Refusal → Type 0
 TellsHead d sheet = told sheet ≡ head_verdict d
 
 -- "image length 3 last"
@@ -129,7 +128,7 @@ write_verdict f p b room = verdict (write_checks f p b room)
 abbrev pub sheet_over : ℕ → Picture → List ℕ → List ℕ → List ℕ
 sheet_over f p b out = sheet_of f p b ++ drop (length (sheet_of f p b)) out
 
--- The writer of a sheet, in a lent buffer; it also gives the number of bytes that the sheet has.
-pub record WritesSheet (f : ℕ) (p : Picture) (b out : List ℕ) (written : Written) (new : List ℕ) : Type 0 where
-  pub outcome : Outcome (write_verdict f p b (length out)) (sheet_over f p b out) written.answer out new
-  pub bytes : written.bytes ≡ cond (accepts (write_verdict f p b (length out))) (length (sheet_of f p b)) 0
+-- The writer of a sheet, in a lent buffer; where it writes one, it also gives the number of bytes that the sheet has.
+pub record WritesSheet (f : ℕ) (p : Picture) (b out : List ℕ) (written : Result ℕ Refusal) (new : List ℕ) : Type 0 where
+  pub outcome : Outcome (write_verdict f p b (length out)) (sheet_over f p b out) (answered written) out new
+  pub bytes : result_unwrap_or written 0 ≡ cond (accepts (write_verdict f p b (length out))) (length (sheet_of f p b)) 0

@@ -6,9 +6,8 @@ use Rattle.std.specs.Int.Signed.{lt_z}
 use Rattle.rules.specs.Notation.{byte, bits, minus, modulo}
 use Rattle.rules.specs.Pixel.{Shows}
 use Rattle.rules.specs.Places.{inside, needed, blocks, pixel_at, painted}
-use Rattle.rules.specs.Answers.{Check, limit_check, pitch_check, data_check, image_check, verdict, Outcome}
+use Rattle.rules.specs.Answers.{Answer, Check, limit_check, pitch_check, data_check, image_check, verdict, Outcome}
 use Rattle.rules.specs.Channels.{signed_base, multiplier, alpha_step}
-use Rattle.rules.specs.declared.Answer.{Answer}
 use Rattle.rules.specs.declared.Picture.{Picture}
 
 -- "0 to 2047 unsigned, -1023 to 1023 signed"

@@ -1,9 +1,16 @@
-// The vocabulary: the words that the rules, the readers and their callers share. It has no functions.
+// The vocabulary: the words that the rules, the readers and their callers share. Its only functions describe a picture without a gap, tell
+// the numbers of its kinds, and read the format of a number.
 #![tactic(auto)]
+
+ghost use Rattle.std.specs.Prelude.{◌≡◌, ◌≤◌};
+ghost use Rattle.std.specs.Result.{MatchResult};
+ghost use Rattle.rules.specs.Places.{sized as sized_of};
+ghost use Rattle.rules.specs.declared.Refusal.TheVariants.{UnknownFormat};
+ghost use Rattle.rules.specs.FileFormats.{format_number, container_number, orientation_number};
 
 // The formats: the eight of document 01, in its order of readers, those of M-106 and M-108, and the rest of the desktop's eight-bit ones.
 // BC6H, whose pixels are half floats, is not among them.
-#[derive(Clone, Copy)]
+#[derive(Clone, Copy, Debug, PartialEq, Eq)]
 pub enum Format {
     Etc1,
     Etc2Rgb,
@@ -34,10 +41,10 @@ pub enum Kind {
     Planar,
 }
 
-// What a reader answers. Document 01's number and values of each case are `said`, in specs/Answers.antt.
-#[derive(Clone, Copy)]
-pub enum Answer {
-    Done,
+// Why a reader refuses; it answers `Result<(), Refusal>`. Document 01's number and values of each case are `refusal_said`, in
+// specs/Answers.antt.
+#[derive(Clone, Copy, Debug, PartialEq, Eq)]
+pub enum Refusal {
     TooLarge,
     ShortData,
     ShortImage,
@@ -88,6 +95,19 @@ pub struct Picture {
     pub pitch: usize,
 }
 
+impl Picture {
+    // A picture whose rows have no gap between them: the pitch is the width.
+    pub fn sized(width: usize, height: usize) -> Picture
+        ensures { result ≡ sized_of width height }
+    {
+        Picture {
+            width,
+            height,
+            pitch: width,
+        }
+    }
+}
+
 // How many blocks of a picture are of each kind, under ETC2 RGB.
 #[derive(Clone, Copy)]
 pub struct RgbCounts {
@@ -114,21 +134,6 @@ pub struct Rgba1Counts {
     pub clear: KindCounts,
 }
 
-// What the two censuses answer. Document 02's number and values of each case are `rgb_said` and `rgba1_said`, in specs/Census.antt.
-#[derive(Clone, Copy)]
-pub enum RgbCensus {
-    Counted(RgbCounts),
-    TooLarge,
-    ShortData,
-}
-
-#[derive(Clone, Copy)]
-pub enum Rgba1Census {
-    Counted(Rgba1Counts),
-    TooLarge,
-    ShortData,
-}
-
 // How many pixels of a picture two rules show differently, and how many blocks have one; the first such block and its first such place,
 // or the number of blocks and 16 where there is none; and the largest difference of a red, a green or a blue, and of an alpha.
 #[derive(Clone, Copy)]
@@ -141,46 +146,17 @@ pub struct OlderCounts {
     pub alpha: u32,
 }
 
-// What is answered. The number and values of each case are `older_said`, in specs/Older.antt.
-#[derive(Clone, Copy)]
-pub enum Older {
-    Counted(OlderCounts),
-    TooLarge,
-    ShortData,
-}
-
-// What the head of a sheet says: the number of a format, and the size.
+// What the head of a sheet says: the format and the size.
 #[derive(Clone, Copy)]
 pub struct Head {
-    pub format: usize,
+    pub format: Format,
     pub width: usize,
     pub height: usize,
 }
 
-// What a sheet tells without an image: its head, or why it is refused.
-#[derive(Clone, Copy)]
-pub enum Sheet {
-    Holds(Head),
-    Refused(Answer),
-}
-
-// What the writer of a sheet answers, with the number of bytes that the sheet has; none where it refuses.
-#[derive(Clone, Copy)]
-pub struct Written {
-    pub answer: Answer,
-    pub bytes: usize,
-}
-
-// What a read of some bits answers. Document 01's number and value of each case are `bits_said`, in specs/Bits.antt.
-#[derive(Clone, Copy)]
-pub enum Bits {
-    Value(u8),
-    // over 8 bits, or past the lent bytes
-    Refused,
-}
-
 // A mode of BC7: how many subsets it has, and how many bits each kind of field. The p-bits are one of each endpoint's own, or one that
-// both endpoints of a subset share; an index is the first, or the second where there are two.
+// both endpoints of a subset share; an index is the first, or the second where there are two. `row_of` (specs/Bc7.antt) makes a row of
+// any list of numbers, so a field that a mode lacks has 0 bits here, and the bounds of a row stand in a type of crates/bc7.
 #[derive(Clone, Copy)]
 pub struct Mode {
     pub subsets: usize,
@@ -206,17 +182,18 @@ pub struct Progress {
     pub kept: [u8; 15],
 }
 
-// What starting answers; a refusal has the state too, in which nothing is taken.
+// What starting answers; a refusal has the state too, in which nothing is taken. `Starts` promises it then, so this is no `Result`.
 #[derive(Clone, Copy)]
 pub struct Started {
-    pub answer: Answer,
+    pub answer: Result<(), Refusal>,
     pub progress: Progress,
 }
 
-// What a piece answers: the state after it, how many blocks it painted, and how many of its bytes it did not use.
+// What a piece answers: the state after it, how many blocks it painted, and how many of its bytes it did not use. `Takes` promises
+// them on a refusal too, so this is no `Result`.
 #[derive(Clone, Copy)]
 pub struct Taken {
-    pub answer: Answer,
+    pub answer: Result<(), Refusal>,
     pub progress: Progress,
     pub painted: usize,
     pub unused: usize,
@@ -238,10 +215,11 @@ pub struct Reading {
     pub difference: f32,
 }
 
-// What the reader of degrees answers. Document 02's number and values of each case are `degrees_said`, in specs/Degrees.antt.
-#[derive(Clone, Copy)]
-pub enum Reply {
-    Read(Reading),
+// Why there is no reading; the reader of degrees answers `Result<Reading, NoReading>`. Document 02's number and values of each case are
+// `degrees_said`, in specs/Degrees.antt.
+#[derive(Clone, Copy, Debug, PartialEq, Eq)]
+pub enum NoReading {
+    // the pixel has alpha 0
     NotMeasured,
     // the legend is refused
     BadLegend,
@@ -251,40 +229,50 @@ pub enum Reply {
     BadMeasurement,
 }
 
-// What the checker and the baker of ETC1 blocks answer. The number of each case is `baking_said`, in specs/Checking.antt.
-#[derive(Clone, Copy)]
-pub enum Baking {
-    Done,
+// Why the checker or the baker of ETC1 blocks is not done. The number of each case is `baking_said`, in specs/Checking.antt.
+#[derive(Clone, Copy, Debug, PartialEq, Eq)]
+pub enum BakingRefusal {
     // fewer than 8 bytes of a block, or of room for one
     ShortBlock,
     // fewer than 16 elements
     ShortTile,
     // of the baker: a base channel above 15, or a flip above 1
     NoBase,
-    // of the checker, and no refusal: out of range, or not near enough
+    // of the checker: out of range, or not near enough
     NotAccepted,
 }
 
-// What a file tells: the numbers of its container and its format (specs/Files.antt), whether its colours are sRGB, the size of level 0,
-// the number of levels, whether its numbers have the greatest byte first, which row comes first, and how many bytes follow the levels.
+// The containers of files.
+#[derive(Clone, Copy, Debug, PartialEq, Eq)]
+pub enum Container {
+    Pkm,
+    Ktx1,
+    Ktx2,
+    Dds,
+    Sheet,
+}
+
+// Which row of a picture comes first, where its file tells it.
+#[derive(Clone, Copy, Debug, PartialEq, Eq)]
+pub enum Orientation {
+    Untold,
+    TopDown,
+    BottomUp,
+}
+
+// What a file tells: its container and its format, whether its colours are sRGB, the size of level 0, the number of levels, whether its
+// numbers have the greatest byte first, which row comes first, and how many bytes follow the levels.
 #[derive(Clone, Copy)]
 pub struct FileFacts {
-    pub container: usize,
-    pub format: usize,
-    pub srgb: usize,
+    pub container: Container,
+    pub format: Format,
+    pub srgb: bool,
     pub width: usize,
     pub height: usize,
     pub levels: usize,
-    pub big_endian: usize,
-    pub orientation: usize,
+    pub big_endian: bool,
+    pub orientation: Orientation,
     pub left_over: usize,
-}
-
-// What opening a file answers.
-#[derive(Clone, Copy)]
-pub enum Opened {
-    File(FileFacts),
-    Refused(Answer),
 }
 
 // A level of a file: its size, and the bytes of its blocks.
@@ -296,40 +284,20 @@ pub struct FileLevel {
     pub length: usize,
 }
 
-// What asking for a level answers.
-#[derive(Clone, Copy)]
-pub enum FoundLevel {
-    Level(FileLevel),
-    Refused(Answer),
-}
-
-// What a row of a table of formats says of a number: the format's number, and whether it is sRGB.
-#[derive(Clone, Copy)]
-pub enum KnownFormat {
-    As(usize, usize),
-    Not,
-}
-
 // What a file's header tells. The levels start at byte `start`, or the header has an index of them; `agrees` is whether a size that
 // the header tells twice is the same both times.
 #[derive(Clone, Copy)]
 pub struct Layout {
-    pub container: usize,
-    pub format: usize,
-    pub srgb: usize,
+    pub container: Container,
+    pub format: Format,
+    pub srgb: bool,
     pub width: usize,
     pub height: usize,
     pub levels: usize,
-    pub big_endian: usize,
-    pub orientation: usize,
+    pub big_endian: bool,
+    pub orientation: Orientation,
     pub start: usize,
     pub agrees: bool,
-}
-
-#[derive(Clone, Copy)]
-pub enum FileHeader {
-    Holds(Layout),
-    Refused(Answer),
 }
 
 // A level on the way through the levels of a file: its size, and the byte at which it begins where levels follow one another.
@@ -340,16 +308,85 @@ pub struct Spot {
     pub at: usize,
 }
 
-// Whether the blocks of a level lie in the file as it tells: with the byte at which they start.
-#[derive(Clone, Copy)]
-pub enum Fit {
-    Fits(usize),
-    Refused(Answer),
+// The numbers of formats, containers and orientations, as callers from C and files of numbers have them.
+impl From<Format> for usize {
+    ghost from_gives = { λ f n. n ≡ format_number f };
+
+    fn from(format: Format) -> usize {
+        match format {
+            Format::Etc1 => 0,
+            Format::Etc2Rgb => 1,
+            Format::Etc2Rgba1 => 2,
+            Format::Etc2Rgba8 => 3,
+            Format::EacR => 4,
+            Format::EacRSigned => 5,
+            Format::EacRg => 6,
+            Format::EacRgSigned => 7,
+            Format::Bc1 => 8,
+            Format::Bc1Alpha => 9,
+            Format::Bc3 => 10,
+            Format::Bc7 => 11,
+            Format::Bc2 => 12,
+            Format::Bc4 => 13,
+            Format::Bc4Signed => 14,
+            Format::Bc5 => 15,
+            Format::Bc5Signed => 16,
+        }
+    }
 }
 
-// Whether all levels do: with how many bytes are left over behind them, and the level that was asked for.
-#[derive(Clone, Copy)]
-pub enum HeldLevels {
-    Levels(usize, FileLevel),
-    Refused(Answer),
+// The format of a number, where there is one.
+impl TryFrom<usize> for Format {
+    type Error = Refusal;
+
+    ghost try_from_gives = { λ n r. MatchResult r (λ f. format_number f ≡ n) (λ e. (e ≡ UnknownFormat) × (17 ≤ n)) };
+
+    fn try_from(number: usize) -> Result<Format, Refusal> {
+        match number {
+            0 => Ok(Format::Etc1),
+            1 => Ok(Format::Etc2Rgb),
+            2 => Ok(Format::Etc2Rgba1),
+            3 => Ok(Format::Etc2Rgba8),
+            4 => Ok(Format::EacR),
+            5 => Ok(Format::EacRSigned),
+            6 => Ok(Format::EacRg),
+            7 => Ok(Format::EacRgSigned),
+            8 => Ok(Format::Bc1),
+            9 => Ok(Format::Bc1Alpha),
+            10 => Ok(Format::Bc3),
+            11 => Ok(Format::Bc7),
+            12 => Ok(Format::Bc2),
+            13 => Ok(Format::Bc4),
+            14 => Ok(Format::Bc4Signed),
+            15 => Ok(Format::Bc5),
+            16 => Ok(Format::Bc5Signed),
+            _ => Err(Refusal::UnknownFormat),
+        }
+    }
+}
+
+impl From<Container> for usize {
+    ghost from_gives = { λ c n. n ≡ container_number c };
+
+    fn from(container: Container) -> usize {
+        match container {
+            Container::Pkm => 1,
+            Container::Ktx1 => 2,
+            Container::Ktx2 => 3,
+            Container::Dds => 4,
+            Container::Sheet => 5,
+        }
+    }
+}
+
+impl From<Orientation> for usize {
+    ghost from_gives = { λ o n. n ≡ orientation_number o };
+
+    fn from(orientation: Orientation) -> usize {
+        match orientation {
+            Orientation::Untold => 0,
+            Orientation::TopDown => 1,
+            Orientation::BottomUp => 2,
+        }
+    }
 }

@@ -1,3 +1,4 @@
+pub mod Formats
 pub mod Sizes
 pub mod Checks
 pub mod Shown

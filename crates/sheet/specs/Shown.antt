@@ -2,8 +2,9 @@
 -- Assumes nothing.
 use Rattle.std.specs.Prelude.{◌≡◌, false, List, [], ℕ, ◌≤◌, ◌<◌, length}
 use Rattle.rules.specs.Places.{sized}
-use Rattle.rules.specs.Answers.{said, accepts}
-use Rattle.rules.specs.declared.Answer.{Answer}
+use Rattle.rules.specs.Answers.{refusal_said, accepts}
+use Rattle.rules.specs.FileFormats.{format_number}
+use Rattle.rules.specs.declared.Refusal.{Refusal}
 use Rattle.rules.specs.declared.Head.{Head}
 use Rattle.rules.specs.declared.Picture.{Picture}
 use Rattle.rules.specs.Records.{records_of}
@@ -22,10 +23,9 @@ pub record Halts (verdict : List ℕ → List ℕ) : Type 0 where
   pub alike : (then : List ℕ) → verdict then ≡ verdict []
   pub refused : accepts (verdict []) ≡ false
 
--- which is refused with an answer, whatever is still to be said
-pub record Refuses (verdict : List ℕ → List ℕ) (a : Answer) : Type 0 where
-  pub says : (then : List ℕ) → said a ≡ verdict then
-  pub refused : accepts (said a) ≡ false
+-- which is refused, whatever is still to be said
+abbrev pub Refuses : (List ℕ → List ℕ) → Refusal → Type 0
+Refuses verdict a = (then : List ℕ) → refusal_said a ≡ verdict then
 
 -- the size that a head names
 abbrev pub size_of_head : Head → Picture
@@ -33,13 +33,13 @@ size_of_head h = sized h.width h.height
 
 -- a head that a sheet may have
 pub record Sound (h : Head) : Type 0 where
-  pub known : h.format < 8
+  pub known : format_number h.format < 8
   pub narrow : h.width ≤ sheet_limit
   pub low : h.height ≤ sheet_limit
 
 -- the head that some bytes begin with
 pub record Begins (d : List ℕ) (h : Head) : Type 0 where
-  pub format : format_in (head_in d) ≡ h.format
+  pub format : format_in (head_in d) ≡ format_number h.format
   pub size : size_in (head_in d) ≡ size_of_head h
   pub sound : Sound h
 
@@ -48,4 +48,4 @@ pub record Shown (d : List ℕ) (h : Head) (b : List ℕ) : Type 0 where
   pub passes : Passes (walk d)
   pub begins : Begins d h
   pub blocks : blocks_in d ≡ b
-  pub exact : length b ≡ block_bytes_lem h.format (size_of_head h)
+  pub exact : length b ≡ block_bytes_lem (format_number h.format) (size_of_head h)

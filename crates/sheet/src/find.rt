@@ -2,22 +2,14 @@
 ghost use Rattle.sheet.specs.find.Found.{Finds};
 
 use super::first::Found;
-use super::later::Blocks;
 use super::{first, later};
+use rules::Refusal;
 
 // The head of a sheet, with the start of its blocks and how many bytes they are.
-pub fn find(d: &[u8]) -> Found
+pub fn find(d: &[u8]) -> Result<Found, Refusal>
     ensures { Finds d.now result }
 {
-    let head = first::first_record(d);
-    match head {
-        Found::At(h, at, n) => {
-            let blocks = later::after_head(d, at, n);
-            match blocks {
-                Blocks::At(start) => Found::At(h, start, n),
-                Blocks::Refused(answer) => Found::Refused(answer),
-            }
-        }
-        Found::Refused(answer) => Found::Refused(answer),
-    }
+    let front = first::first_record(d)?;
+    let start = later::after_head(d, front.start, front.length)?;
+    Ok(Found { start, ..front })
 }

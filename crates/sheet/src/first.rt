@@ -2,49 +2,47 @@
 ghost use Rattle.sheet.specs.first.Heads.{Heads};
 
 use super::records;
-use super::records::Met;
-use rules::{Answer, Head, Picture};
+use rules::{Head, Picture, Refusal};
 
-// A head, with a place in the sheet and how many bytes its blocks are; or why the sheet is refused.
+// A head, with a place in the sheet and how many bytes its blocks are.
 #[derive(Clone, Copy)]
-pub enum Found {
-    At(Head, usize, usize),
-    Refused(Answer),
+pub struct Found {
+    pub head: Head,
+    pub start: usize,
+    pub length: usize,
 }
 
 // The head of a sheet, and the place behind it.
-pub fn first_record(d: &[u8]) -> Found
+pub fn first_record(d: &[u8]) -> Result<Found, Refusal>
     ensures { Heads d.now result }
 {
-    let met = records::record_at(d, 0);
-    let Met::Whole(kind, start, len) = met else {
-        return Found::Refused(Answer::CutShort);
+    let Some(record) = records::record_at(d, 0)? else {
+        return Err(Refusal::CutShort);
     };
-    if kind != 1 {
-        return Found::Refused(Answer::NoHead);
+    if record.kind != 1 {
+        return Err(Refusal::NoHead);
     }
-    if len != 9 {
-        return Found::Refused(Answer::NoHead);
+    if record.length != 9 {
+        return Err(Refusal::NoHead);
     }
-    let format = numbers::wide(d[start]);
-    if 7 < format {
-        return Found::Refused(Answer::NoHead);
+    let number = usize::from(d[record.start]);
+    if 7 < number {
+        return Err(Refusal::NoHead);
     }
-    let width = numbers::little4(d, start + 1);
-    let height = numbers::little4(d, start + 5);
-    let pic = Picture {
-        width: width,
-        height: height,
-        pitch: width,
-    };
+    let width = numbers::little4(d, record.start + 1);
+    let height = numbers::little4(d, record.start + 5);
+    let pic = Picture::sized(width, height);
     if checks::too_large(16384, pic) {
-        return Found::Refused(Answer::TooLarge);
+        return Err(Refusal::TooLarge);
     }
-    let head = Head {
-        format: format,
-        width: width,
-        height: height,
-    };
-    let behind = start + len;
-    Found::At(head, behind, crate::block_bytes(format, pic))
+    let format = super::format_of(number);
+    Ok(Found {
+        head: Head {
+            format,
+            width,
+            height,
+        },
+        start: record.start + record.length,
+        length: super::block_bytes(format, pic),
+    })
 }

@@ -5,56 +5,34 @@ ghost use Rattle.rules.specs.Sheets.{after_blocks_lem};
 ghost use Rattle.sheet.specs.later.Follows.{Judges, Follows};
 
 use super::records;
-use super::records::Met;
-use rules::Answer;
-
-// Where the blocks start, or why the sheet is refused.
-#[derive(Clone, Copy)]
-pub enum Blocks {
-    At(usize),
-    Refused(Answer),
-}
+use rules::Refusal;
 
 // What is to be said of the records behind the blocks.
-fn after_blocks(d: &[u8], at: usize) -> Answer
+fn after_blocks(d: &[u8], at: usize) -> Result<(), Refusal>
     requires { at ≤ length d.now }
     ensures { Judges (λ then. after_blocks_lem then (kept (records_of (drop at d.now)))) result }
 {
-    let met = records::next(d, at);
-    match met {
-        Met::Whole(kind, _, _) => {
-            if kind == 2 {
-                Answer::WrongBlocks
-            } else {
-                Answer::OtherKind
-            }
-        }
-        Met::End => Answer::Done,
-        Met::Cut => Answer::CutShort,
+    match records::next(d, at)? {
+        Some(record) if record.kind == 2 => Err(Refusal::WrongBlocks),
+        Some(_) => Err(Refusal::OtherKind),
+        None => Ok(()),
     }
 }
 
-// The block record, behind a head whose blocks are n bytes.
-pub fn after_head(d: &[u8], at: usize, n: usize) -> Blocks
+// Where the blocks start, behind a head whose blocks are n bytes; or why the sheet is refused.
+pub fn after_head(d: &[u8], at: usize, n: usize) -> Result<usize, Refusal>
     requires { at ≤ length d.now }
     ensures { Follows d.now at n result }
 {
-    let met = records::next(d, at);
-    match met {
-        Met::Whole(kind, start, len) => {
-            if kind != 2 {
-                return Blocks::Refused(Answer::OtherKind);
-            }
-            if len != n {
-                return Blocks::Refused(Answer::WrongBlocks);
-            }
-            let answer = after_blocks(d, start + len);
-            let Answer::Done = answer else {
-                return Blocks::Refused(answer);
-            };
-            Blocks::At(start)
-        }
-        Met::End => Blocks::Refused(Answer::WrongBlocks),
-        Met::Cut => Blocks::Refused(Answer::CutShort),
+    let Some(record) = records::next(d, at)? else {
+        return Err(Refusal::WrongBlocks);
+    };
+    if record.kind != 2 {
+        return Err(Refusal::OtherKind);
     }
+    if record.length != n {
+        return Err(Refusal::WrongBlocks);
+    }
+    after_blocks(d, record.start + record.length)?;
+    Ok(record.start)
 }

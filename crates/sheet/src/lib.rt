@@ -7,32 +7,26 @@ pub mod later;
 pub mod records;
 pub mod write;
 
-ghost use Rattle.std.specs.Prelude.{◌≡◌, ◌<◌, ◌≤◌};
-ghost use Rattle.rules.specs.Sheets.{sheet_limit, format_of, block_bytes_lem};
+ghost use Rattle.std.specs.Prelude.{◌≡◌, ◌*◌, ◌<◌, ◌≤◌};
+ghost use Rattle.rules.specs.Places.{blocks};
+ghost use Rattle.rules.specs.Formats.{size_of};
+ghost use Rattle.rules.specs.Sheets.{sheet_limit, format_of};
 
 use rules::{Format, Picture};
 
-// The format of a number.
+// The format of a sheet's number, which the bytes and callers from C have.
+#[tactic(auto, using(crate::proofs::Formats::by_number))]
 pub fn format_of(n: usize) -> Format
     requires { n < 8 }
     ensures { result ≡ format_of n }
 {
-    match n {
-        0 => Format::Etc1,
-        1 => Format::Etc2Rgb,
-        2 => Format::Etc2Rgba1,
-        3 => Format::Etc2Rgba8,
-        4 => Format::EacR,
-        5 => Format::EacRSigned,
-        6 => Format::EacRg,
-        _ => Format::EacRgSigned,
-    }
+    Format::try_from(n).unwrap_or(Format::Etc1)
 }
 
-// How many bytes the blocks of a picture are, in the format of a number.
-pub fn block_bytes(format: usize, pic: Picture) -> usize
-    requires { (format < 8) × (pic.width ≤ sheet_limit) × (pic.height ≤ sheet_limit) }
-    ensures { (result ≡ block_bytes_lem format pic) × (result ≤ 0x10000000) }
+// How many bytes the blocks of a picture are.
+pub fn block_bytes(format: Format, pic: Picture) -> usize
+    requires { (pic.width ≤ sheet_limit) × (pic.height ≤ sheet_limit) }
+    ensures { (result ≡ blocks pic * size_of format) × (result ≤ 0x10000000) }
 {
-    checks::blocks_of(pic) * checks::size(format_of(format))
+    checks::blocks_of(pic) * checks::size(format)
 }

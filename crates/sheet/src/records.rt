@@ -2,49 +2,52 @@
 ghost use Rattle.std.specs.Prelude.{◌≤◌, length};
 ghost use Rattle.sheet.specs.records.Turns.{Stands, Meets};
 
-// What the walk meets: a record of a kind, with the start and the length of its payload; the end; or a record that is cut short.
-#[derive(Clone, Copy)]
-pub enum Met {
-    Whole(usize, usize, usize),
-    End,
-    Cut,
+use rules::Refusal;
+
+// A record that the walk meets: its kind, and the start and the length of its payload. The kind stays the number that the bytes have, as
+// `is_skipped` and `is_head` of crates/rules/specs compare it: kinds from 8000 hex on are skipped by their size alone.
+#[derive(Clone, Copy, Debug, PartialEq, Eq)]
+pub struct Record {
+    pub kind: usize,
+    pub start: usize,
+    pub length: usize,
 }
 
-// The record that stands at a place.
-pub fn record_at(d: &[u8], at: usize) -> Met
+// The record that stands at a place, none at the end; one that is cut short is refused. The place is a number beside the bytes, here and
+// below: it is another at each record, so a struct of both would be built anew for each call, with the bound shown each time as now.
+pub fn record_at(d: &[u8], at: usize) -> Result<Option<Record>, Refusal>
     requires { at ≤ length d.now }
     ensures { Stands d.now at result }
 {
     let left = d.len() - at;
     if left == 0 {
-        return Met::End;
+        return Ok(None);
     }
     if left < 6 {
-        return Met::Cut;
+        return Err(Refusal::CutShort);
     }
-    let len = numbers::little4(d, at);
-    if left - 6 < len {
-        return Met::Cut;
+    let length = numbers::little4(d, at);
+    if left - 6 < length {
+        return Err(Refusal::CutShort);
     }
-    let start = at + 6;
-    Met::Whole(numbers::little2(d, at + 4), start, len)
+    Ok(Some(Record {
+        kind: numbers::little2(d, at + 4),
+        start: at + 6,
+        length,
+    }))
 }
 
 // The first record from a place on that is not skipped.
-pub fn next(d: &[u8], from: usize) -> Met
+pub fn next(d: &[u8], from: usize) -> Result<Option<Record>, Refusal>
     requires { from ≤ length d.now }
     ensures { Meets d.now from result }
 {
     let mut at = from;
-    while at < d.len() {
-        let met = record_at(d, at);
-        let Met::Whole(kind, start, len) = met else {
-            return met;
-        };
-        if kind < 0x8000 {
-            return met;
+    while let Some(record) = record_at(d, at)? {
+        if record.kind < 0x8000 {
+            return Ok(Some(record));
         }
-        at = start + len;
+        at = record.start + record.length;
     }
-    Met::End
+    Ok(None)
 }

@@ -5,34 +5,17 @@ ghost use Rattle.rules.specs.Answers.{said};
 ghost use Rattle.rules.specs.Sheets.{write_verdict, WritesSheet};
 ghost use Rattle.sheet.specs.write.Front.{front_of_lem};
 
-use rules::{Answer, Picture, Written};
+use rules::{Picture, Refusal};
 
 // The bytes before n bytes of blocks.
 fn front_of(format: u8, w: u32, h: u32, n: u32) -> [u8; 21]
     ensures { result ≡ front_of_lem format (sized w h) n }
 {
+    let [w0, w1, w2, w3] = w.to_le_bytes();
+    let [h0, h1, h2, h3] = h.to_le_bytes();
+    let [n0, n1, n2, n3] = n.to_le_bytes();
     [
-        9,
-        0,
-        0,
-        0,
-        1,
-        0,
-        format,
-        (w % 256) as u8,
-        (w / 256 % 256) as u8,
-        (w / 256 / 256 % 256) as u8,
-        (w / 256 / 256 / 256 % 256) as u8,
-        (h % 256) as u8,
-        (h / 256 % 256) as u8,
-        (h / 256 / 256 % 256) as u8,
-        (h / 256 / 256 / 256 % 256) as u8,
-        (n % 256) as u8,
-        (n / 256 % 256) as u8,
-        (n / 256 / 256 % 256) as u8,
-        (n / 256 / 256 / 256 % 256) as u8,
-        2,
-        0,
+        9, 0, 0, 0, 1, 0, format, w0, w1, w2, w3, h0, h1, h2, h3, n0, n1, n2, n3, 2, 0,
     ]
 }
 
@@ -47,53 +30,41 @@ fn put_front(format: usize, width: usize, height: usize, n: usize, out: &mut [u8
 }
 
 // The writer's checks in their order, of n bytes of blocks and so many bytes of room.
-fn verify(format: usize, pic: Picture, n: usize, room: usize) -> Answer
+fn verify(format: usize, pic: Picture, n: usize, room: usize) -> Result<(), Refusal>
     ensures { (b : List ℕ) → length b ≡ n → said result ≡ write_verdict format pic b room }
 {
     if 7 < format {
-        return Answer::NoHead;
+        return Err(Refusal::NoHead);
     }
     if checks::too_large(16384, pic) {
-        return Answer::TooLarge;
+        return Err(Refusal::TooLarge);
     }
-    let exact = crate::block_bytes(format, pic);
+    let exact = super::block_bytes(super::format_of(format), pic);
     if n != exact {
-        return Answer::WrongBlocks;
+        return Err(Refusal::WrongBlocks);
     }
     if room < 21 + n {
-        return Answer::ShortImage;
+        return Err(Refusal::ShortImage);
     }
-    Answer::Done
+    Ok(())
 }
 
-// Writes a sheet: the answer, every byte of the buffer, and the number of bytes that the sheet has, for all inputs.
+// Writes a sheet: the answer with the number of bytes that the sheet has, and every byte of the buffer, for all inputs. The format stays a
+// number: one from 8 on is refused with NoHead, so an enum would ask more of callers.
 pub fn write_sheet(
     format: usize,
     width: usize,
     height: usize,
     blocks: &[u8],
     out: &mut [u8],
-) -> Written
+) -> Result<usize, Refusal>
     ensures { WritesSheet format (sized width height) blocks.now out.old result out.new }
 {
     let n = blocks.len();
-    let pic = Picture {
-        width: width,
-        height: height,
-        pitch: width,
-    };
-    let answer = verify(format, pic, n, out.len());
-    let Answer::Done = answer else {
-        return Written {
-            answer: answer,
-            bytes: 0,
-        };
-    };
+    let pic = Picture::sized(width, height);
+    verify(format, pic, n, out.len())?;
     put_front(format, width, height, n, out);
     let whole = 21 + n;
     out[21..whole].copy_from_slice(blocks);
-    Written {
-        answer: Answer::Done,
-        bytes: whole,
-    }
+    Ok(whole)
 }

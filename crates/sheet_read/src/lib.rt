@@ -3,41 +3,27 @@
 
 ghost use Rattle.rules.specs.Sheets.{TellsHead, ReadsSheet};
 
-use rules::{Answer, Picture, Sheet};
+use rules::{Head, Picture, Refusal};
 use sheet::find;
-use sheet::first::Found;
 
 // What a sheet's head says, for all bytes, or why the sheet is refused.
-pub fn sheet_head(bytes: &[u8]) -> Sheet
+pub fn sheet_head(bytes: &[u8]) -> Result<Head, Refusal>
     ensures { TellsHead bytes.now result }
 {
-    let found = find::find(bytes);
-    match found {
-        Found::At(head, _, _) => Sheet::Holds(head),
-        Found::Refused(answer) => Sheet::Refused(answer),
-    }
+    let found = find::find(bytes)?;
+    Ok(found.head)
 }
 
 // Reads a sheet: the answer and every element of the image, for all inputs.
-pub fn read_sheet(bytes: &[u8], image: &mut [u32]) -> Answer
+pub fn read_sheet(bytes: &[u8], image: &mut [u32]) -> Result<(), Refusal>
     ensures { ReadsSheet bytes.now image.old result image.new }
 {
-    let found = find::find(bytes);
-    match found {
-        Found::At(head, start, n) => {
-            let end = start + n;
-            let pic = Picture {
-                width: head.width,
-                height: head.height,
-                pitch: head.width,
-            };
-            picture::read_picture(
-                sheet::format_of(head.format),
-                &bytes[start..end],
-                pic,
-                image,
-            )
-        }
-        Found::Refused(answer) => answer,
-    }
+    let found = find::find(bytes)?;
+    let pic = Picture {
+        width: found.head.width,
+        height: found.head.height,
+        pitch: found.head.width,
+    };
+    let end = found.start + found.length;
+    picture::read_picture(found.head.format, &bytes[found.start..end], pic, image)
 }

@@ -1,6 +1,6 @@
 -- The numbers of a pixel, and the blocks of a picture that has n numbers to a pixel.
 -- Assumes nothing.
-use Rattle.std.specs.Prelude.{Bool, true, false, List, [], ◌∷◌, ℕ, ◌+◌, ◌*◌, ◌/◌, ◌%◌, ◌≤◌, get_or}
+use Rattle.std.specs.Prelude.{◌≡◌, Bool, true, false, List, [], ◌∷◌, ℕ, ◌+◌, ◌*◌, ◌/◌, ◌%◌, ◌≤◌, get_or}
 use Rattle.rules.specs.Places.{column, row, needed, pitched}
 use Rattle.rules.specs.Answers.{limit}
 use Rattle.rules.specs.declared.Picture.{Picture}
@@ -28,6 +28,10 @@ pub record Ready (n : ℕ) (pic : Picture) (elements : ℕ) : Type 0 where
   pub close : pic.pitch ≤ limit
   pub fits : pic.width ≤ pic.pitch
   pub roomy : n * needed pic ≤ elements
+
+-- the picture has the tile in column bx and row by whole, where that is said of it
+abbrev pub HasWhole : Bool → Picture → ℕ → ℕ → Type 0
+HasWhole whole pic bx by = whole ≡ true → (bx * 4 + 4 ≤ pic.width) × (by * 4 + 4 ≤ pic.height)
 
 -- one block painted, of its bytes d
 abbrev pub PaintsBlock : ℕ → Bool → List ℕ → Picture → ℕ → ℕ → List ℕ → List ℕ → Type 0

@@ -2,20 +2,21 @@
 // to a pixel is a picture of numbers, twice as wide with twice the pitch, in which a block has two tiles beside each other.
 #![tactic(auto)]
 
+mod scale;
+
 ghost use Rattle.std.specs.Prelude.{◌≡◌, ◌+◌, ◌*◌, ◌/◌, ◌<◌, ◌≤◌, length};
 ghost use Rattle.rules.specs.Notation.{build};
 ghost use Rattle.rules.specs.Places.{across, blocks};
 ghost use Rattle.rules.specs.Answers.{limit};
-ghost use Rattle.rules.specs.Channels.{alpha_steps_lem};
 ghost use Rattle.rules.specs.Whole.{whole_picture, ReadsWhole};
 ghost use Rattle.checks.specs.Passed.{Passed};
-ghost use Rattle.eac.specs.values.Spans.{Spans};
-ghost use Rattle.whole.specs.Lanes.{lanes, twice, paired, Ready, PaintsBlock, PaintsBlocks};
+ghost use Rattle.pixel.specs.place.Tile.{Room, PaintsTile};
+ghost use Rattle.whole.specs.Lanes.{lanes, twice, paired, Ready, HasWhole, PaintsBlock, PaintsBlocks};
 
 use eac::values;
-use eac::values::Span;
-use pixel::lanes;
-use rules::{Answer, Picture};
+use pixel::place;
+use rules::{Picture, Refusal};
+use scale::{Scale, scale_of};
 use tables::consts;
 
 // How many numbers a pixel has: red, and green where there is one.
@@ -32,10 +33,8 @@ fn pairs(red: [u16; 16], green: [u16; 16], side: usize) -> [u16; 16]
 {
     let both = [red, green];
     let mut out = [0u16; 16];
-    let mut i: usize = 0;
-    while i < 16 {
+    for i in 0..16 {
         out[i] = both[i % 2][i / 4 * 4 + side * 2 + i % 4 / 2];
-        i += 1;
     }
     out
 }
@@ -52,140 +51,85 @@ fn doubled(pic: Picture) -> Picture
     }
 }
 
-// Paints a block of red that the picture has whole, in column bx and row by of blocks.
-fn whole_red(
-    span: Span,
-    d: &[u8],
-    table: &[[i8; 8]; 16],
-    bx: usize,
-    by: usize,
-    pic: Picture,
-    image: &mut [u16],
-)
-    requires in_bounds { (8 ≤ length d.now) × (table.now ≡ alpha_steps_lem) × Ready 1 pic (length image.old) }
-    requires bx_bound { (bx * 4 + 4 ≤ pic.width) × (by * 4 + 4 ≤ pic.height) × Spans span }
-    ensures { PaintsBlock 1 span.signed d.now pic bx by image.old image.new }
+// Paints a tile, which the picture has WHOLE or may lack a part of. Whole ones go by themselves, since a tile that may be clipped is
+// stored to be loaded again (docs/PERFORMANCE.md).
+fn put<const WHOLE: bool>(tile: [u16; 16], bx: usize, by: usize, pic: Picture, image: &mut [u16])
+    requires { (bx < 0x100000) × (by < 0x100000) × Room pic (length image.old) × HasWhole WHOLE pic bx by }
+    ensures { PaintsTile tile pic bx by image.old image.new }
 {
-    let base = values::middle_of(d[0], span.signed);
-    let eight = eac::eight_wholes(d, base, span, table);
-    lanes::place_whole(eac::eac_sixteens(d, span, eight), bx, by, pic, image);
+    if WHOLE {
+        place::place_whole(tile, bx, by, pic, image);
+        return;
+    }
+    place::place(tile, bx, by, pic, image);
 }
 
-// Paints a block of red and green that the picture has whole.
-fn whole_red_green(
-    span: Span,
+// Paints a block of red, in column bx and row by of blocks. The bounds of bx and by stay clauses, here and below: a loop counts the two,
+// and a struct of them would owe the bounds at each turn, as its call does now.
+fn paint_red<const WHOLE: bool>(
+    scale: Scale,
     d: &[u8],
-    table: &[[i8; 8]; 16],
     bx: usize,
     by: usize,
     pic: Picture,
     image: &mut [u16],
 )
-    requires in_bounds { (16 ≤ length d.now) × (table.now ≡ alpha_steps_lem) × Ready 2 pic (length image.old) }
-    requires bx_bound { (bx * 4 + 4 ≤ pic.width) × (by * 4 + 4 ≤ pic.height) × Spans span }
-    ensures { PaintsBlock 2 span.signed d.now pic bx by image.old image.new }
+    requires in_bounds { (8 ≤ length d.now) × Ready 1 pic (length image.old) }
+    requires bx_bound { (bx < 0x10000) × (by < 0x10000) × HasWhole WHOLE pic bx by }
+    ensures { PaintsBlock 1 scale.entry.span.signed d.now pic bx by image.old image.new }
 {
+    let span = scale.span;
+    let base = values::middle_of(d[0], span.signed);
+    let eight = eac::eight_wholes(d, base, span, scale.table);
+    put::<WHOLE>(eac::eac_sixteens(d, span, eight), bx, by, pic, image);
+}
+
+// Paints a block of red and green. It is not the one above twice: both halves' numbers come before both picks, for speed, and its two tiles
+// stand in a picture twice as wide.
+fn paint_red_green<const WHOLE: bool>(
+    scale: Scale,
+    d: &[u8],
+    bx: usize,
+    by: usize,
+    pic: Picture,
+    image: &mut [u16],
+)
+    requires in_bounds { (16 ≤ length d.now) × Ready 2 pic (length image.old) }
+    requires bx_bound { (bx < 0x10000) × (by < 0x10000) × HasWhole WHOLE pic bx by }
+    ensures { PaintsBlock 2 scale.entry.span.signed d.now pic bx by image.old image.new }
+{
+    let span = scale.span;
     let half = &d[8..];
     let red_base = values::middle_of(d[0], span.signed);
     let green_base = values::middle_of(half[0], span.signed);
-    let red_eight = eac::eight_wholes(d, red_base, span, table);
-    let green_eight = eac::eight_wholes(half, green_base, span, table);
+    let red_eight = eac::eight_wholes(d, red_base, span, scale.table);
+    let green_eight = eac::eight_wholes(half, green_base, span, scale.table);
     let red = eac::eac_sixteens(d, span, red_eight);
     let green = eac::eac_sixteens(half, span, green_eight);
     let wide = doubled(pic);
-    lanes::place_whole(pairs(red, green, 0), 2 * bx, by, wide, image);
-    lanes::place_whole(pairs(red, green, 1), 2 * bx + 1, by, wide, image);
+    put::<WHOLE>(pairs(red, green, 0), 2 * bx, by, wide, image);
+    put::<WHOLE>(pairs(red, green, 1), 2 * bx + 1, by, wide, image);
 }
 
-// Paints a block that the picture has whole.
-fn whole_block(
+// Paints a block.
+fn paint_block<const WHOLE: bool>(
     green: bool,
-    span: Span,
+    scale: Scale,
     d: &[u8],
-    table: &[[i8; 8]; 16],
     bx: usize,
     by: usize,
     pic: Picture,
     image: &mut [u16],
 )
-    requires green_in_bounds { (lanes green * 8 ≤ length d.now) × (table.now ≡ alpha_steps_lem)
-        × Ready (lanes green) pic (length image.old) }
-    requires bx_bound { (bx * 4 + 4 ≤ pic.width) × (by * 4 + 4 ≤ pic.height) × Spans span }
-    ensures { PaintsBlock (lanes green) span.signed d.now pic bx by image.old image.new }
+    requires green_in_bounds { (lanes green * 8 ≤ length d.now) × Ready (lanes green) pic (length image.old) }
+    requires bx_bound { (bx < 0x10000) × (by < 0x10000) × HasWhole WHOLE pic bx by }
+    ensures { PaintsBlock (lanes green) scale.entry.span.signed d.now pic bx by image.old image.new }
 {
     if green {
-        whole_red_green(span, d, table, bx, by, pic, image);
+        paint_red_green::<WHOLE>(scale, d, bx, by, pic, image);
         return;
     }
-    whole_red(span, d, table, bx, by, pic, image);
-}
-
-// Paints a block of red, of which the picture may lack a part.
-fn paint_red(
-    span: Span,
-    d: &[u8],
-    table: &[[i8; 8]; 16],
-    bx: usize,
-    by: usize,
-    pic: Picture,
-    image: &mut [u16],
-)
-    requires in_bounds { (8 ≤ length d.now) × (table.now ≡ alpha_steps_lem) × Ready 1 pic (length image.old) }
-    requires bx_bound { (bx < 0x10000) × (by < 0x10000) × Spans span }
-    ensures { PaintsBlock 1 span.signed d.now pic bx by image.old image.new }
-{
-    let base = values::middle_of(d[0], span.signed);
-    let eight = eac::eight_wholes(d, base, span, table);
-    lanes::place(eac::eac_sixteens(d, span, eight), bx, by, pic, image);
-}
-
-// Paints a block of red and green, of which the picture may lack a part.
-fn paint_red_green(
-    span: Span,
-    d: &[u8],
-    table: &[[i8; 8]; 16],
-    bx: usize,
-    by: usize,
-    pic: Picture,
-    image: &mut [u16],
-)
-    requires in_bounds { (16 ≤ length d.now) × (table.now ≡ alpha_steps_lem) × Ready 2 pic (length image.old) }
-    requires bx_bound { (bx < 0x10000) × (by < 0x10000) × Spans span }
-    ensures { PaintsBlock 2 span.signed d.now pic bx by image.old image.new }
-{
-    let half = &d[8..];
-    let red_base = values::middle_of(d[0], span.signed);
-    let green_base = values::middle_of(half[0], span.signed);
-    let red_eight = eac::eight_wholes(d, red_base, span, table);
-    let green_eight = eac::eight_wholes(half, green_base, span, table);
-    let red = eac::eac_sixteens(d, span, red_eight);
-    let green = eac::eac_sixteens(half, span, green_eight);
-    let wide = doubled(pic);
-    lanes::place(pairs(red, green, 0), 2 * bx, by, wide, image);
-    lanes::place(pairs(red, green, 1), 2 * bx + 1, by, wide, image);
-}
-
-// Paints a block, of which the picture may lack a part.
-fn paint_block(
-    green: bool,
-    span: Span,
-    d: &[u8],
-    table: &[[i8; 8]; 16],
-    bx: usize,
-    by: usize,
-    pic: Picture,
-    image: &mut [u16],
-)
-    requires green_in_bounds { (lanes green * 8 ≤ length d.now) × (table.now ≡ alpha_steps_lem)
-        × Ready (lanes green) pic (length image.old) }
-    requires bx_bound { (bx < 0x10000) × (by < 0x10000) × Spans span }
-    ensures { PaintsBlock (lanes green) span.signed d.now pic bx by image.old image.new }
-{
-    if green {
-        paint_red_green(span, d, table, bx, by, pic, image);
-        return;
-    }
-    paint_red(span, d, table, bx, by, pic, image);
+    paint_red::<WHOLE>(scale, d, bx, by, pic, image);
 }
 
 // How many blocks of row by the picture has whole.
@@ -199,55 +143,47 @@ fn whole_in(pic: Picture, by: usize) -> usize
     pic.width / 4
 }
 
-// Paints the blocks of row by that the picture has whole: how many these are. They go by themselves, since a tile that may be clipped is
-// stored to be loaded again (docs/PERFORMANCE.md).
+// Paints the blocks of row by that the picture has whole: how many these are.
 fn paint_whole(
     green: bool,
-    span: Span,
+    scale: Scale,
     data: &[u8],
     by: usize,
     pic: Picture,
     image: &mut [u16],
 ) -> usize
-    requires green_in_bounds { (blocks pic * (lanes green * 8) ≤ length «data».now) × (by < across pic.height) × (pic.height ≤ limit)
-        × Spans span }
+    requires green_in_bounds { (blocks pic * (lanes green * 8) ≤ length «data».now) × (by < across pic.height) × (pic.height ≤ limit) }
     requires ready { Ready (lanes green) pic (length image.old) }
-    ensures { (result ≤ across pic.width) × PaintsBlocks (lanes green) span.signed «data».now pic
+    ensures { (result ≤ across pic.width) × PaintsBlocks (lanes green) scale.entry.span.signed «data».now pic
         (by * across pic.width) (by * across pic.width + result) image.old image.new }
 {
     let row = checks::across(pic.width);
     let n = whole_in(pic, by);
-    let table = consts::alpha_steps();
     let s = lanes_of(green) * 8;
     let first = by * row;
-    let mut bx: usize = 0;
-    while bx < n {
+    for bx in 0..n {
         let from = (first + bx) * s;
         let end = from + s;
-        whole_block(green, span, &data[from..end], &table, bx, by, pic, image);
-        bx += 1;
+        paint_block::<true>(green, scale, &data[from..end], bx, by, pic, image);
     }
     n
 }
 
 // Paints the blocks of row by.
-fn paint_row(green: bool, span: Span, data: &[u8], by: usize, pic: Picture, image: &mut [u16])
-    requires green_in_bounds { (blocks pic * (lanes green * 8) ≤ length «data».now) × (by < across pic.height) × (pic.height ≤ limit)
-        × Spans span }
+fn paint_row(green: bool, scale: Scale, data: &[u8], by: usize, pic: Picture, image: &mut [u16])
+    requires green_in_bounds { (blocks pic * (lanes green * 8) ≤ length «data».now) × (by < across pic.height) × (pic.height ≤ limit) }
     requires ready { Ready (lanes green) pic (length image.old) }
-    ensures { PaintsBlocks (lanes green) span.signed «data».now pic (by * across pic.width)
+    ensures { PaintsBlocks (lanes green) scale.entry.span.signed «data».now pic (by * across pic.width)
         (by * across pic.width + across pic.width) image.old image.new }
 {
     let row = checks::across(pic.width);
-    let table = consts::alpha_steps();
     let s = lanes_of(green) * 8;
     let first = by * row;
-    let mut bx = paint_whole(green, span, data, by, pic, image);
-    while bx < row {
+    let n = paint_whole(green, scale, data, by, pic, image);
+    for bx in n..row {
         let at = (first + bx) * s;
         let end = at + s;
-        paint_block(green, span, &data[at..end], &table, bx, by, pic, image);
-        bx += 1;
+        paint_block::<false>(green, scale, &data[at..end], bx, by, pic, image);
     }
 }
 
@@ -257,27 +193,29 @@ fn paint(green: bool, signed: bool, data: &[u8], pic: Picture, image: &mut [u16]
     ensures { image.new ≡ whole_picture signed (lanes green) pic «data».now image.old }
 {
     let rows = checks::across(pic.height);
-    let span = values::span_of(signed);
-    let mut by: usize = 0;
-    while by < rows {
-        paint_row(green, span, data, by, pic, image);
-        by += 1;
+    let table = consts::alpha_steps();
+    let scale = scale_of(signed, &table);
+    for by in 0..rows {
+        paint_row(green, scale, data, by, pic, image);
     }
 }
 
 // Reads a picture of whole values: red, or red and green. The answer and every element of the image, for all inputs.
-pub fn read_whole(green: bool, signed: bool, data: &[u8], pic: Picture, image: &mut [u16]) -> Answer
+pub fn read_whole(
+    green: bool,
+    signed: bool,
+    data: &[u8],
+    pic: Picture,
+    image: &mut [u16],
+) -> Result<(), Refusal>
     ensures { ReadsWhole signed (lanes green) «data».now pic image.old result image.new }
 {
-    let answer = checks::verify(
+    checks::verify(
         lanes_of(green) * 8,
         pic,
         data.len(),
         image.len() / lanes_of(green),
-    );
-    let Answer::Done = answer else {
-        return answer;
-    };
+    )?;
     paint(green, signed, data, pic, image);
-    Answer::Done
+    Ok(())
 }

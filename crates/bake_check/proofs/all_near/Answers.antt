@@ -1,11 +1,12 @@
 -- Each pixel that was passed is near.
--- Assumes nothing.
-use mathlib.Core.Path.{◌≡◌, ◌∙◌, refl, sym, ap}
+use mathlib.Core.Path.{◌∙◌, refl, sym}
 use native.Mathlib.Omega.{arith}
 use Rattle.rules.specs.Counting.{each}
 use Rattle.bake.proofs.baking.Each.{each_next, each_not}
 use Rattle.bake_check.proofs.all_near.Invariants.{test}
 use Rattle.bake_check.proofs.all_near.Goals as goal
+
+-- Assumes nothing.
 
 -- src/lib.rt:30:5
 pub loop-k-init : goal.loop-k-init
@@ -23,10 +24,3 @@ pub loop-k-preserved : goal.loop-k-preserved
 loop-k-preserved c =
     let a = c.args in
     (omega arith, each_next (test a.tolerance a.pixels a.tile.now) c.loop-k.k c.loop-k.invariant.1 (sym c.near.ensures ∙ c.if-not-near.false))
-
--- src/lib.rt:25:1
-pub returns : goal.returns
-returns c =
-    let a = c.args in
-    let e : c.loop-k.k ≡ 16 = omega arith in
-    sym (ap (each (test a.tolerance a.pixels a.tile.now)) (sym e) ∙ c.loop-k.invariant.1)

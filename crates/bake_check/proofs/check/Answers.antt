@@ -1,5 +1,4 @@
 -- Each way out knows the checks that led to it.
--- Assumes nothing.
 use mathlib.Core.Path.{◌≡◌, ◌∙◌, sym, ap}
 use mathlib.Core.Bool.{Bool, true, false, cond}
 use mathlib.Core.List.{[], ◌∷◌}
@@ -13,6 +12,8 @@ use Rattle.blocks.proofs.First.{first_block}
 use Rattle.bake_check.proofs.Verdict.{of_block, short_block, short_tile, out_of_range, in_range_lem}
 use borrow.Author.Rules.{rules}
 use Rattle.bake_check.proofs.check.Goals as goal
+
+-- Assumes nothing.
 
 pub returns-then-block-lt8 : goal.returns-then-block-lt8
 returns-then-block-lt8 c =

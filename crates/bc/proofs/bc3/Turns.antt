@@ -40,6 +40,10 @@ from_le f m h i (suc n) (suc k) = from_le f m h (suc i) n k
 pub at_most : (f : ℕ → ℕ) (m n : ℕ) (l : List ℕ) → l ≡ build n f → ((k : ℕ) → f k ≤ m) → (k : ℕ) → get_or l k 0 ≤ m
 at_most f m n l e h k = subst (λ (b : List ℕ). get_or b k 0 ≤ m) (sym e) (from_le f m h 0 n k)
 
+-- colours without their top bytes
+pub below : (c l : List ℕ) → l ≡ build 4 (λ k. get_or c k 0 % 0x1000000) → (k : ℕ) → get_or l k 0 < 0x1000000
+below c l e k = omega (arith, at_most (λ k. get_or c k 0 % 0x1000000) 0xFFFFFF 4 l e (λ k. omega arith) k)
+
 -- a top byte and a colour without one make the colour with its top byte replaced
 join : (p b : ℕ) → Word p → b < 256 → b * 0x1000000 + p % 0x1000000 ≡ replaced 3 p b
 join p b h k = omega arith

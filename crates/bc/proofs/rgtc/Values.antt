@@ -1,13 +1,12 @@
 -- The eight values of a half of BC4 or BC5: the alphas of its two bytes, none above the greatest; and what the picks of a turn make of them.
 -- Assumes nothing.
-use mathlib.Core.Path.{◌≡◌, ◌∙◌, sym, ap}
+use mathlib.Core.Path.{◌≡◌, ◌∙◌, ap}
 use mathlib.Core.Bool.{Bool, true, false, cond}
 use mathlib.Core.List.{List}
 use Prim.Native.Nat.{ℕ, zero, suc, ◌+◌, ◌*◌, ◌/◌, ◌%◌, ◌<◌, ◌≤◌, min}
 use native.Mathlib.Omega.{arith}
 use lib.Dec.{T, eqb, eqb→eq, ltb}
 use lib.ListN.{get_or, drop}
-use borrow.Author.Tests.{ne_eqb}
 use Rattle.rules.specs.Notation.{build, bits}
 use Rattle.rules.specs.Pixel.{word}
 use Rattle.rules.specs.Places.{tile}
@@ -27,12 +26,6 @@ all_moved = tt
 
 signed_byte_lem : (b : ℕ) → b < 256 → moved b ≡ endpoint true b
 signed_byte_lem b h = eqb→eq (moved b) (endpoint true b) (below (λ b. eqb (moved b) (endpoint true b)) 256 all_moved b h)
-
-pub lowest : (b : ℕ) → b ≡ 128 → 0 ≡ endpoint true b
-lowest b e = ap (endpoint true) (sym e)
-
-pub others : (b : ℕ) → b < 256 → (b ≡ 128 → ⊥) → (b + 127) % 256 ≡ endpoint true b
-others b h n = sym (ap (λ (t : Bool). cond t 0 ((b + 127) % 256)) (ne_eqb b 128 n)) ∙ signed_byte_lem b h
 
 -- of the alphas of two values only the 255 is above the greatest
 stays : (n t : ℕ) → n ≤ t → min n t ≡ n

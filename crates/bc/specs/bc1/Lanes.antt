@@ -25,12 +25,17 @@ sum a b x y = (a * x % 65536 + b * y % 65536) % 65536
 abbrev pub sixths : ℕ → ℕ → ℕ → ℕ → ℕ
 sixths a b x y = sum a b x y * 10923 / 65536
 
--- the parts of the first and of the second colour in colour k: f is 1 where there are four
+-- the parts of a colour in colour k: all in its own, and in colours 2 and 3 a half and none, or so many more where f is 1, and there are
+-- four
+abbrev pub parts_lem : ℕ → ℕ → ℕ → ℕ → ℕ → ℕ
+parts_lem own third last f k = (cond (eqb k own) 6 (cond (eqb k 2) 3 0) + f * cond (eqb k 2) third (cond (eqb k 3) last 0) % 65536) % 65536
+
+-- those of the first colour, and of the second
 abbrev pub first_parts_lem : ℕ → ℕ → ℕ
-first_parts_lem f k = (cond (eqb k 0) 6 (cond (eqb k 2) 3 0) + f * cond (eqb k 2) 1 (cond (eqb k 3) 2 0) % 65536) % 65536
+first_parts_lem = parts_lem 0 1 2
 
 abbrev pub second_parts_lem : ℕ → ℕ → ℕ
-second_parts_lem f k = (cond (eqb k 1) 6 (cond (eqb k 2) 3 0) + f * cond (eqb k 2) 65535 (cond (eqb k 3) 4 0) % 65536) % 65536
+second_parts_lem = parts_lem 1 65535 4
 
 -- 255 in the lanes of alpha; where t is 1, one more in the last of them, which then is 0
 abbrev pub alpha_lane_lem : ℕ → ℕ → ℕ

@@ -11,7 +11,7 @@ use Rattle.bc7.proofs.bc7_block.Goals as goal
 pub returns : goal.returns
 unfolding bc7_pixel
 returns c =
-    let w = c.words in
+    let w = c.of_block in
     let d = c.args.d.now in
     c.of_words.ensures
     ∙ ap (λ (x : ℕ). build 16 (pixel_of x)) w.ensures

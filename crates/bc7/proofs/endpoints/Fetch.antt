@@ -1,19 +1,17 @@
 -- The endpoints stage: values read one after the other are the fields of the definition.
 -- Assumes nothing.
-use mathlib.Core.Path.{◌≡◌, ◌∙◌, refl, sym, ap, subst}
-use mathlib.Core.Bool.{Bool, true, false, cond, ◌||◌}
+use mathlib.Core.Path.{◌≡◌, ◌∙◌, sym, ap, subst}
+use mathlib.Core.Bool.{Bool, true, false, cond}
 use mathlib.Core.List.{List}
-use Prim.Native.Nat.{ℕ, zero, suc, ◌+◌, ◌*◌, ◌/◌, ◌%◌, ◌^◌, ◌<◌, ◌≤◌}
+use Prim.Native.Nat.{ℕ, ◌+◌, ◌*◌, ◌/◌, ◌%◌, ◌^◌, ◌<◌}
 use native.Mathlib.Omega.{arith}
-use lib.Dec.{T, eqb, leb, leb→le}
+use lib.Dec.{eqb}
 use lib.ListN.{get_or}
 use lib.Pow.{shr-shr}
 use Rattle.rules.specs.Bits.{field}
-use Rattle.rules.specs.Bc7.{expand, mode_table, mode_at, colour_place, alpha_place, p_place, index_place, p_bits, p_count_lem, p_of, colour_end, alpha_end}
+use Rattle.rules.specs.Bc7.{expand, colour_place, alpha_place, p_place, index_place, p_bits, p_count_lem, p_of, colour_end, alpha_end}
 use Rattle.rules.specs.declared.Mode.{Mode}
-use Rattle.laws.proofs.Every.{both, both_left, both_right, below}
 use Rattle.bc7.specs.rest.Whole.{field_of}
-use Rattle.bc7.specs.endpoints.Stages.{Sane}
 
 -- a field of what is left is a field of the whole
 pub field_at : (d w p b j : ℕ) → w ≡ d / 2 ^ p → field_of w b j ≡ field d (p + j * b) b
@@ -72,47 +70,3 @@ module _ (d m : ℕ) (k : Mode) where
         ∙ ap (λ (z : ℕ). expand (k.alpha + p_bits m k) (z * 2 ^ p_bits m k + get_or pv (cond (eqb k.shared 0) e (e / 2)) 0)) (ap (λ (z : ℕ). get_or av z 0) z0 ∙ f.alphas e l)
         ∙ ap (λ (z : ℕ). expand (k.alpha + p_bits m k) (field d (alpha_place m k + e * k.alpha) k.alpha * 2 ^ p_bits m k + z)) (p_at e l)
         ∙ sym (ap (λ (b : Bool). cond b 255 (expand (k.alpha + p_bits m k) (field d (alpha_place m k + e * k.alpha) k.alpha * 2 ^ p_bits m k + p_of d m k e))) t)
-
--- the rows of the table are sane: one computed test
-test : Mode → Bool
-test k =
-    both (leb 1 k.subsets) (both (leb k.subsets 3) (both (leb k.partition 6) (both (leb k.rotation 2) (both (leb k.selection 1) (both (leb (k.own + k.shared) 1)
-    (both (leb (k.colour + (k.own + k.shared)) 8) (both (leb (k.alpha + (k.own + k.shared)) 8)
-    (both (leb 2 k.index) (both (leb k.index 4) (both (leb k.second 4) (eqb k.second 0 || leb 2 k.second)))))))))))
-
-either : (s : ℕ) → T (eqb s 0 || leb 2 s) → (s ≡ 0 → ⊥) → 2 ≤ s
-either zero t n = absurd (n refl)
-either (suc zero) t n = absurd t
-either (suc (suc s)) t n = omega arith
-
-by_test : (k : Mode) → T (test k) → Sane k
-unfolding test
-by_test k t =
-    let t1 = both_right (leb 1 k.subsets) _ t in
-    let t2 = both_right (leb k.subsets 3) _ t1 in
-    let t3 = both_right (leb k.partition 6) _ t2 in
-    let t4 = both_right (leb k.rotation 2) _ t3 in
-    let t5 = both_right (leb k.selection 1) _ t4 in
-    let t6 = both_right (leb (k.own + k.shared) 1) _ t5 in
-    let t7 = both_right (leb (k.colour + (k.own + k.shared)) 8) _ t6 in
-    let t8 = both_right (leb (k.alpha + (k.own + k.shared)) 8) _ t7 in
-    let t9 = both_right (leb 2 k.index) _ t8 in
-    let t10 = both_right (leb k.index 4) _ t9 in
-    record {
-      some = leb→le _ _ (both_left (leb 1 k.subsets) _ t);
-      subsets = leb→le _ _ (both_left (leb k.subsets 3) _ t1);
-      partition = leb→le _ _ (both_left (leb k.partition 6) _ t2);
-      rotation = leb→le _ _ (both_left (leb k.rotation 2) _ t3);
-      selection = leb→le _ _ (both_left (leb k.selection 1) _ t4);
-      p = leb→le _ _ (both_left (leb (k.own + k.shared) 1) _ t5);
-      colour = leb→le _ _ (both_left (leb (k.colour + (k.own + k.shared)) 8) _ t6);
-      alpha = leb→le _ _ (both_left (leb (k.alpha + (k.own + k.shared)) 8) _ t7);
-      index = leb→le _ _ (both_left (leb 2 k.index) _ t8);
-      index_most = leb→le _ _ (both_left (leb k.index 4) _ t9);
-      second = leb→le _ _ (both_left (leb k.second 4) _ t10);
-      second_least = either k.second (both_right (leb k.second 4) _ t10);
-    }
-
-pub sane : (m : ℕ) → m < 8 → Sane (mode_at m)
-unfolding mode_table test
-sane m h = by_test (mode_at m) (below (λ m. test (mode_at m)) 8 tt m h)

@@ -11,7 +11,6 @@ use lib.Seq.{get_or-set_other}
 use lib.Pow.{shr-shr}
 use Rattle.laws.proofs.Filled.{fills}
 use Rattle.laws.proofs.Filling.{Filling, in_order_lem, stored_next}
-use Rattle.laws.proofs.Shift.{whole_past, whole_low}
 use Rattle.bc7.specs.rest.Whole.{field_of, width_by, passed_by}
 
 -- nothing but 0
@@ -20,41 +19,34 @@ blank zero k = refl
 blank (suc n) zero = refl
 blank (suc n) (suc k) = blank n k
 
--- i of the fields of the number v are read, of b bits each, and the two words hold what is left
-pub record Several (v count b lo hi : ℕ) (out : List ℕ) (i : ℕ) : Type 0 where
+-- i of the fields of the number v are read, of b bits each, and w is what is left
+pub record Several (v count b w : ℕ) (out : List ℕ) (i : ℕ) : Type 0 where
   pub turns : i ≤ count
   pub size : length out ≡ 24
   pub passed : (k : ℕ) → k < i → get_or out k 0 ≡ field_of v b k
   pub others : (k : ℕ) → i ≤ k → get_or out k 0 ≡ 0
-  pub left : hi * 2 ^ 64 + lo ≡ v / 2 ^ (i * b)
+  pub left : w ≡ v / 2 ^ (i * b)
 
 module _ (v count b : ℕ) where
-  pub begun : (lo hi : ℕ) → hi * 2 ^ 64 + lo ≡ v → Several v count b lo hi (replicate 24 0) 0
-  begun lo hi e =
+  pub begun : Several v count b v (replicate 24 0) 0
+  begun =
       record {
         turns = omega arith;
         size = refl;
         passed = λ k h. absurd (omega arith);
         others = λ k h. blank 24 k;
-        left = e ∙ sym (ap (λ (m : ℕ). v / 2 ^ m) (zero-mul b) ∙ div-one v);
+        left = sym (ap (λ (m : ℕ). v / 2 ^ m) (zero-mul b) ∙ div-one v);
       }
 
-  pub read : (lo hi : ℕ) (out : List ℕ) (i x y : ℕ) → Several v count b lo hi out i → i < count → count ≤ 24 → b ≤ 8 → x ≡ lo % 2 ^ b → y ≡ hi % 2 ^ b * 2 ^ (64 - b) + lo / 2 ^ b
-      → Several v count b y (hi / 2 ^ b) (set out i x) (i + 1)
-  read lo hi out i x y p h c l e f =
-      let s : b < 64 = omega arith in
+  pub read : (w w' : ℕ) (out : List ℕ) (i x : ℕ) → Several v count b w out i → i < count → count ≤ 24 → x ≡ w % 2 ^ b → w' ≡ w / 2 ^ b → Several v count b w' (set out i x) (i + 1)
+  read w w' out i x p h c e f =
       let n : i * b + b ≡ (i + 1) * b = sym (add-mul i 1 b ∙ ap (λ (m : ℕ). i * b + m) (one-mul b)) in
       record {
         turns = omega arith;
         size = length-set out i x ∙ p.size;
-        passed = fills (field_of v b) 0 out i x (omega (arith, p.size)) p.passed (e ∙ sym (whole_low hi lo b s) ∙ ap (λ (m : ℕ). m % 2 ^ b) p.left);
+        passed = fills (field_of v b) 0 out i x (omega (arith, p.size)) p.passed (e ∙ ap (λ (m : ℕ). m % 2 ^ b) p.left);
         others = λ k j. get_or-set_other out i k x 0 (λ q. omega arith) ∙ p.others k (omega arith);
-        left =
-            ap (λ (m : ℕ). hi / 2 ^ b * 2 ^ 64 + m) f
-            ∙ whole_past hi lo b s
-            ∙ ap (λ (m : ℕ). m / 2 ^ b) p.left
-            ∙ shr-shr v (i * b) b
-            ∙ ap (λ (m : ℕ). v / 2 ^ m) n;
+        left = f ∙ ap (λ (m : ℕ). m / 2 ^ b) p.left ∙ shr-shr v (i * b) b ∙ ap (λ (m : ℕ). v / 2 ^ m) n;
       }
 
 -- index i of the number v

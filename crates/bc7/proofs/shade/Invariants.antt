@@ -1,6 +1,6 @@
--- The invariant and the measure of the loop of `bc7::shade`.
+-- The invariant of the loop of `bc7::shade`.
 use mathlib.Core.List.{List}
-use Prim.Native.Nat.{ℕ, ◌-◌, ◌*◌, ◌/◌, ◌%◌, ◌^◌}
+use Prim.Native.Nat.{ℕ, ◌*◌, ◌/◌, ◌%◌, ◌^◌}
 use lib.ListN.{get_or}
 use Rattle.rules.specs.Bc7.{rotated}
 use Rattle.laws.proofs.Filling.{Filling, in_order_lem}
@@ -14,6 +14,3 @@ shade_of t layout colour alpha red green blue clear i =
 
 abbrev pub invariant-loop-i : goal.invariant-loop-i
 invariant-loop-i l = Filling in_order_lem (shade_of l.t l.layout l.colour l.alpha l.red l.green l.blue l.clear) 0 16 l.i l.out
-
-abbrev pub decreases-loop-i : goal.decreases-loop-i
-decreases-loop-i l = 16 - l.i

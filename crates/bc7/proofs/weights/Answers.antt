@@ -14,14 +14,12 @@ use Rattle.bc7.specs.rest.Whole.{passed_by, width_by}
 use Rattle.bc7.proofs.Steps.{each}
 use Rattle.bc7.proofs.weights.Goals as goal
 
-pub weigh-requires : goal.weigh-requires
-weigh-requires c =
-    let a = c.args in record {
-      le_n = c.requires;
-      by_index = λ k. subst (λ (l : List ℕ). get_or l k 0 < 16) (sym c.indices.ensures)
-          (each (λ x. x < 16) (λ i. a.v / 2 ^ passed_by a.b a.mask i % 2 ^ width_by a.b a.mask i) 16
-          (λ i h. lt_of_lt_of_le (mod-lt (a.v / 2 ^ passed_by a.b a.mask i) (pow_pos (width_by a.b a.mask i))) (pow_mono {j = 4} (omega arith))) (lit< tt) k);
-    }
+pub weigh-requires-clause-by_index : goal.weigh-requires-clause-by_index
+weigh-requires-clause-by_index c =
+    let a = c.args in
+    λ k. subst (λ (l : List ℕ). get_or l k 0 < 16) (sym c.indices.ensures)
+    (each (λ x. x < 16) (λ i. a.v / 2 ^ passed_by a.b a.mask i % 2 ^ width_by a.b a.mask i) 16
+    (λ i h. lt_of_lt_of_le (mod-lt (a.v / 2 ^ passed_by a.b a.mask i) (pow_pos (width_by a.b a.mask i))) (pow_mono {j = 4} (omega arith))) (lit< tt) k)
 
 pub returns : goal.returns
 returns c =

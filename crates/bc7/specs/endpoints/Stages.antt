@@ -1,27 +1,12 @@
 -- What each stage of reading a block has found, in the words of the definition.
 -- Assumes nothing.
-use Rattle.std.specs.Prelude.{◌≡◌, ℕ, ◌+◌, ◌*◌, ◌/◌, ◌^◌, ◌<◌, ◌≤◌, get_or}
+use Rattle.std.specs.Prelude.{◌≡◌, ℕ, ◌+◌, ◌*◌, ◌/◌, ◌^◌, ◌<◌, get_or}
 use Rattle.rules.specs.Bc7.{rotation_place, selection_place, colour_place, index_place, colour_end, alpha_end}
 use Rattle.rules.specs.Bits.{field}
 use Rattle.rules.specs.declared.Mode.{Mode}
 use Rattle.bc7.specs.rest.Whole.{whole}
 use Rattle.bc7.specs.declared.endpoints.Front.{Front}
 use Rattle.bc7.specs.declared.endpoints.Ends.{Ends}
-
--- the bounds of a row
-pub record Sane (k : Mode) : Type 0 where
-  pub some : 1 ≤ k.subsets
-  pub subsets : k.subsets ≤ 3
-  pub partition : k.partition ≤ 6
-  pub rotation : k.rotation ≤ 2
-  pub selection : k.selection ≤ 1
-  pub p : k.own + k.shared ≤ 1
-  pub colour : k.colour + (k.own + k.shared) ≤ 8
-  pub alpha : k.alpha + (k.own + k.shared) ≤ 8
-  pub index : 2 ≤ k.index
-  pub index_most : k.index ≤ 4
-  pub second : k.second ≤ 4
-  pub second_least : (k.second ≡ 0 → ⊥) → 2 ≤ k.second
 
 -- the fields in front of the endpoints are read, of the block d of mode m
 pub record Fronted (d m : ℕ) (k : Mode) (h : Front) : Type 0 where

@@ -1,6 +1,8 @@
 -- `blocks::run` meets its contract, format by format: each has a loop of its own.
 -- Assumes nothing.
 use Rattle.rules.specs.Channels.{rgba8_pixel}
+use Rattle.rules.specs.Desktop.{bc2_pixel, bc3_pixel}
+use Rattle.rules.specs.Bc7.{bc7_pixel}
 use Rattle.rules.specs.Formats.{size_of, shows_of}
 use Rattle.blocks.proofs.Formats.{enough, shown}
 use Rattle.blocks.proofs.run.Goals as goal
@@ -45,17 +47,17 @@ pub run_bc1-requires-in-Bc1Alpha : goal.run_bc1-requires-in-Bc1Alpha
 unfolding size_of
 run_bc1-requires-in-Bc1Alpha c = (enough c.args.n c.in-Bc1Alpha.is c.requires.0, c.requires.1)
 
-pub run_bc3-requires : goal.run_bc3-requires
+pub run_blocks-requires-clause-whole : goal.run_blocks-requires-clause-whole
 unfolding size_of
-run_bc3-requires c = (enough c.args.n c.in-Bc3.is c.requires.0, c.requires.1)
+run_blocks-requires-clause-whole c = (enough c.args.n c.in-Bc3.is c.requires.0, c.requires.1)
 
-pub run_bc7-requires : goal.run_bc7-requires
+pub run_blocks-requires-in-Bc7-clause-whole : goal.run_blocks-requires-in-Bc7-clause-whole
 unfolding size_of
-run_bc7-requires c = (enough c.args.n c.in-Bc7.is c.requires.0, c.requires.1)
+run_blocks-requires-in-Bc7-clause-whole c = (enough c.args.n c.in-Bc7.is c.requires.0, c.requires.1)
 
-pub run_bc2-requires : goal.run_bc2-requires
+pub run_blocks-requires-in-Bc2-clause-whole : goal.run_blocks-requires-in-Bc2-clause-whole
 unfolding size_of
-run_bc2-requires c = (enough c.args.n c.in-Bc2.is c.requires.0, c.requires.1)
+run_blocks-requires-in-Bc2-clause-whole c = (enough c.args.n c.in-Bc2.is c.requires.0, c.requires.1)
 
 pub run_bc4-requires : goal.run_bc4-requires
 unfolding size_of
@@ -137,19 +139,19 @@ pub returns-in-Bc3 : goal.returns-in-Bc3
 unfolding shows_of size_of
 returns-in-Bc3 c =
     let a = c.args in
-    shown a.«data».now a.pic a.bx a.by a.n a.image.now _ c.in-Bc3.is c.run_bc3.ensures
+    shown a.«data».now a.pic a.bx a.by a.n a.image.now _ c.in-Bc3.is (c.run_blocks.ensures bc3_pixel (λ d px h e. e))
 
 pub returns-in-Bc7 : goal.returns-in-Bc7
 unfolding shows_of size_of
 returns-in-Bc7 c =
     let a = c.args in
-    shown a.«data».now a.pic a.bx a.by a.n a.image.now _ c.in-Bc7.is c.run_bc7.ensures
+    shown a.«data».now a.pic a.bx a.by a.n a.image.now _ c.in-Bc7.is (c.run_blocks-in-Bc7.ensures bc7_pixel (λ d px h e. e))
 
 pub returns-in-Bc2 : goal.returns-in-Bc2
 unfolding shows_of size_of
 returns-in-Bc2 c =
     let a = c.args in
-    shown a.«data».now a.pic a.bx a.by a.n a.image.now _ c.in-Bc2.is c.run_bc2.ensures
+    shown a.«data».now a.pic a.bx a.by a.n a.image.now _ c.in-Bc2.is (c.run_blocks-in-Bc2.ensures bc2_pixel (λ d px h e. e))
 
 pub returns-in-Bc4 : goal.returns-in-Bc4
 unfolding shows_of size_of

@@ -1,19 +1,16 @@
 -- The state in the two arrays: what starting writes is the fresh one, and what a piece writes is the one after it.
 -- Assumes nothing.
-use mathlib.Core.Path.{◌≡◌, ◌∙◌, refl, sym, ap, subst}
-use mathlib.Core.Bool.{Bool, true, false, cond}
+use mathlib.Core.Path.{◌≡◌, ◌∙◌, refl, ap}
 use mathlib.Core.List.{List, [], ◌∷◌}
 use Prim.Native.Nat.{ℕ}
-use Rattle.rules.specs.Answers.{accepts}
-use Rattle.rules.specs.Pieces.{after, piece_verdict, Starts, Takes}
+use Rattle.rules.specs.Pieces.{Starts}
 use Rattle.rules.specs.FileFormats.{format_at_lem, format_number}
 use Rattle.rules.specs.declared.Format.{Format}
 use Rattle.rules.specs.declared.Format.TheVariants.{Etc1, Etc2Rgb, Etc2Rgba1, Etc2Rgba8, EacR, EacRSigned, EacRg, EacRgSigned, Bc1, Bc1Alpha, Bc3, Bc7, Bc2, Bc4, Bc4Signed, Bc5, Bc5Signed}
 use Rattle.rules.specs.declared.Picture.{Picture}
 use Rattle.rules.specs.declared.Progress.{Progress}
 use Rattle.rules.specs.declared.Started.{Started}
-use Rattle.rules.specs.declared.Taken.{Taken}
-use Rattle.capi.specs.pieces_lent.Lent.{state_in_lem, with_taken, StartLent, PieceLent}
+use Rattle.capi.specs.pieces_lent.Lent.{StartLent}
 
 -- each format is that of its number
 numbered : (f : Format) → format_at_lem (format_number f) ≡ f
@@ -51,29 +48,3 @@ begun f p n m t a e =
   where
     make : Format → List ℕ → Progress
     make g k = record { format = g; picture = p; taken = 0; kept = k }
-
--- a piece changes neither the format nor the description
-abbrev with : Progress → ℕ → List ℕ → Progress
-with p t k = record { format = p.format; picture = p.picture; taken = t; kept = k }
-
-stays : (p q : Progress) (e : List ℕ) (b : Bool) → q ≡ cond b (after p e) p → with p q.taken q.kept ≡ q
-stays p q e true h = ap (λ (x : Progress). with p x.taken x.kept) h ∙ sym h
-stays p q e false h = ap (λ (x : Progress). with p x.taken x.kept) h ∙ sym h
-
-pub carried : (numbers kept e image : List ℕ) (p : Progress) (r : Taken) (new : List ℕ)
-    → p ≡ state_in_lem numbers kept → Takes p e image r new
-    → PieceLent numbers kept e image r.answer (with_taken numbers r.progress.taken) r.progress.kept r.painted r.unused new
-carried numbers kept e image q r new h u =
-    let p = state_in_lem numbers kept in
-    let t = subst (λ (x : Progress). Takes x e image r new) h u in
-    record {
-      takes =
-          record {
-            says = t.says;
-            state = stays p r.progress e (accepts (piece_verdict p image)) t.state ∙ t.state;
-            painted = t.painted;
-            unused = t.unused;
-            leaves = t.leaves;
-          };
-      only = refl;
-    }

@@ -1,28 +1,20 @@
 -- `capi::yalivucu_census_etc2_rgba1` meets its contract: a refusal writes nothing, and the counts are laid into the room.
--- Assumes nothing.
-use mathlib.Core.Path.{◌∙◌, refl, sym, ap}
-use Prim.Native.Nat.{◌<◌}
-use lib.Dec.{lit<}
+use mathlib.Core.Path.{◌∙◌, sym, ap}
 use Rattle.rules.specs.Places.{sized}
 use Rattle.rules.specs.Census.{rgba1_tests, rgba1_said}
-use Rattle.rules.specs.declared.Answer.TheVariants.{TooLarge, ShortData}
 use Rattle.capi.proofs.Counted.{census_refused, census_lays}
 use Rattle.capi.proofs.yalivucu_census_etc2_rgba1.Goals as goal
 
-pub returns-in-TooLarge : goal.returns-in-TooLarge
-returns-in-TooLarge c =
+-- Assumes nothing.
+
+pub returns-in-Err : goal.returns-in-Err
+returns-in-Err c =
     let a = c.args in
     census_refused rgba1_tests a.«data».now (sized a.width a.height) a.counts.now
-    TooLarge 1 refl (lit< tt) (sym (ap rgba1_said c.in-TooLarge.is) ∙ c.census_etc2_rgba1.ensures) refl
+    _ _ (sym (ap rgba1_said c.in-Err.is) ∙ c.census_etc2_rgba1.ensures) c.refusal_number.ensures
 
-pub returns-in-ShortData : goal.returns-in-ShortData
-returns-in-ShortData c =
-    let a = c.args in
-    census_refused rgba1_tests a.«data».now (sized a.width a.height) a.counts.now
-    ShortData 2 refl (lit< tt) (sym (ap rgba1_said c.in-ShortData.is) ∙ c.census_etc2_rgba1.ensures) refl
-
-pub returns-in-Counted : goal.returns-in-Counted
-returns-in-Counted c =
+pub returns-in-Ok : goal.returns-in-Ok
+returns-in-Ok c =
     let a = c.args in
     census_lays rgba1_tests a.«data».now (sized a.width a.height) a.counts.now
-    _ (sym (ap rgba1_said c.in-Counted.is) ∙ c.census_etc2_rgba1.ensures) c.lay.result _ c.lay.ensures
+    _ (sym (ap rgba1_said c.in-Ok.is) ∙ c.census_etc2_rgba1.ensures) c.lay.result _ c.lay.ensures

@@ -2,7 +2,7 @@
 -- Assumes nothing.
 use Rattle.std.specs.Prelude.{◌≡◌, ℕ, get_or}
 use Rattle.rules.specs.Answers.{said}
-use Rattle.rules.specs.declared.Answer.{Answer}
+use Rattle.rules.specs.Answers.{Answer}
 
 -- the number of an answer, the first of what it says on paper
 abbrev pub answer_number : Answer → ℕ

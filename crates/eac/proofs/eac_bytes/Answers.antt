@@ -6,9 +6,6 @@ use Rattle.eac.specs.Eights.{number_at}
 use Rattle.eac.proofs.Bytes.{picked_at}
 use Rattle.eac.proofs.eac_bytes.Goals as goal
 
-pub picked-requires : goal.picked-requires
-picked-requires c = (c.requires.0, λ j h. omega (arith, (c.requires.1 j h).1))
-
 pub widened-requires : goal.widened-requires
 widened-requires c =
     let pick : (k : ℕ) → k < 16 → get_or c.picked.result k (pos 0) ≡ get_or c.args.eight (number_at c.args.d.now k) (pos 0) =

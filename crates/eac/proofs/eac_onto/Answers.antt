@@ -1,48 +1,22 @@
 -- Turn i stores pixel i, with the byte of its place times the channel's unit in it.
 -- Assumes nothing.
-use Rattle.std.proofs.Common.{◌≡◌, ℕ, ◌*◌, Bool, get_or, pos, sym, ap, ◌∙◌, arith, rules}
+use Rattle.std.proofs.Common.{◌≡◌, ℕ, ◌*◌, Bool, get_or, pos, ap, ◌∙◌, arith}
 use lib.Bits.{bit_or}
-use Rattle.rules.specs.Notation.{build, byte}
-use Rattle.rules.specs.Whole.{middle}
-use Rattle.laws.proofs.Filling.{in_order_lem, begun, stored_next, filled_all}
+use Rattle.rules.specs.Notation.{build}
+use Rattle.laws.proofs.Filling.{stored_next, filled_all}
 use Rattle.laws.proofs.Signed.{times_le}
 use Rattle.eac.specs.Eights.{eighth_of}
-use Rattle.eac.proofs.Bytes.{middle_held, eights_are_bytes, bytes_of, byte_at, byte-at, byte_small}
+use Rattle.eac.proofs.Bytes.{eights_are_bytes, bytes_of, byte_at, byte-at, byte_small}
 use Rattle.eac.proofs.eac_onto.Goals as goal
 
 alike : (p : ℕ) {b c u v : ℕ} → b ≡ c → u ≡ v → bit_or p (b * u) ≡ bit_or p (c * v)
 alike p e f = cc
-
-pub bounds-d-0 : goal.bounds-d-0
-bounds-d-0 c = omega arith
-
-pub eight_bytes-eight-requires : goal.eight_bytes-eight-requires
-eight_bytes-eight-requires c = record {
-  in_bounds = (c.requires.0, c.alpha_steps-table.ensures, c.span_of.ensures.1);
-  base_value = middle_held c.middle_of-base.result
-      (c.middle_of-base.ensures.0 ∙ ap (λ (t : Bool). middle t (byte c.args.d.now 0)) (sym c.span_of.ensures.0)) c.middle_of-base.ensures.1;
-}
 
 pub eac_bytes-bytes-requires : goal.eac_bytes-bytes-requires
 eac_bytes-bytes-requires c =
     let eight : c.eight_bytes-eight.result ≡ build 8 (λ j. pos (eighth_of c.args.signed c.args.d.now j)) =
     c.eight_bytes-eight.ensures ∙ ap (λ (t : Bool). build 8 (λ j. pos (eighth_of t c.args.d.now j))) c.span_of.ensures.0 in
     (c.requires.0, eights_are_bytes c.args.signed c.args.d.now c.eight_bytes-eight.result eight)
-
-pub loop-i-init : goal.loop-i-init
-loop-i-init c = begun in_order_lem _ 0 16 _ (search rules)
-
-pub offset_bounds-px-i : goal.offset_bounds-px-i
-offset_bounds-px-i c = omega arith
-
-pub bounds-px-i : goal.bounds-px-i
-bounds-px-i c = omega arith
-
-pub offset_bounds-bytes-i : goal.offset_bounds-bytes-i
-offset_bounds-bytes-i c = omega arith
-
-pub bounds-bytes-i : goal.bounds-bytes-i
-bounds-bytes-i c = omega arith
 
 pub overflow_mul-out : goal.overflow_mul-out
 overflow_mul-out c =
@@ -53,18 +27,6 @@ overflow_mul-out c =
     let u = c.unit_of-unit in
     let s = byte_small _ _ c.eac_bytes-bytes.result c.loop-i.i bytes (omega arith) in
     omega (arith, times_le (get_or c.eac_bytes-bytes.result c.loop-i.i 0) 255 u.result 0x1000000 (omega arith) (omega arith))
-
-pub offset_bounds-out-i : goal.offset_bounds-out-i
-offset_bounds-out-i c = omega arith
-
-pub bounds-out-i : goal.bounds-out-i
-bounds-out-i c = omega arith
-
-pub overflow_add-i : goal.overflow_add-i
-overflow_add-i c = omega arith
-
-pub loop-i-smaller : goal.loop-i-smaller
-loop-i-smaller c = omega arith
 
 pub loop-i-preserved : goal.loop-i-preserved
 loop-i-preserved c =

@@ -1,5 +1,5 @@
--- The invariant and the measure of the loop of `eac::eac_onto`.
-use Rattle.std.proofs.Common.{◌-◌, get_or}
+-- The invariant of the loop of `eac::eac_onto`.
+use Rattle.std.proofs.Common.{get_or}
 use Rattle.rules.specs.Channels.{or_channel}
 use Rattle.laws.proofs.Filling.{Filling, in_order_lem}
 use Rattle.eac.proofs.Bytes.{byte_at}
@@ -8,6 +8,3 @@ use Rattle.eac.proofs.eac_onto.Given as goal
 abbrev pub invariant-loop-i : goal.invariant-loop-i
 invariant-loop-i l =
     Filling in_order_lem (λ k. or_channel l.channel (get_or l.px k 0) (byte_at l.signed l.d k)) 0 16 l.i l.out
-
-abbrev pub decreases-loop-i : goal.decreases-loop-i
-decreases-loop-i l = 16 - l.i

@@ -19,7 +19,7 @@ narrowed-requires c =
     let pick : (k : ℕ) → k < 16 → get_or c.picked.result k (pos 0) ≡ whole_of c.args.span.signed c.args.d.now (number_at c.args.d.now k) = λ k h. let g = c.args in
     picks (whole_of g.span.signed g.d.now) g.d.now g.eight c.picked.result k c.requires.1 c.picked.ensures h in
     let g = c.args in
-    let u = c.requires.2.raised in (
+    let u = c.args.span.raised in (
       small_added g.span.signed g.span.up u,
       λ k h. (
         whole_raised g.span.signed g.d.now _ (number_at g.d.now k) g.span.up (pick k h) u,

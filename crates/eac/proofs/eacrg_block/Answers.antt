@@ -5,15 +5,8 @@ use Rattle.rules.specs.Notation.{build}
 use Rattle.rules.specs.Pixel.{word}
 use Rattle.rules.specs.Channels.{red_green_pixel}
 use Rattle.laws.proofs.Parts.{rest}
-use Rattle.eac.proofs.Bytes.{middle_held, eights_are_bytes, bytes_of, byte_at, byte_small}
+use Rattle.eac.proofs.Bytes.{eights_are_bytes, bytes_of, byte_at, byte_small}
 use Rattle.eac.proofs.eacrg_block.Goals as goal
-
-pub eight_bytes-green-requires : goal.eight_bytes-green-requires
-eight_bytes-green-requires c =
-    record {
-      in_bounds = (search rules, c.requires.1, c.requires.2);
-      base_value = middle_held c.middle_of-green_base.result c.middle_of-green_base.ensures.0 c.middle_of-green_base.ensures.1;
-    }
 
 pub eac_bytes-requires : goal.eac_bytes-requires
 eac_bytes-requires c =

@@ -8,7 +8,7 @@ use Rattle.eac.proofs.eight_bytes.Goals as goal
 pub eighths-requires : goal.eighths-requires
 eighths-requires c =
     let g = c.args in
-    let u = c.requires.in_bounds.2.raised in
+    let u = c.args.span.raised in
     let at = wholes_at g.span.signed g.d.now c.eight_wholes.result c.eight_wholes.ensures in (
       small_added g.span.signed g.span.up u,
       λ j h. (
@@ -22,4 +22,4 @@ returns c =
     let g = c.args in
     c.eighths.ensures
     ∙ build_same (pos 0) _ _ 8
-    (λ j h. ap pos (eighth g.span.signed g.d.now _ j g.span.up (wholes_at g.span.signed g.d.now c.eight_wholes.result c.eight_wholes.ensures j h) c.requires.in_bounds.2.raised))
+    (λ j h. ap pos (eighth g.span.signed g.d.now _ j g.span.up (wholes_at g.span.signed g.d.now c.eight_wholes.result c.eight_wholes.ensures j h) c.args.span.raised))

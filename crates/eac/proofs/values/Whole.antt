@@ -1,12 +1,12 @@
 -- Laws of whole values: how far they reach, the byte of each, and its sixteen bits.
 -- Assumes nothing.
-use Rattle.std.proofs.Common.{◌≡◌, ℕ, suc, ◌+◌, ◌-◌, ◌/◌, ◌%◌, ◌^◌, ◌<◌, Bool, true, false, T, List, ℤ, pos, negsuc, ◌+ℤ◌, ◌*ℤ◌, nat_abs, sym, refl, ap, ◌∙◌, arith, le-ltb, lt-ltb}
+use Rattle.std.proofs.Common.{◌≡◌, ℕ, suc, ◌+◌, ◌-◌, ◌/◌, ◌<◌, Bool, true, false, T, List, ℤ, pos, negsuc, ◌+ℤ◌, ◌*ℤ◌, nat_abs, sym, refl, ap, ◌∙◌, arith, le-ltb, lt-ltb}
 use native.Mathlib.Decide.{dec_lt}
-use lib.IntN.{+ℤ_assoc, +ℤ_comm, pos-ne-negsuc}
+use lib.IntN.{+ℤ_assoc, +ℤ_comm}
 use lib.Signed.{mag, non_neg}
 use Rattle.rules.specs.Notation.{byte, bits, minus, clamp}
 use Rattle.rules.specs.Channels.{signed_base, multiplier, alpha_step, eac_value, eac_byte}
-use Rattle.rules.specs.Whole.{least, most, between, middle, added, byte_from, sixteen, eac_whole_lem}
+use Rattle.rules.specs.Whole.{least, most, between, middle, added, byte_from, eac_whole_lem}
 use Rattle.laws.proofs.Signed.{neg, nat}
 
 -- what is clamped to a range, with as much added as makes its least 0: the number that it is, and that it is small
@@ -77,19 +77,3 @@ bytes_stay true d x y =
     ap (λ (z : ℤ). clamp 2047 z / 8) (later m (pos 1023) s) ∙ byte_signed (m +ℤ s)
 bytes_stay false d x y =
     byte_unsigned (middle false (byte d 0) +ℤ pos (multiplier (bits 7 4 (byte d 1))) *ℤ alpha_step d x y)
-
--- what stays of a number when as much is taken from it as was added, in sixteen bits
-pub taken_back : (r a up : ℕ) (v : ℤ) → r < 2 ^ 16 → up < 2048 → mag v < 2048 → pos a ≡ pos up +ℤ v → (r + up) % 2 ^ 16 ≡ a → r ≡ sixteen v
-taken_back r a up (pos n) h i j e f = let q : a ≡ up + n = ap nat_abs e in omega arith
-taken_back r a up (negsuc n) h i j e f =
-    elim (dec_lt up (suc n)) [
-      | yes l ↦ absurd (pos-ne-negsuc a (suc n - suc up) (e ∙ neg up (suc n) l))
-      | no l ↦
-          let q : a ≡ up - suc n = ap nat_abs (e ∙ nat up (suc n) (omega (arith, l))) in
-          omega (arith, l)
-    ]
-
--- a number that is not negative
-pub as_natural : (z : ℤ) (b : ℕ) → T (non_neg z) → mag z < b → (pos (nat_abs z) ≡ z) × (nat_abs z < b)
-as_natural (pos n) b t h = (refl, h)
-as_natural (negsuc n) b t h = absurd t

@@ -2,7 +2,7 @@
 -- Assumes nothing.
 use Rattle.std.specs.Prelude.{◌≡◌}
 use Rattle.rules.specs.Whole.{least, most, added}
-use Rattle.eac.specs.declared.values.Span.{Span}
+use Rattle.eac.specs.declared.span.Span.{Span}
 
 pub record Spans (span : Span) : Type 0 where
   pub from : span.low ≡ least span.signed

@@ -1,37 +1,26 @@
 -- From eight colours to the pixels of ETC1, RGB and RGBA1.
 -- Assumes nothing.
-use Rattle.std.proofs.Common.{◌≡◌, ℕ, zero, suc, ◌/◌, ◌%◌, ◌<◌, Bool, true, false, cond, T as Is, eqb, List, [], ◌∷◌, get_or, refl, ap, ◌∙◌, subst, arith}
-use types.Run.{OneOf, miss}
-use denote.Enum.Declared
+use Rattle.std.proofs.Common.{◌≡◌, ℕ, zero, suc, ◌/◌, ◌%◌, ◌<◌, Bool, true, false, cond, T as Is, eqb, List, [], get_or, refl, ap, ◌∙◌, subst, arith}
 use Rattle.rules.specs.Notation.{build}
 use Rattle.rules.specs.Places.{tile}
 use Rattle.rules.specs.Colour.{individual, wrapping, differential, code, half, index, differs, kind_by_sums_lem, kind_of, half_colours, steps_of}
 use Rattle.rules.specs.Modes.{planar_bases_lem, planar_pixel_lem, is_planar, indexed, colours_of_lem, clear_steps, etc1_pixel, rgb_pixel, rgba1_pixel}
 use Rattle.rules.specs.declared.Kind.{Kind}
 use Rattle.rules.specs.declared.Kind.TheVariants.{Individual, Differential, T, H, Planar}
-use Rattle.rules.specs.contracts.Kind.{the_type}
 use Rattle.laws.proofs.Filled.{build_same}
 use Rattle.laws.proofs.Range.{fair, fair_by_sums}
 use Rattle.etc_colour.specs.shade.Pick.{eight, taken}
 use Rattle.etc_colour.proofs.shade.Pick.{picks}
 use Rattle.etc_colour.specs.shade.Tone.{punched}
-use Rattle.etc_colour.specs.etc2.Colours.{steps_where, half_bases, halves_colours, made_colours, made_pixel, etc1_kind_lem, kind_in_lem, opaque_in_lem, colour_pixel}
+use Rattle.etc_colour.specs.etc2.Colours.{steps_where, halves_colours, made_colours, made_pixel, etc1_kind_lem, kind_in_lem, opaque_in_lem, colour_pixel}
 
 -- a kind that is not planar
-pub not_planar : (k : Kind) → OneOf (0 ∷ 1 ∷ 2 ∷ 3 ∷ []) (Declared.tag_of the_type k) → is_planar k ≡ false
-not_planar Individual t = refl
-not_planar Differential t = refl
-not_planar T t = refl
-not_planar H t = refl
-not_planar Planar t = absurd (miss (0 ∷ 1 ∷ 2 ∷ 3 ∷ []) 4 tt t)
-
--- a kind that is not individual has the base colours of a difference
-pub not_individual : (k : Kind) (d : List ℕ) → OneOf (1 ∷ 2 ∷ 3 ∷ 4 ∷ []) (Declared.tag_of the_type k) → half_bases k d ≡ wrapping d
-not_individual Individual d t = absurd (miss (1 ∷ 2 ∷ 3 ∷ 4 ∷ []) 0 tt t)
-not_individual Differential d t = refl
-not_individual T d t = refl
-not_individual H d t = refl
-not_individual Planar d t = refl
+pub not_planar : (k : Kind) → (k ≡ Planar → ⊥) → is_planar k ≡ false
+not_planar Individual n = refl
+not_planar Differential n = refl
+not_planar T n = refl
+not_planar H n = refl
+not_planar Planar n = absurd (n refl)
 
 -- the colours that the code makes are the block's
 made : (steps : ℕ → List ℕ) (k : Kind) (d : List ℕ) (h : ℕ) → (k ≡ Differential → wrapping d ≡ differential d) → made_colours steps k d h ≡ colours_of_lem steps k d h
@@ -104,12 +93,11 @@ picked k opaque d p n e =
     (λ j. made_pixel k opaque d (j % 4) (j / 4)) 16 (λ j h. rw n refl)
 
 -- the colours of two halves, where the kind is neither T nor H
-pub of_halves : (k : Kind) (opaque : Bool) (d : List ℕ) → OneOf (0 ∷ 1 ∷ 3 ∷ 4 ∷ []) (Declared.tag_of the_type k) → OneOf (0 ∷ 1 ∷ 2 ∷ 4 ∷ []) (Declared.tag_of the_type k)
-    → is_planar k ≡ false
+pub of_halves : (k : Kind) (opaque : Bool) (d : List ℕ) → (k ≡ T → ⊥) → (k ≡ H → ⊥) → is_planar k ≡ false
     → eight (halves_colours opaque k d) ≡ eight (λ h. punched opaque (made_colours (steps_where opaque) k d h))
 unfolding made_colours
 of_halves Individual opaque d s t n = refl
 of_halves Differential opaque d s t n = refl
-of_halves T opaque d s t n = absurd (miss (0 ∷ 1 ∷ 3 ∷ 4 ∷ []) 2 tt s)
-of_halves H opaque d s t n = absurd (miss (0 ∷ 1 ∷ 2 ∷ 4 ∷ []) 3 tt t)
+of_halves T opaque d s t n = absurd (s refl)
+of_halves H opaque d s t n = absurd (t refl)
 of_halves Planar opaque d s t n = absurd (subst Is n tt)

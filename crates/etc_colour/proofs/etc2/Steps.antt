@@ -1,7 +1,8 @@
 -- The steps of a code, in a block that is opaque and in one that is not, and the colours that they make.
 -- Assumes nothing.
-use Rattle.std.proofs.Common.{◌≡◌, ℕ, ◌+◌, ◌<◌, Bool, true, false, cond, List, [], get_or, ℤ, pos, refl, zero-add, lit<}
+use Rattle.std.proofs.Common.{◌≡◌, ℕ, ◌+◌, ◌*◌, ◌<◌, Bool, true, false, cond, List, [], get_or, ℤ, pos, refl, zero-add, lit<}
 use lib.Signed.{mag}
+use Rattle.std.specs.Int.{from_bool}
 use Rattle.laws.proofs.Every.{below}
 use Rattle.laws.proofs.Signed.{small, small_at}
 use Rattle.rules.specs.Colour.{steps_of, half_colours}
@@ -22,6 +23,11 @@ row_where opaque code = cond opaque (four_steps (steps_of code)) (clear_four (st
 pub row_at : (opaque : Bool) (t : List (List ℤ)) (code : ℕ) → t ≡ signed_steps → code < 8 → get_or t (cond opaque 8 0 + code) [] ≡ row_where opaque code
 row_at true t code e h = steps_at t e code h
 row_at false t code e h = rw (zero-add code) (clear_at t e code h)
+
+-- the row that the code reads, of a number that is 1 where the block is opaque
+pub row_read : (opaque : Bool) (t : List (List ℤ)) (n code : ℕ) → n ≡ from_bool opaque → t ≡ signed_steps → code < 8 → get_or t (8 * n + code) [] ≡ row_where opaque code
+row_read true t n code e f h = rw e (row_at true t code f h)
+row_read false t n code e f h = rw e (row_at false t code f h)
 
 small_clear : (code k : ℕ) → code < 8 → mag (get_or (clear_four (steps_of code)) k (pos 0)) < 1024
 small_clear code k h =

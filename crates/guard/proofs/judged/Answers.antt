@@ -11,6 +11,3 @@ pub returns-in-Etc1 : goal.returns-in-Etc1
 returns-in-Etc1 c =
     rw c.in-Etc1.is
     (c.in_range.ensures ∙ ap (λ (b : Bool). cond b (4 ∷ c.args.block ∷ []) (0 ∷ [])) (ap strange c.kind_of.ensures ∙ sym (exactly _)))
-
-pub returns-in-Opaque : goal.returns-in-Opaque
-returns-in-Opaque c = rw c.in-Opaque.is c.opaque.ensures

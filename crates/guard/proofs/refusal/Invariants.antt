@@ -5,6 +5,3 @@ use Rattle.guard.proofs.refusal.Given as goal
 
 abbrev pub invariant-loop-b : goal.invariant-loop-b
 invariant-loop-b l = Clear l.viewer l.«data» l.from l.n l.b
-
-abbrev pub decreases-loop-b : goal.decreases-loop-b
-decreases-loop-b l = l.n - l.b

@@ -1,7 +1,7 @@
 -- The invariant and the measure of the loop of `older::first_wrong`.
 use mathlib.Core.Bool.{Bool}
 use mathlib.Core.List.{List}
-use Prim.Native.Nat.{ℕ, ◌-◌}
+use Prim.Native.Nat.{ℕ}
 use lib.ListN.{get_or}
 use Rattle.guard.proofs.Scan.{Scanned}
 use Rattle.rules.specs.Older.{wrong}
@@ -13,6 +13,3 @@ test old new columns rows = wrong (clipped columns rows) (λ (i : ℕ). get_or o
 
 abbrev pub invariant-loop-k : goal.invariant-loop-k
 invariant-loop-k l = Scanned (test l.old l.new l.columns l.rows) 16 l.k
-
-abbrev pub decreases-loop-k : goal.decreases-loop-k
-decreases-loop-k l = 16 - l.k

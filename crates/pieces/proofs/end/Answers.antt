@@ -1,14 +1,10 @@
 -- `pieces::end` meets its contract: it makes the checks of a picture whose image is long enough, over the size of its format's blocks.
 -- Assumes nothing.
-use mathlib.Core.Path.{◌∙◌, ap}
-use Prim.Native.Nat.{ℕ}
+use Rattle.std.proofs.Common.{◌∙◌, ap, ℕ}
 use Rattle.rules.specs.Answers.{verdict, picture_checks}
 use Rattle.rules.specs.Pieces.{size}
 use Rattle.pieces.proofs.Order.{without_image}
 use Rattle.pieces.proofs.end.Goals as goal
-
-pub verify-requires : goal.verify-requires
-verify-requires c = c.size.ensures.1
 
 pub returns : goal.returns
 returns c =

@@ -10,7 +10,7 @@ use native.Mathlib.Numerals.{add-one}
 use native.Mathlib.Decide.{dec_lt, ℕ_discrete}
 use borrow.Author.Tests.{lt-ltb, le-ltb}
 use lib.Dec.{ltb}
-use lib.ListN.{length, get_or, take, drop, set, length-set, length-take, length-drop, length-append, get_or-append, get_or-eq_default}
+use lib.ListN.{length, get_or, take, drop, set, length-set, length-take, length-drop, length-append, get_or-append}
 use lib.Seq.{ext_get_or, length-take-le, get_or-take, get_or-drop, get_or-append-add, get_or-set_same, get_or-set_other}
 use Rattle.rules.specs.Notation.{build, byte}
 use Rattle.rules.specs.Places.{bytes_of}
@@ -21,7 +21,7 @@ module _ (kept e : List ℕ) (h : ℕ) (long : h ≤ length kept) where
   size : length (take h kept) ≡ h
   size = length-take-le h kept long
 
-  -- a byte of the kept ones, one of the new ones, and none
+  -- a byte of the kept ones, and one of the new ones
   pub low : (i : ℕ) → i < h → get_or kept i 0 ≡ byte (take h kept ++ e) i
   low i q = sym (get_or-append (take h kept) e 0 i (omega (arith, size)) ∙ get_or-take h kept i 0 q)
 
@@ -29,9 +29,6 @@ module _ (kept e : List ℕ) (h : ℕ) (long : h ≤ length kept) where
   high i q =
       let z : i ≡ length (take h kept) + (i - h) = omega (arith, size) in
       sym (ap (λ (j : ℕ). get_or (take h kept ++ e) j 0) z ∙ get_or-append-add (take h kept) e (i - h) 0)
-
-  pub past : (i : ℕ) → h ≤ i → length e ≤ i - h → 0 ≡ byte (take h kept ++ e) i
-  past i q r = sym (get_or-eq_default e 0 r) ∙ high i q
 
 -- one byte more of those that are kept for the next piece
 module _ (l : List ℕ) (at i : ℕ) where

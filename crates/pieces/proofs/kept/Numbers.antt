@@ -3,7 +3,7 @@
 use mathlib.Core.Path.{◌≡◌, ◌∙◌, ap}
 use Prim.Native.Nat.{ℕ, suc, ◌+◌, ◌-◌, ◌*◌, ◌/◌, ◌%◌, ◌<◌, ◌≤◌}
 use native.Mathlib.Omega.{arith}
-use native.Mathlib.Nat.{div-add-mod', div-mul-le_self, div-le_of_le-mul, le-div_iff_mul-le, mul_comm, mul-sub, mul-le-mul_right, suc-mul, zero-mul, zero-add}
+use native.Mathlib.Nat.{div-add-mod', div-mul-le_self, le-div_iff_mul-le, mul_comm, mul-sub, mul-le-mul_right, suc-mul}
 
 -- a difference of products
 pub sub_times : (a b s : ℕ) → (a - b) * s ≡ a * s - b * s
@@ -12,9 +12,6 @@ sub_times a b s = mul_comm (a - b) s ∙ mul-sub s a b ∙ ap (λ (x : ℕ). x -
 module _ (s B G L : ℕ) (some : 0 < s) (up : G ≤ L) (top : L ≤ B * s) where
   pub blocks_up : G / s ≤ L / s
   blocks_up = (le-div_iff_mul-le some).1 (omega (arith, div-mul-le_self G s))
-
-  pub blocks_top : L / s ≤ B
-  blocks_top = div-le_of_le-mul s (omega (arith, mul_comm s B))
 
   -- the bytes that are at hand go to the new blocks, and the rest is kept
   pub shared : (L / s - G / s) * s + L % s ≡ G % s + (L - G)
@@ -28,6 +25,3 @@ module _ (s B G L : ℕ) (some : 0 < s) (up : G ≤ L) (top : L ≤ B * s) where
 -- a run of blocks is its first and those after it
 pub peel : (first last s : ℕ) → first < last → (last - first) * s ≡ (last - (first + 1)) * s + s
 peel first last s h = let e : last - first ≡ suc (last - (first + 1)) = omega arith in ap (λ (x : ℕ). x * s) e ∙ suc-mul (last - (first + 1)) s
-
-pub one_block : (first s : ℕ) → (first + 1 - first) * s ≡ s
-one_block first s = let e : first + 1 - first ≡ suc 0 = omega arith in ap (λ (x : ℕ). x * s) e ∙ suc-mul 0 s ∙ ap (λ (x : ℕ). x + s) (zero-mul s) ∙ zero-add s

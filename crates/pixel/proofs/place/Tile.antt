@@ -10,9 +10,9 @@ use lib.Dec.{T}
 use lib.ListN.{length, get_or, take, drop, length-take, length-drop}
 use Rattle.rules.specs.Places.{element, column, row, inside}
 use Rattle.rules.specs.declared.Picture.{Picture}
-use Rattle.laws.specs.Painted.{Painted}
+use Rattle.laws.specs.Painted.{PaintedOver}
 use Rattle.laws.proofs.Paint.{none, said, also, lent}
-use Rattle.pixel.specs.place.Tile.{InPiece, InTile, Room, number_in, shown, in_row}
+use Rattle.pixel.specs.place.Tile.{InPiece, InTile, Room, PaintsTile, number_in, shown, in_row}
 use Rattle.pixel.proofs.place.Grid.{column_at, row_at, inside_at, only, column_in, row_in, beside, reached_all}
 
 -- x in column bx of fours is bx * 4 and its place there
@@ -44,37 +44,39 @@ module _ (pic : Picture) where
         }
 
     -- row i of a tile, written through the piece
-    pub pieced : (t : List ℕ) (i m : ℕ) (old part : List ℕ) → Room pic (length old) → m ≡ n
-        → Painted (λ k. k < length (take m (drop (element pic (bx * 4) y) old))) (λ k. get_or t (i * 4 + k) 0) (take m (drop (element pic (bx * 4) y) old)) part
-        → Painted (InPiece pic bx y) (in_row pic t i) old (take (element pic (bx * 4) y) old ++ (part ++ drop m (drop (element pic (bx * 4) y) old)))
-    pieced t i m old part r q p =
+    pub pieced : {A : Type 0} {d : A} (t : List A) (i m : ℕ) (old part : List A) → Room pic (length old) → m ≡ n
+        → PaintedOver d (λ k. k < length (take m (drop (element pic (bx * 4) y) old))) (λ k. get_or t (i * 4 + k) d) (take m (drop (element pic (bx * 4) y) old)) part
+        → PaintedOver d (InPiece pic bx y) (in_row d pic t i) old (take (element pic (bx * 4) y) old ++ (part ++ drop m (drop (element pic (bx * 4) y) old)))
+    pieced {A} {d} t i m old part r q p =
         let o = enough (length old) r in
         let s : length (take m (drop (element pic (bx * 4) y) old)) ≡ n = simp (length-take, length-drop) (omega arith) in
         said _ _ _ _ old _ (lent _ _ (element pic (bx * 4) y) m old part (omega arith) p)
         (λ k z. let u = at k z in (omega arith, omega arith, omega arith))
         (λ k z. back r.fits k z.0 (omega (arith, z.1)))
-        (λ k z. let u = at k z in ap (λ (m : ℕ). get_or t (i * 4 + m) 0) (omega arith))
+        (λ k z. let u = at k z in ap (λ (m : ℕ). get_or t (i * 4 + m) d) (omega arith))
+
+  -- the end of a row piece, as the function has it that paints row i of a tile there
+  pub row_end : (bx y : ℕ) {i n m : ℕ} → (i < 4) × (y < pic.height) × (bx * 4 < pic.width) × (n ≡ shown pic.width bx) × Room pic m → y * pic.pitch + bx * 4 + n ≤ m
+  row_end bx y {i} {n} {m} r = enough bx y n r.2 r.3 r.1 m r.4
 
   -- the pixels of a tile that are painted with the first i rows of it
   abbrev pub First : ℕ → ℕ → ℕ → ℕ → Type 0
   First bx by i k = InTile pic bx by k × (row pic k < by * 4 + i)
 
   -- what holds before turn i of m: so many rows of the tile t have been painted, over old
-  abbrev pub Turned : ℕ → ℕ → ℕ → List ℕ → List ℕ → List ℕ → ℕ → Type 0
-  Turned bx by m t old new i = (i ≤ m) × Painted (First bx by i) (λ k. get_or t (number_in pic k) 0) old new
-
-  pub start : (bx by m : ℕ) (t l : List ℕ) → Turned bx by m t l l 0
-  start bx by m t l = (omega arith, none _ _ l (λ k z. omega (arith, z.1, z.0.down)))
+  abbrev pub Turned : {A : Type 0} → ℕ → ℕ → ℕ → List A → List A → List A → ℕ → Type 0
+  Turned bx by m t old new i = (i ≤ m) × ((d : _) → PaintedOver d (First bx by i) (λ k. get_or t (number_in pic k) d) old new)
 
   -- one turn
-  pub turn : (bx by i m : ℕ) (t old mid new : List ℕ) → i < m → m ≤ 4 → Turned bx by m t old mid i → Painted (InPiece pic bx (by * 4 + i)) (in_row pic t i) mid new → Turned bx by m t old new (i + 1)
+  pub turn : {A : Type 0} (bx by i m : ℕ) (t old mid new : List A) → i < m → m ≤ 4 → Turned bx by m t old mid i
+      → ((d : A) → PaintedOver d (InPiece pic bx (by * 4 + i)) (in_row d pic t i) mid new) → Turned bx by m t old new (i + 1)
   turn bx by i m t old mid new n f a b = (
     omega arith,
-    also (First bx by i) (InPiece pic bx (by * 4 + i)) (First bx by (i + 1)) (λ k. get_or t (number_in pic k) 0) old mid new a.1
-        (said _ _ (in_row pic t i) (λ k. get_or t (number_in pic k) 0) mid new b (λ k z. z) (λ k z. z)
-        (λ k z. let d = z.down in ap (λ (j : ℕ). get_or t (j * 4 + column pic k % 4) 0) (place (row pic k) d)))
+    λ d. also (First bx by i) (InPiece pic bx (by * 4 + i)) (First bx by (i + 1)) (λ k. get_or t (number_in pic k) d) old mid new (a.1 d)
+        (said _ _ (in_row d pic t i) (λ k. get_or t (number_in pic k) d) mid new (b d) (λ k z. z) (λ k z. z)
+        (λ k z. let q = z.down in ap (λ (j : ℕ). get_or t (j * 4 + column pic k % 4) d) (place (row pic k) q)))
         (λ k z. (z.0, omega (arith, z.1)))
-        (λ k z. let d = z.down in (record { within = z.within; across = z.across; down = omega arith }, omega arith))
+        (λ k z. let q = z.down in (record { within = z.within; across = z.across; down = omega arith }, omega arith))
         (λ k z.
         ⊎_elim (λ e. inr (record { within = z.0.within; across = z.0.across; down = e }))
         (λ l. inl ((z.0, l), λ o. omega (arith, o.down)))
@@ -85,10 +87,10 @@ module _ (pic : Picture) where
       place y e = omega arith
 
   -- after the last turn, the tile
-  pub whole : (bx by i m : ℕ) (t old new : List ℕ) → m ≡ shown pic.height by → m ≤ i → Turned bx by m t old new i → Painted (InTile pic bx by) (λ k. get_or t (number_in pic k) 0) old new
-  whole bx by i m t old new e h a =
-      said _ _ _ _ old new a.1 (λ k z. (z, omega (arith, row_in pic k z.within, z.down))) (λ k z. z.0) (λ k z. refl)
+  pub whole : {A : Type 0} (bx by i m : ℕ) (t old new : List A) → m ≡ shown pic.height by → m ≤ i → Turned bx by m t old new i → PaintsTile t pic bx by old new
+  whole bx by i m t old new e h a d =
+      said _ _ _ _ old new (a.1 d) (λ k z. (z, omega (arith, row_in pic k z.within, z.down))) (λ k z. z.0) (λ k z. refl)
 
   -- a tile beside the picture has no pixel
-  pub nothing : (bx by : ℕ) (v : ℕ → ℕ) (l : List ℕ) → pic.width ≤ bx * 4 → Painted (InTile pic bx by) v l l
-  nothing bx by v l o = none _ _ l (λ k z. omega (arith, column_in pic k z.within, z.across))
+  pub nothing : {A : Type 0} (bx by : ℕ) (t l : List A) → pic.width ≤ bx * 4 → PaintsTile t pic bx by l l
+  nothing bx by t l o d = none _ _ l (λ k z. omega (arith, column_in pic k z.within, z.across))

@@ -3,6 +3,7 @@
 use Rattle.std.specs.Prelude.{◌≡◌, List, ℕ, ◌+◌, ◌-◌, ◌*◌, ◌/◌, ◌%◌, ◌<◌, ◌≤◌, min, T, get_or}
 use Rattle.rules.specs.Places.{column, row, inside}
 use Rattle.rules.specs.declared.Picture.{Picture}
+use Rattle.laws.specs.Painted.{PaintedOver}
 
 -- element k is a pixel of row y, in the column bx of tiles: these are the row piece
 pub record InPiece (pic : Picture) (bx y k : ℕ) : Type 0 where
@@ -20,9 +21,13 @@ pub record InTile (pic : Picture) (bx by k : ℕ) : Type 0 where
 abbrev pub number_in : Picture → ℕ → ℕ
 number_in pic k = row pic k % 4 * 4 + column pic k % 4
 
--- and what row i of a tile holds for it
-abbrev pub in_row : Picture → List ℕ → ℕ → ℕ → ℕ
-in_row pic tile i k = get_or tile (i * 4 + column pic k % 4) 0
+-- and what row i of a tile holds for it, where z stands for what a tile has past its end
+abbrev pub in_row : {A : Type 0} → A → Picture → List A → ℕ → ℕ → A
+in_row z pic tile i k = get_or tile (i * 4 + column pic k % 4) z
+
+-- a tile painted over an image: every element of it that the picture has, and no other
+abbrev pub PaintsTile : {A : Type 0} → List A → Picture → ℕ → ℕ → List A → List A → Type 0
+PaintsTile tile pic bx by old new = (z : _) → PaintedOver z (InTile pic bx by) (λ k. get_or tile (number_in pic k) z) old new
 
 -- how many of the four columns (or rows) of tile b a picture has that is so wide (or high)
 abbrev pub shown : ℕ → ℕ → ℕ

@@ -1,7 +1,7 @@
 -- One turn of the walk at a place, from what is read there; and a turn over records that are skipped.
 -- Assumes nothing.
-use mathlib.Core.Path.{◌≡◌, ◌∙◌, refl, sym, ap, subst}
-use mathlib.Core.List.{List, [], ◌∷◌}
+use mathlib.Core.Path.{◌≡◌, ◌∙◌, refl, sym, ap}
+use mathlib.Core.List.{List}
 use Prim.Native.Nat.{ℕ, ◌+◌, ◌-◌, ◌≤◌, ◌<◌}
 use native.Mathlib.Omega.{arith}
 use native.Mathlib.Nat.{add-zero}
@@ -12,12 +12,10 @@ use Rattle.numbers.specs.Numbers.{little}
 use Rattle.rules.specs.Records.{Records, more, ended, short, length_in, record_in, behind, records_of, kept, payload_at}
 use Rattle.numbers.proofs.Little.{moved}
 use Rattle.sheet.proofs.records.Walk.{at_the_end, cut_short, whole}
-use types.Run.{OneOf, miss}
-use denote.Enum.Declared
-use Rattle.sheet.specs.contracts.records.Met.{the_type}
-use Rattle.sheet.specs.records.Turns.{at, all, Turn, Sees, Stands, Meets}
-use Rattle.sheet.specs.declared.records.Met.{Met}
-use Rattle.sheet.specs.declared.records.Met.TheVariants.{Whole, End, Cut}
+use Rattle.sheet.specs.records.Turns.{at, all, Turn, Meets}
+use Rattle.std.specs.Prelude.{Result, Ok, Err, Option, Some, None}
+use Rattle.rules.specs.declared.Refusal.{Refusal}
+use Rattle.sheet.specs.declared.records.Record.{Record}
 
 module _ (d : List ℕ) (from : ℕ) (h : from ≤ length d) where
   left : length (drop from d) ≡ length d - from
@@ -86,17 +84,10 @@ module _ (see : Records → Records) (d : List ℕ) (from k s n : ℕ) (t : Turn
       ∙ ap (payload_at t.front) t.there
       ∙ rw (le-leb 32768 k h) (ap (λ (z : ℕ). payload_at z (records_of (drop (s + n) d))) e)
 
--- where no record is met, none is met that is kept
-pub none_kept : (d : List ℕ) (from : ℕ) (f : Met) → Stands d from f → OneOf (1 ∷ 2 ∷ []) (Declared.tag_of the_type f) → Meets d from f
-unfolding kept
-none_kept d from (Whole k s n) m z = absurd (miss (1 ∷ 2 ∷ []) 0 tt z)
-none_kept d from End m z = ap kept m
-none_kept d from Cut m z = ap kept m
-
 -- what is met from a later place is met from an earlier one, where all between is skipped
-pub sooner : (d : List ℕ) (from now : ℕ) (f : Met) → from ≤ now → kept (records_of (drop from d)) ≡ kept (records_of (drop now d))
+pub sooner : (d : List ℕ) (from now : ℕ) (f : Result (Option Record) Refusal) → from ≤ now → kept (records_of (drop from d)) ≡ kept (records_of (drop now d))
     → payload_at from (records_of (drop from d)) ≡ payload_at now (records_of (drop now d)) → Meets d now f → Meets d from f
-sooner d from now (Whole k s n) h e p m =
+sooner d from now (Ok (Some r)) h e p m =
     record {
       meets = e ∙ m.meets;
       within = m.within;
@@ -106,16 +97,5 @@ sooner d from now (Whole k s n) h e p m =
       there = m.there;
       passed = p ∙ m.passed;
     }
-sooner d from now End h e p m = e ∙ m
-sooner d from now Cut h e p m = e ∙ m
-
--- the turn at a record that was told
-pub turn_of : (see : Records → Records) (d : List ℕ) (from : ℕ) (f : Met) {k s n : ℕ} → f ≡ Whole k s n → Sees see d from f → Turn see d from k s n
-turn_of see d from f e m = subst (λ (z : Met). Sees see d from z) e m
-
--- and where there is none
-pub ended_of : (see : Records → Records) (d : List ℕ) (from : ℕ) (f : Met) → f ≡ End → Sees see d from f → see (records_of (drop from d)) ≡ ended
-ended_of see d from f e m = subst (λ (z : Met). Sees see d from z) e m
-
-pub short_of : (see : Records → Records) (d : List ℕ) (from : ℕ) (f : Met) → f ≡ Cut → Sees see d from f → see (records_of (drop from d)) ≡ short
-short_of see d from f e m = subst (λ (z : Met). Sees see d from z) e m
+sooner d from now (Ok None) h e p m = e ∙ m
+sooner d from now (Err a) h e p m = (m.0, e ∙ m.1)

@@ -1,14 +1,14 @@
 -- What is promised of the records behind a sheet's head: each says what the walk says from a place on.
 -- Assumes nothing.
-use Rattle.std.specs.Prelude.{◌≡◌, cond, List, ℕ, ◌+◌, ◌≤◌, length, take, drop}
+use Rattle.std.specs.Prelude.{◌≡◌, cond, List, ℕ, ◌+◌, ◌≤◌, length, take, drop, Result, Ok, Err}
 use Rattle.rules.specs.Answers.{said, accepts}
-use Rattle.rules.specs.declared.Answer.{Answer}
+use Rattle.rules.specs.Answers.{Answer}
 use Rattle.rules.specs.Records.{records_of, first, kept, payload_at}
 use Rattle.rules.specs.Sheets.{after_head}
 use Rattle.sheet.specs.Shown.{Passes, Refuses}
-use Rattle.sheet.specs.declared.later.Blocks as blocks
+use Rattle.rules.specs.declared.Refusal.{Refusal}
 
--- an answer stands for a verdict: Done where no fault was found, and a refusal where it is said
+-- an answer stands for a verdict: `Ok` where no fault was found, and a refusal where it is said
 abbrev pub Judges : (List ℕ → List ℕ) → Answer → Type 0
 Judges verdict a = (then : List ℕ) → verdict then ≡ cond (accepts (said a)) then (said a)
 
@@ -23,6 +23,6 @@ pub record Blocked (d : List ℕ) (from n s : ℕ) : Type 0 where
   pub within : s + n ≤ length d
   pub start : payload_at from (records_of (drop from d)) ≡ s
 
-abbrev pub Follows : List ℕ → ℕ → ℕ → blocks.Blocks → Type 0
-Follows d from n (blocks.TheVariants.At s) = Blocked d from n s
-Follows d from n (blocks.TheVariants.Refused a) = Refuses (behind d from n) a
+abbrev pub Follows : List ℕ → ℕ → ℕ → Result ℕ Refusal → Type 0
+Follows d from n (Ok s) = Blocked d from n s
+Follows d from n (Err a) = Refuses (behind d from n) a

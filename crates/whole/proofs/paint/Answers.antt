@@ -1,4 +1,4 @@
--- `eleven::paint` meets its contract: turn by paints row by of the blocks.
+-- `whole::paint` meets its contract: turn by paints row by of the blocks.
 -- Assumes nothing.
 use mathlib.Core.Bool.{Bool}
 use mathlib.Core.Path.{◌∙◌, sym, ap, subst}
@@ -12,7 +12,7 @@ use Rattle.whole.proofs.paint.Goals as goal
 pub loop-by-init : goal.loop-by-init
 loop-by-init c =
     let a = c.args in
-    top (lanes a.green) c.span_of-span.result.signed a.«data».now a.pic a.image.now
+    top (lanes a.green) c.scale_of-scale.result.span.signed a.«data».now a.pic a.image.now
 
 pub paint_row-requires : goal.paint_row-requires
 paint_row-requires c =
@@ -21,7 +21,6 @@ paint_row-requires c =
         c.requires.enough,
         omega (arith, c.loop-by-test.true, c.across-rows.ensures),
         c.requires.low,
-        c.span_of-span.ensures.1,
       );
       ready = subst (Ready (lanes c.args.green) c.args.pic) (sym c.loop-by.invariant.1.same)
           (ready c.args.green c.args.pic _ _ _ c.requires);
@@ -31,7 +30,7 @@ pub loop-by-preserved : goal.loop-by-preserved
 loop-by-preserved c =
     let a = c.args in
     let l = c.loop-by in
-    next_row (lanes a.green) c.span_of-span.result.signed a.«data».now a.pic l.by a.image.now l.image _
+    next_row (lanes a.green) c.scale_of-scale.result.span.signed a.«data».now a.pic l.by a.image.now l.image _
     (omega (arith, c.loop-by-test.true, c.across-rows.ensures)) l.invariant c.paint_row.ensures
 
 pub shape_of-image : goal.shape_of-image
@@ -39,8 +38,8 @@ shape_of-image c = c.loop-by.invariant.1.same
 
 pub returns : goal.returns
 returns c =
-    let z = c.span_of-span in
+    let z = c.scale_of-scale in
     let a = c.args in
-    bottom (lanes a.green) z.result.signed a.«data».now a.pic c.loop-by.by a.image.now c.loop-by.image
+    bottom (lanes a.green) z.result.span.signed a.«data».now a.pic c.loop-by.by a.image.now c.loop-by.image
     (omega (arith, c.loop-by-test.false, c.across-rows.ensures)) c.loop-by.invariant
-    ∙ ap (λ (t : Bool). whole_picture t (lanes a.green) a.pic a.«data».now a.image.now) z.ensures.0
+    ∙ ap (λ (t : Bool). whole_picture t (lanes a.green) a.pic a.«data».now a.image.now) z.ensures

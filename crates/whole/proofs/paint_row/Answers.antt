@@ -1,8 +1,9 @@
--- `eleven::paint_row` meets its contract: the blocks that are whole, and then turn bx paints block bx.
+-- `whole::paint_row` meets its contract: the blocks that are whole, and then turn bx paints block bx.
 -- Assumes nothing.
 use mathlib.Core.Path.{◌≡◌, ◌∙◌, sym, ap, subst}
 use Prim.Native.Nat.{ℕ, ◌+◌, ◌*◌, ◌≤◌}
 use native.Mathlib.Omega.{arith}
+use lib.Dec.{T}
 use lib.ListN.{length, length-take, length-drop}
 use Rattle.whole.specs.Lanes.{lanes, Ready}
 use Rattle.whole.proofs.Rows.{start, turn, ended, fits, small}
@@ -22,7 +23,7 @@ overflow_mul-first c =
 pub loop-bx-init : goal.loop-bx-init
 loop-bx-init c =
     let a = c.args in
-    start (lanes a.green) a.span.signed a.«data».now a.pic a.by c.paint_whole-bx.result _ c.paint_whole-bx.ensures.0
+    start (lanes a.green) a.scale.span.signed a.«data».now a.pic a.by c.paint_whole-n.result _ c.paint_whole-n.ensures.0
 
 pub overflow_add-at : goal.overflow_add-at
 overflow_add-at c =
@@ -91,13 +92,12 @@ paint_block-requires c =
     let e = c.across-row.ensures in record {
       green_in_bounds = (
         simp (length-take, length-drop) (omega (arith, there, size)),
-        c.before.alpha_steps-table.ensures,
-        subst (Ready (lanes c.args.green) c.args.pic) (sym (c.loop-bx.invariant.2.same ∙ c.paint_whole-bx.ensures.1.same)) c.requires.ready,
+        subst (Ready (lanes c.args.green) c.args.pic) (sym (c.loop-bx.invariant.2.same ∙ c.paint_whole-n.ensures.1.same)) c.requires.ready,
       );
       bx_bound = (
         omega (arith, c.loop-bx-test.true, e, c.requires.ready.narrow),
         omega (arith, c.requires.green_in_bounds.1, c.requires.green_in_bounds.2),
-        c.requires.green_in_bounds.3,
+        λ e. absurd (subst T (sym e) tt),
       );
     }
 
@@ -106,16 +106,16 @@ loop-bx-preserved c =
     let size : c.lanes_of-s.result * 8 ≡ lanes c.args.green * 8 = ap (λ (z : ℕ). z * 8) c.lanes_of-s.ensures.0 in
     let a = c.args in
     let l = c.loop-bx in
-    turn (lanes a.green) a.span.signed a.«data».now a.pic a.by _ l.bx c.across-row.result (c.lanes_of-s.result * 8)
+    turn (lanes a.green) a.scale.span.signed a.«data».now a.pic a.by _ l.bx c.across-row.result (c.lanes_of-s.result * 8)
     _ l.image _
     c.across-row.ensures size c.loop-bx-test.true l.invariant c.paint_block.ensures
 
 pub shape_of-image : goal.shape_of-image
-shape_of-image c = c.loop-bx.invariant.2.same ∙ c.paint_whole-bx.ensures.1.same
+shape_of-image c = c.loop-bx.invariant.2.same ∙ c.paint_whole-n.ensures.1.same
 
 pub returns : goal.returns
 returns c =
     let a = c.args in
-    let p = c.paint_whole-bx in
-    ended (lanes a.green) a.span.signed a.«data».now a.pic a.by p.result c.loop-bx.bx c.across-row.result a.image.now _ c.loop-bx.image
+    let p = c.paint_whole-n in
+    ended (lanes a.green) a.scale.span.signed a.«data».now a.pic a.by p.result c.loop-bx.bx c.across-row.result a.image.now _ c.loop-bx.image
     c.across-row.ensures c.loop-bx-test.false p.ensures.1 c.loop-bx.invariant

@@ -1,4 +1,4 @@
--- `eleven::paint_whole` meets its contract: turn bx paints block bx of the row, which the picture has whole.
+-- `whole::paint_whole` meets its contract: turn bx paints block bx of the row, which the picture has whole.
 -- Assumes nothing.
 use mathlib.Core.Path.{◌≡◌, sym, ap, subst}
 use Prim.Native.Nat.{ℕ, ◌+◌, ◌*◌, ◌<◌, ◌≤◌}
@@ -26,7 +26,7 @@ overflow_mul-first c =
 pub loop-bx-init : goal.loop-bx-init
 loop-bx-init c =
     let a = c.args in
-    (omega arith, start (lanes a.green) a.span.signed a.«data».now a.pic a.by 0 a.image.now (omega arith))
+    (omega arith, start (lanes a.green) a.scale.span.signed a.«data».now a.pic a.by 0 a.image.now (omega arith))
 
 pub overflow_add-from : goal.overflow_add-from
 overflow_add-from c =
@@ -61,8 +61,8 @@ overflow_add-end c =
     c.across-row.ensures size in_row c.requires.green_in_bounds.1 c.requires.green_in_bounds.0 in
     omega (arith, there)
 
-pub slice_bounds-whole_block-count : goal.slice_bounds-whole_block-count
-slice_bounds-whole_block-count c =
+pub slice_bounds-paint_block-count : goal.slice_bounds-paint_block-count
+slice_bounds-paint_block-count c =
     let size : c.lanes_of-s.result * 8 ≡ lanes c.args.green * 8 = ap (λ (z : ℕ). z * 8) c.lanes_of-s.ensures.0 in
     let in_row : c.loop-bx.bx < c.across-row.result = omega (arith, c.loop-bx-test.true, c.whole_in-n.ensures.0, c.across-row.ensures) in
     let there : (c.args.by * c.across-row.result + c.loop-bx.bx) * (c.lanes_of-s.result * 8)
@@ -71,8 +71,8 @@ slice_bounds-whole_block-count c =
     c.across-row.ensures size in_row c.requires.green_in_bounds.1 c.requires.green_in_bounds.0 in
     omega (arith, there)
 
-pub slice_bounds-whole_block-start : goal.slice_bounds-whole_block-start
-slice_bounds-whole_block-start c =
+pub slice_bounds-paint_block-start : goal.slice_bounds-paint_block-start
+slice_bounds-paint_block-start c =
     let size : c.lanes_of-s.result * 8 ≡ lanes c.args.green * 8 = ap (λ (z : ℕ). z * 8) c.lanes_of-s.ensures.0 in
     let in_row : c.loop-bx.bx < c.across-row.result = omega (arith, c.loop-bx-test.true, c.whole_in-n.ensures.0, c.across-row.ensures) in
     let there : (c.args.by * c.across-row.result + c.loop-bx.bx) * (c.lanes_of-s.result * 8)
@@ -81,8 +81,8 @@ slice_bounds-whole_block-start c =
     c.across-row.ensures size in_row c.requires.green_in_bounds.1 c.requires.green_in_bounds.0 in
     omega (arith, there)
 
-pub slice_bounds-whole_block-end : goal.slice_bounds-whole_block-end
-slice_bounds-whole_block-end c =
+pub slice_bounds-paint_block-end : goal.slice_bounds-paint_block-end
+slice_bounds-paint_block-end c =
     let size : c.lanes_of-s.result * 8 ≡ lanes c.args.green * 8 = ap (λ (z : ℕ). z * 8) c.lanes_of-s.ensures.0 in
     let in_row : c.loop-bx.bx < c.across-row.result = omega (arith, c.loop-bx-test.true, c.whole_in-n.ensures.0, c.across-row.ensures) in
     let there : (c.args.by * c.across-row.result + c.loop-bx.bx) * (c.lanes_of-s.result * 8)
@@ -91,8 +91,8 @@ slice_bounds-whole_block-end c =
     c.across-row.ensures size in_row c.requires.green_in_bounds.1 c.requires.green_in_bounds.0 in
     omega (arith, there)
 
-pub whole_block-requires : goal.whole_block-requires
-whole_block-requires c =
+pub paint_block-requires : goal.paint_block-requires
+paint_block-requires c =
     let size : c.lanes_of-s.result * 8 ≡ lanes c.args.green * 8 = ap (λ (z : ℕ). z * 8) c.lanes_of-s.ensures.0 in
     let in_row : c.loop-bx.bx < c.across-row.result = omega (arith, c.loop-bx-test.true, c.whole_in-n.ensures.0, c.across-row.ensures) in
     let there : (c.args.by * c.across-row.result + c.loop-bx.bx) * (c.lanes_of-s.result * 8)
@@ -102,10 +102,13 @@ whole_block-requires c =
     let w = c.whole_in-n.ensures in record {
       green_in_bounds = (
         simp (length-take, length-drop) (omega (arith, there, size)),
-        c.alpha_steps-table.ensures,
         subst (Ready (lanes c.args.green) c.args.pic) (sym c.loop-bx.invariant.1.2.same) c.requires.ready,
       );
-      bx_bound = (omega (arith, c.loop-bx-test.true, w.0), w.1 (omega (arith, c.loop-bx-test.true)), c.requires.green_in_bounds.3);
+      bx_bound = (
+        omega (arith, in_row, c.across-row.ensures, c.requires.ready.narrow),
+        omega (arith, c.requires.green_in_bounds.1, c.requires.green_in_bounds.2),
+        λ e. (omega (arith, c.loop-bx-test.true, w.0), w.1 (omega (arith, c.loop-bx-test.true))),
+      );
     }
 
 pub loop-bx-preserved : goal.loop-bx-preserved
@@ -115,9 +118,9 @@ loop-bx-preserved c =
     let a = c.args in
     let l = c.loop-bx in (
       omega (arith, c.loop-bx-test.true),
-      turn (lanes a.green) a.span.signed a.«data».now a.pic a.by 0 l.bx c.across-row.result (c.lanes_of-s.result * 8)
+      turn (lanes a.green) a.scale.span.signed a.«data».now a.pic a.by 0 l.bx c.across-row.result (c.lanes_of-s.result * 8)
           a.image.now l.image _
-          c.across-row.ensures size in_row l.invariant.1 c.whole_block.ensures,
+          c.across-row.ensures size in_row l.invariant.1 c.paint_block.ensures,
     )
 
 pub shape_of-image : goal.shape_of-image
@@ -127,6 +130,6 @@ pub returns : goal.returns
 returns c =
     let a = c.args in
     let e : c.loop-bx.bx ≡ c.whole_in-n.result = omega (arith, c.loop-bx-test.false, c.loop-bx.invariant.0) in
-    from_first (lanes a.green) a.span.signed a.«data».now a.pic a.by _ a.image.now c.loop-bx.image
-    (subst (λ (m : ℕ). Turned (lanes a.green) a.span.signed a.«data».now a.pic a.by 0 a.image.now c.loop-bx.image m) e
+    from_first (lanes a.green) a.scale.span.signed a.«data».now a.pic a.by _ a.image.now c.loop-bx.image
+    (subst (λ (m : ℕ). Turned (lanes a.green) a.scale.span.signed a.«data».now a.pic a.by 0 a.image.now c.loop-bx.image m) e
     c.loop-bx.invariant.1)

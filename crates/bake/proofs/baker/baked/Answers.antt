@@ -1,7 +1,8 @@
 -- The parts, and the block that they make.
--- Assumes nothing.
 use Rattle.bake.proofs.baker.Assembled.{assembled}
 use Rattle.bake.proofs.baker.baked.Goals as goal
+
+-- Assumes nothing.
 
 pub returns : goal.returns
 returns c =

@@ -9,17 +9,17 @@ use Rattle.bake.proofs.codes.best_code.Goals as goal
 pub loop-c-init : goal.loop-c-init
 loop-c-init c =
     let a = c.args in
-    (omega arith, begun (cost_for a.base a.flip a.tile.now a.h) _ c.code_cost.ensures)
+    begun (cost_for a.base a.tile.flip a.tile.pixels.now a.h) _ c.code_cost.ensures
 
 pub loop-c-preserved : goal.loop-c-preserved
 loop-c-preserved c =
     let a = c.args in
-    let f = cost_for a.base a.flip a.tile.now a.h in
-    (omega arith, goes_on f c.loop-c.c c.loop-c.b.at c.loop-c.b.value _ _ _ c.loop-c.invariant.1 c.code_cost-in-loop-c.ensures c.better-b.ensures)
+    let f = cost_for a.base a.tile.flip a.tile.pixels.now a.h in
+    goes_on f c.loop-c.c c.loop-c.b.at c.loop-c.b.value _ _ _ c.loop-c.invariant c.code_cost-in-loop-c.ensures c.better-b.ensures
 
 pub returns : goal.returns
 unfolding code_for
 returns c =
     let a = c.args in
-    let e = ended (cost_for a.base a.flip a.tile.now a.h) 7 c.loop-c.c c.loop-c.b.at c.loop-c.b.value (omega arith) c.loop-c.invariant.1 in
+    let e = ended (cost_for a.base a.tile.flip a.tile.pixels.now a.h) 7 c.loop-c.c c.loop-c.b.at c.loop-c.b.value (omega arith) c.loop-c.invariant in
     (e.0, e.1)

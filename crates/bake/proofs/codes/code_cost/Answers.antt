@@ -10,4 +10,4 @@ use Rattle.bake.proofs.codes.code_cost.Goals as goal
 pub returns : goal.returns
 returns c =
     let a = c.args in
-    c.half_cost.ensures ∙ ap (λ (l : List ℕ). cost_of l a.flip a.tile.now a.h) c.colours.ensures ∙ by_code a.base a.flip a.tile.now a.h a.code
+    c.half_cost.ensures ∙ ap (λ (l : List ℕ). cost_of l a.tile.flip a.tile.pixels.now a.h) c.colours.ensures ∙ by_code a.base a.tile.flip a.tile.pixels.now a.h a.code

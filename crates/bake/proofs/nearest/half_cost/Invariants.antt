@@ -1,12 +1,9 @@
--- The invariant and the measure of the loop of `bake::nearest::half_cost`.
+-- The invariant of the loop of `bake::nearest::half_cost`.
 use mathlib.Core.Path.{◌≡◌}
-use Prim.Native.Nat.{◌-◌, ◌*◌, ◌≤◌}
+use Prim.Native.Nat.{◌*◌, ◌≤◌}
 use Rattle.rules.specs.Counting.{sum_of}
 use Rattle.bake.specs.nearest.Search.{part_of}
 use Rattle.bake.proofs.nearest.half_cost.Given as goal
 
 abbrev pub invariant-loop-j : goal.invariant-loop-j
-invariant-loop-j l = (l.j ≤ 8) × (l.sum ≡ sum_of (part_of l.colours l.flip l.tile l.h) l.j) × (l.sum ≤ 765 * l.j)
-
-abbrev pub decreases-loop-j : goal.decreases-loop-j
-decreases-loop-j l = 8 - l.j
+invariant-loop-j l = (l.sum ≡ sum_of (part_of l.colours l.tile.flip l.tile.pixels.now l.h) l.j) × (l.sum ≤ 765 * l.j)

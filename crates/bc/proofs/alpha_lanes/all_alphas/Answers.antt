@@ -13,15 +13,14 @@ use Rattle.bc.proofs.alpha_lanes.all_alphas.Goals as goal
 pub returns : goal.returns
 returns c =
     let a = c.args in
-    let e : c.alpha_lanes.result ≡ build 16 (lanes (ltb a.b a.a) a.a a.b) =
-    c.alpha_lanes.ensures
+    let e : c.lanes.result ≡ build 16 (lanes (ltb a.b a.a) a.a a.b) =
+    c.lanes.ensures
     ∙ rw (
-      c.either_lane-4.ensures,
-      c.either_lane-3.ensures,
-      c.either_lane-2.ensures,
-      c.either_lane.ensures,
-      c.is_above-sevenths.ensures,
-      c.wide-q.ensures.0,
-      c.wide-p.ensures.0,
+      c.select_unpredictable-4.ensures,
+      c.select_unpredictable-3.ensures,
+      c.select_unpredictable-2.ensures,
+      c.select_unpredictable.ensures,
+      c.from-q.ensures,
+      c.from-p.ensures,
     ) in
     λ k h. ap (λ (l : List ℕ). get_or l k 0) e ∙ in_order (ltb a.b a.a) a.a a.b (omega arith) (omega arith) k h

@@ -1,4 +1,4 @@
--- By four bytes and four.
+-- Eight bytes.
 -- Assumes nothing.
 use native.Mathlib.Omega.{arith}
 use Rattle.numbers.specs.Numbers.{little}
@@ -6,4 +6,4 @@ use Rattle.bc.proofs.bc1.half_word.Goals as goal
 
 pub returns : goal.returns
 unfolding little
-returns c = omega (arith, c.four-2.ensures)
+returns c = omega (arith, c.from_le_bytes.ensures)

@@ -1,43 +1,13 @@
 -- Turn i adds the low bits of one word and what those of the other pick, and the words lose them.
 -- Assumes nothing.
-use mathlib.Core.Path.{◌∙◌, refl, ap}
+use mathlib.Core.Path.{◌∙◌, ap}
 use Prim.Native.Nat.{ℕ, ◌+◌, ◌*◌, ◌/◌, ◌%◌, ◌^◌}
 use native.Mathlib.Omega.{arith}
 use lib.ListN.{get_or}
 use lib.Pow.{shr-shr}
-use Rattle.laws.proofs.Filling.{in_order_lem, begun, stored_next, filled_all}
+use Rattle.laws.proofs.Filling.{stored_next, filled_all}
 use Rattle.laws.proofs.Order.{shifted}
 use Rattle.bc.proofs.bc2.both.Goals as goal
-
-pub loop-i-init : goal.loop-i-init
-loop-i-init c = (omega arith, omega arith, begun in_order_lem _ 0 16 _ refl)
-
-pub overflow_cast-out : goal.overflow_cast-out
-overflow_cast-out c = omega arith
-
-pub overflow_mul-out : goal.overflow_mul-out
-overflow_mul-out c = omega arith
-
-pub offset_bounds-hues-m : goal.offset_bounds-hues-m
-offset_bounds-hues-m c = omega arith
-
-pub bounds-hues-m : goal.bounds-hues-m
-bounds-hues-m c = omega arith
-
-pub overflow_add-out : goal.overflow_add-out
-overflow_add-out c = omega (arith, c.requires (c.loop-i.m % 4))
-
-pub offset_bounds-out-i : goal.offset_bounds-out-i
-offset_bounds-out-i c = omega arith
-
-pub bounds-out-i : goal.bounds-out-i
-bounds-out-i c = omega arith
-
-pub overflow_add-i : goal.overflow_add-i
-overflow_add-i c = omega arith
-
-pub loop-i-smaller : goal.loop-i-smaller
-loop-i-smaller c = omega arith
 
 pub loop-i-preserved : goal.loop-i-preserved
 loop-i-preserved c =

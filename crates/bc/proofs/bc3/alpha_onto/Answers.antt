@@ -1,46 +1,14 @@
 -- Turn i stores pixel i with what the word's low three bits pick, and the word loses them.
 -- Assumes nothing.
 use mathlib.Core.Path.{◌∙◌, ap}
-use Prim.Native.Nat.{ℕ, ◌/◌, ◌%◌}
+use Prim.Native.Nat.{ℕ, ◌/◌}
 use native.Mathlib.Omega.{arith}
-use borrow.Author.Rules.{rules}
 use lib.ListN.{get_or}
-use Rattle.laws.proofs.Filling.{in_order_lem, begun, stored_next, filled_all}
+use Rattle.laws.proofs.Filling.{stored_next, filled_all}
 use Rattle.laws.proofs.Order.{shifted}
 use Rattle.rules.specs.Desktop.{replaced}
 use Rattle.bc.proofs.bc3.Turns.{alpha_at_lem}
 use Rattle.bc.proofs.bc3.alpha_onto.Goals as goal
-
-pub loop-i-init : goal.loop-i-init
-loop-i-init c = (omega arith, begun in_order_lem _ 0 16 _ (search rules))
-
-pub offset_bounds-px-i : goal.offset_bounds-px-i
-offset_bounds-px-i c = omega arith
-
-pub bounds-px-i : goal.bounds-px-i
-bounds-px-i c = omega arith
-
-pub offset_bounds-eight-l : goal.offset_bounds-eight-l
-offset_bounds-eight-l c = omega arith
-
-pub bounds-eight-l : goal.bounds-eight-l
-bounds-eight-l c = omega arith
-
-pub replace-requires : goal.replace-requires
-replace-requires c =
-    (c.alphas_in-eight.ensures.1 (c.loop-i.l % 8), c.requires.1)
-
-pub offset_bounds-out-i : goal.offset_bounds-out-i
-offset_bounds-out-i c = omega arith
-
-pub bounds-out-i : goal.bounds-out-i
-bounds-out-i c = omega arith
-
-pub overflow_add-i : goal.overflow_add-i
-overflow_add-i c = omega arith
-
-pub loop-i-smaller : goal.loop-i-smaller
-loop-i-smaller c = omega arith
 
 pub loop-i-preserved : goal.loop-i-preserved
 loop-i-preserved c =

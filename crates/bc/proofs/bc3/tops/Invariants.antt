@@ -1,5 +1,5 @@
--- The invariant and the measure of the loop of `bc::bc3::tops`.
-use Prim.Native.Nat.{◌-◌, ◌*◌, ◌%◌}
+-- The invariant of the loop of `bc::bc3::tops`.
+use Prim.Native.Nat.{◌*◌, ◌%◌}
 use lib.ListN.{get_or}
 use Rattle.laws.proofs.Filling.{Filling, in_order_lem}
 use Rattle.bc.proofs.bc3.tops.Given as goal
@@ -7,6 +7,3 @@ use Rattle.bc.proofs.bc3.tops.Given as goal
 abbrev pub invariant-loop-i : goal.invariant-loop-i
 invariant-loop-i l =
     Filling in_order_lem (λ k. get_or l.a k 0 % 256 * 0x1000000) 0 8 l.i l.out
-
-abbrev pub decreases-loop-i : goal.decreases-loop-i
-decreases-loop-i l = 8 - l.i

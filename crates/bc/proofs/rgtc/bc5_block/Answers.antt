@@ -9,6 +9,7 @@ use Rattle.rules.specs.Rgtc.{values_in_lem}
 use Rattle.laws.proofs.Between.{values_small}
 use Rattle.laws.proofs.Parts.{rest}
 use Rattle.bc.proofs.bc3.Turns.{at_most}
+use Rattle.bc.proofs.picks.Digits.{of_eight_and_eight}
 use Rattle.bc.proofs.rgtc.Values.{shown_both}
 use Rattle.bc.proofs.rgtc.bc5_block.Goals as goal
 
@@ -17,14 +18,25 @@ both-requires c =
     let x = c.half_word-b.result in
     let y = c.half_word-a.result in
     let s = c.args.signed in (
-      at_most (λ k. get_or (values_in_lem s y) k 0 * 0x10000 + 0xFF000000) 0xFFFF0000 8 c.values_in.result c.values_in.ensures (λ k. omega (arith, values_small s y k)),
-      at_most (λ k. get_or (values_in_lem s x) k 0 * 0x100 + 0) 0xFF00 8 c.values_in-2.result c.values_in-2.ensures (λ k. omega (arith, values_small s x k)),
+      omega arith,
+      (
+        omega arith,
+        (
+          (omega arith, omega arith),
+          λ j k. omega (
+            arith,
+            at_most (λ k. get_or (values_in_lem s y) k 0 * 0x10000 + 0xFF000000) 0xFFFF0000 8 c.values_in.result c.values_in.ensures (λ k. omega (arith, values_small s y k)) j,
+            at_most (λ k. get_or (values_in_lem s x) k 0 * 0x100 + 0) 0xFF00 8 c.values_in-2.result c.values_in-2.ensures (λ k. omega (arith, values_small s x k)) k,
+          ),
+        ),
+      ),
     )
 
 pub returns : goal.returns
 returns c =
     let a = c.args in
     c.both.ensures
+    ∙ of_eight_and_eight c.values_in.result c.values_in-2.result c.half_word-a.result c.half_word-b.result
     ∙ shown_both a.signed a.d.now c.values_in.result c.values_in-2.result c.half_word-a.result c.half_word-b.result
     c.half_word-a.ensures
     (c.half_word-b.ensures ∙ ap half_word_lem (rest 8 a.d.now))

@@ -1,5 +1,5 @@
--- The invariant and the measure of the loop of `bc::rgtc::lit`.
-use Prim.Native.Nat.{◌+◌, ◌-◌, ◌*◌, min}
+-- The invariant of the loop of `bc::rgtc::lit`.
+use Prim.Native.Nat.{◌+◌, ◌*◌, min}
 use lib.ListN.{get_or}
 use Rattle.laws.proofs.Filling.{Filling, in_order_lem}
 use Rattle.bc.proofs.rgtc.lit.Given as goal
@@ -7,6 +7,3 @@ use Rattle.bc.proofs.rgtc.lit.Given as goal
 abbrev pub invariant-loop-i : goal.invariant-loop-i
 invariant-loop-i l =
     Filling in_order_lem (λ k. min (get_or l.a k 0) l.top * l.unit + l.rest) 0 8 l.i l.out
-
-abbrev pub decreases-loop-i : goal.decreases-loop-i
-decreases-loop-i l = 8 - l.i

@@ -2,18 +2,14 @@
 -- Assumes nothing.
 use mathlib.Core.Bool.{Bool}
 use Prim.Native.Nat.{ℕ}
-use native.Mathlib.Omega.{arith}
 use lib.Dec.{eqb, eqb→eq}
-use lib.Count.{count_trailing_zeros, trailing_le}
+use lib.Count.{count_trailing_zeros}
 use Rattle.rules.specs.Bc7.{lowest}
 use Rattle.laws.proofs.Every.{below}
 use Rattle.bc7.proofs.bptc.zeros_below.Goals as goal
 
 right : ℕ → Bool
 right b = eqb (count_trailing_zeros 8 b) (lowest 8 b 0)
-
-pub overflow_cast-result : goal.overflow_cast-result
-overflow_cast-result c = omega (arith, trailing_le 8 c.args.b)
 
 pub returns : goal.returns
 unfolding lowest count_trailing_zeros right

@@ -2,13 +2,9 @@
 -- Assumes nothing.
 use mathlib.Core.Path.{◌∙◌, ap}
 use Prim.Native.Nat.{ℕ, ◌+◌}
-use native.Mathlib.Omega.{arith}
 use Rattle.rules.specs.Bc7.{expand}
 use Rattle.laws.proofs.Shades.{put_up, with_p, with_p_byte}
 use Rattle.bc7.proofs.endpoints.endpoint.Goals as goal
-
-pub overflow_shl-v : goal.overflow_shl-v
-overflow_shl-v c = omega arith
 
 pub overflow_add-v : goal.overflow_add-v
 overflow_add-v c = record {

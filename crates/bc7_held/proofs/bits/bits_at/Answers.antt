@@ -11,22 +11,15 @@ use Rattle.laws.proofs.Number.{in_two}
 use Rattle.laws.proofs.Refuse.{allowed}
 use Rattle.bc7_held.proofs.bits.bits_at.Goals as goal
 
-pub returns-then-refused : goal.returns-then-refused
-returns-then-refused c = rw (sym c.refused.ensures ∙ c.if-refused.true)
-
-pub overflow_cast-n : goal.overflow_cast-n
-overflow_cast-n c = omega (arith, allowed _ _ _ (sym c.refused.ensures ∙ c.if-refused.false))
-
-pub part-requires : goal.part-requires
-part-requires c = (omega arith, (allowed _ _ _ (sym c.refused.ensures ∙ c.if-refused.false)).0)
-
 pub returns : goal.returns
 returns c =
     let a = c.args in
-    let v : c.part.result ≡ field_at a.s.now a.place a.n =
+    let d = a.s.now in
+    let w : c.from.result ≡ get_or d (a.place / 8 + 1) 0 * 256 + get_or d (a.place / 8) 0 =
+    omega (arith, c.from.ensures, c.from_le_bytes-pair.ensures, c.byte_or_0.ensures, c.byte_or_0-2.ensures) in
+    let v : c.part.result ≡ field_at d a.place a.n =
     c.part.ensures
-    ∙ ap (λ (m : ℕ). (m * 256 + c.byte_or_0-low.result) / 2 ^ (a.place % 8) % 2 ^ a.n) c.byte_or_0-high.ensures.0
-    ∙ ap (λ (m : ℕ). (get_or a.s.now (a.place / 8 + 1) 0 * 256 + m) / 2 ^ (a.place % 8) % 2 ^ a.n) c.byte_or_0-low.ensures.0
-    ∙ sym (in_two a.s.now (λ k. (c.shared_slice_known-1.given k).fits) a.place a.n (allowed _ _ _ (sym c.refused.ensures ∙ c.if-refused.false)).0) in
+    ∙ ap (λ (m : ℕ). m / 2 ^ (a.place % 8) % 2 ^ a.n) w
+    ∙ sym (in_two d (λ k. (c.type_inv.s k).fits) a.place a.n (allowed _ _ _ (sym c.refused.ensures ∙ c.if-refused.false)).0) in
     ap (λ (x : ℕ). 0 ∷ x ∷ []) v
-    ∙ sym (ap (λ (t : Bool). cond t (2 ∷ []) (0 ∷ field_at a.s.now a.place a.n ∷ [])) (sym c.refused.ensures ∙ c.if-refused.false))
+    ∙ sym (ap (λ (t : Bool). cond t (2 ∷ []) (0 ∷ field_at d a.place a.n ∷ [])) (sym c.refused.ensures ∙ c.if-refused.false))

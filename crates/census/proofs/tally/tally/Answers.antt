@@ -1,11 +1,10 @@
 -- `census::tally::tally` meets its contract. The loop has counted the blocks before b.
--- Assumes nothing.
-use mathlib.Core.Path.{◌≡◌, ◌∙◌, refl, ap}
+use mathlib.Core.Path.{◌≡◌, refl}
 use mathlib.Core.Bool.{Bool, true, false}
 use mathlib.Core.List.{List, [], ◌∷◌}
 use Prim.Native.Nat.{ℕ, ◌+◌, ◌-◌, ◌*◌, ◌≤◌}
 use native.Mathlib.Omega.{arith}
-use lib.ListN.{get_or, set, take, drop, length-take, length-drop}
+use lib.ListN.{get_or, set, take, drop}
 use Rattle.rules.specs.Places.{bytes_of}
 use Rattle.laws.proofs.Parts.{part}
 use Rattle.rules.specs.Census.{count_of}
@@ -13,6 +12,8 @@ use Rattle.laws.specs.Sorted.{met, only, eight}
 use Rattle.census.proofs.tally.Grown.{one_more, within}
 use Rattle.census.proofs.tally.tally.Invariants.{before}
 use Rattle.census.proofs.tally.tally.Goals as goal
+
+-- Assumes nothing.
 
 module _ (split : Bool) (d : List ℕ) where
   -- one more block
@@ -25,25 +26,16 @@ started true d = refl
 started false d = refl
 
 pub loop-b-init : goal.loop-b-init
-loop-b-init c = (omega arith, started c.args.split c.args.«data».now)
-
-pub place_of-place-requires : goal.place_of-place-requires
-place_of-place-requires c = simp (length-take, length-drop) (omega arith)
+loop-b-init c = started c.args.split c.args.«data».now
 
 pub overflow_add-tally : goal.overflow_add-tally
 overflow_add-tally c =
     let a = c.args in
     let k = c.place_of-place.result in
-    let e : get_or c.loop-b.tally k 0 ≤ c.loop-b.b = rw c.loop-b.invariant.1 (within (eight a.split) (bytes_of 8 a.«data».now) c.loop-b.b k) in
+    let e : get_or c.loop-b.tally k 0 ≤ c.loop-b.b = rw c.loop-b.invariant (within (eight a.split) (bytes_of 8 a.«data».now) c.loop-b.b k) in
     omega arith
 
 pub loop-b-preserved : goal.loop-b-preserved
 loop-b-preserved c =
     let a = c.args in
-    (omega arith, goes_on a.split a.«data».now c.loop-b.tally c.loop-b.b c.place_of-place.result c.loop-b.invariant.1 c.place_of-place.ensures.0)
-
-pub returns : goal.returns
-returns c =
-    let a = c.args in
-    let e : c.loop-b.b ≡ a.n = omega (arith, c.loop-b.invariant.0, c.loop-b-test.false) in
-    c.loop-b.invariant.1 ∙ ap (before a.split a.«data».now) e
+    goes_on a.split a.«data».now c.loop-b.tally c.loop-b.b c.place_of-place.result c.loop-b.invariant c.place_of-place.ensures.0

@@ -1,8 +1,8 @@
--- The invariant and the measure of the loop of `census::tally::tally`.
+-- The invariant of the loop of `census::tally::tally`.
 use mathlib.Core.Path.{◌≡◌}
 use mathlib.Core.Bool.{Bool}
 use mathlib.Core.List.{List}
-use Prim.Native.Nat.{ℕ, ◌-◌, ◌≤◌}
+use Prim.Native.Nat.{ℕ}
 use Rattle.rules.specs.Places.{bytes_of}
 use Rattle.rules.specs.Census.{counts}
 use Rattle.laws.specs.Sorted.{eight}
@@ -13,7 +13,4 @@ abbrev pub before : Bool → List ℕ → ℕ → List ℕ
 before split d b = counts (bytes_of 8 d) b (eight split)
 
 abbrev pub invariant-loop-b : goal.invariant-loop-b
-invariant-loop-b l = (l.b ≤ l.n) × (l.tally ≡ before l.split l.«data» l.b)
-
-abbrev pub decreases-loop-b : goal.decreases-loop-b
-decreases-loop-b l = l.n - l.b
+invariant-loop-b l = l.tally ≡ before l.split l.«data» l.b

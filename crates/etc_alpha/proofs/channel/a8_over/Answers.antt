@@ -3,68 +3,21 @@
 use mathlib.Core.Path.{◌≡◌, ◌∙◌, refl, sym, ap, subst}
 use Prim.Native.Nat.{ℕ, ◌+◌, ◌/◌, ◌%◌, ◌<◌}
 use native.Mathlib.Omega.{arith}
-use borrow.Author.Rules.{rules}
 use lib.IntN.{ℤ, pos, nat_abs}
 use lib.ListN.{length, get_or, set}
 use mir.Syntax.{w16}
-use Rattle.rules.specs.Notation.{byte}
 use Rattle.rules.specs.Channels.{alpha_byte, with_alpha}
-use Rattle.laws.proofs.Paint.{said}
 use Rattle.laws.proofs.Signed.{held}
-use Rattle.pixel.proofs.fill.Part.{Begun, begin, go_on}
-use Rattle.etc_alpha.proofs.channel.Moves.{small_alpha, small_byte, alpha_held}
+use Rattle.pixel.proofs.fill.Part.{Begun, go_on}
+use Rattle.etc_alpha.proofs.channel.Moves.{small_byte, alpha_held}
 use Rattle.etc_alpha.proofs.channel.a8_over.Invariants.{rule}
 use Rattle.etc_alpha.proofs.channel.a8_over.Goals as goal
-
-pub bounds-d-0 : goal.bounds-d-0
-bounds-d-0 c = omega arith
-
-pub bounds-d-1 : goal.bounds-d-1
-bounds-d-1 c = omega arith
-
-pub picked-alphas-requires : goal.picked-alphas-requires
-picked-alphas-requires c =
-    let d = c.args.d.now in
-    (search rules, λ j h. small_alpha (byte d 0) (byte d 1) c.eight_alphas.result j c.eight_alphas.ensures h)
-
-pub loop-i-init : goal.loop-i-init
-loop-i-init c =
-    let a = c.args in
-    (omega arith, begin (rule a.d.now a.image.now) a.image.now)
-
-pub offset_bounds-image-i : goal.offset_bounds-image-i
-offset_bounds-image-i c = omega arith
-
-pub bounds-image-i : goal.bounds-image-i
-bounds-image-i c =
-    let room : c.loop-i.i < length c.loop-i.image = omega (arith, c.loop-i.invariant.1.1.same, c.requires.1) in
-    room
-
-pub offset_bounds-alphas-i : goal.offset_bounds-alphas-i
-offset_bounds-alphas-i c = omega arith
-
-pub bounds-alphas-i : goal.bounds-alphas-i
-bounds-alphas-i c = omega arith
 
 pub topped-requires : goal.topped-requires
 topped-requires c =
     let turn : held w16 (get_or c.picked-alphas.result c.loop-i.i (pos 0)) ≡ pos (alpha_byte c.args.d.now (c.loop-i.i % 4) (c.loop-i.i / 4)) = let e = c.eight_alphas in
     alpha_held c.args.d.now e.result c.picked-alphas.result c.loop-i.i e.ensures c.picked-alphas.ensures (omega arith) in
     rw turn (refl, small_byte c.args.d.now (c.loop-i.i % 4) (c.loop-i.i / 4))
-
-pub offset_bounds-image-i-in-loop-i : goal.offset_bounds-image-i-in-loop-i
-offset_bounds-image-i-in-loop-i c = omega arith
-
-pub bounds-image-i-in-loop-i : goal.bounds-image-i-in-loop-i
-bounds-image-i-in-loop-i c =
-    let room : c.loop-i.i < length c.loop-i.image = omega (arith, c.loop-i.invariant.1.1.same, c.requires.1) in
-    room
-
-pub overflow_add-i : goal.overflow_add-i
-overflow_add-i c = omega arith
-
-pub loop-i-smaller : goal.loop-i-smaller
-loop-i-smaller c = omega arith
 
 pub loop-i-preserved : goal.loop-i-preserved
 loop-i-preserved c =
@@ -83,12 +36,3 @@ loop-i-preserved c =
       subst (λ (v : ℕ). Begun (rule d old) old (set l.image i v) (i + 1)) (sym e)
           (go_on (rule d old) old l.image i room l.invariant.1),
     )
-
-pub shape_of-image : goal.shape_of-image
-shape_of-image c = c.loop-i.invariant.1.1.same
-
-pub returns : goal.returns
-returns c =
-    let l = c.loop-i in
-    let a = c.args in
-    said _ _ _ _ a.image.now l.image l.invariant.1.1 (λ k z. omega arith) (λ k z. omega arith) (λ k z. refl)

@@ -1,6 +1,6 @@
 -- Turn i stores alpha i: the base moved by product i, as the machine holds it.
 -- Assumes nothing.
-use mathlib.Core.Path.{◌≡◌, ◌∙◌, refl, ap}
+use mathlib.Core.Path.{◌≡◌, ◌∙◌, ap}
 use mathlib.Core.List.{List}
 use Prim.Native.Nat.{ℕ, ◌<◌}
 use native.Mathlib.Omega.{arith}
@@ -9,7 +9,7 @@ use lib.ListN.{get_or}
 use lib.Signed.{mag}
 use mir.Syntax.{w16}
 use Rattle.rules.specs.Notation.{bits, clamp}
-use Rattle.laws.proofs.Filling.{in_order_lem, begun, stored_next, filled_all}
+use Rattle.laws.proofs.Filling.{stored_next, filled_all}
 use Rattle.laws.proofs.Signed.{held, held_small, cast_pos}
 use Rattle.etc_alpha.proofs.channel.Moves.{small_product}
 use Rattle.etc_alpha.proofs.channel.eight_alphas.Invariants.{product_at}
@@ -19,35 +19,11 @@ use Rattle.etc_alpha.proofs.channel.eight_alphas.Goals as goal
 small : (b j : ℕ) → mag (product_at b j) < 256
 small b j = small_product (bits 7 4 b) (bits 3 0 b) j (omega arith) (omega arith)
 
-pub loop-i-init : goal.loop-i-init
-loop-i-init c = begun in_order_lem _ (pos 0) 8 _ refl
-
-pub offset_bounds-products-i : goal.offset_bounds-products-i
-offset_bounds-products-i c = omega arith
-
-pub bounds-products-i : goal.bounds-products-i
-bounds-products-i c = omega arith
-
 pub alpha-requires : goal.alpha-requires
 alpha-requires c =
     let product : (j : ℕ) → held w16 (get_or c.products_of-products.result j (pos 0)) ≡ product_at c.args.b j = λ j. ap (λ (l : List ℤ). held w16 (get_or l j (pos 0))) c.products_of-products.ensures
     ∙ held_small w16 (product_at c.args.b j) (omega (arith, small c.args.b j)) in
     rw (product c.loop-i.i) (small c.args.b c.loop-i.i)
-
-pub overflow_cast-eight : goal.overflow_cast-eight
-overflow_cast-eight c = record { sfits = omega (arith, c.alpha.ensures.1) }
-
-pub offset_bounds-eight-i : goal.offset_bounds-eight-i
-offset_bounds-eight-i c = omega arith
-
-pub bounds-eight-i : goal.bounds-eight-i
-bounds-eight-i c = omega arith
-
-pub overflow_add-i : goal.overflow_add-i
-overflow_add-i c = omega arith
-
-pub loop-i-smaller : goal.loop-i-smaller
-loop-i-smaller c = omega arith
 
 pub loop-i-preserved : goal.loop-i-preserved
 loop-i-preserved c =

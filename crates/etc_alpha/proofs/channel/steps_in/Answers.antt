@@ -10,35 +10,10 @@ use lib.Signed.{mag}
 use mir.Syntax.{w8, w16}
 use Rattle.rules.specs.Channels.{alpha_steps_lem}
 use Rattle.laws.proofs.Filled.{is_build}
-use Rattle.laws.proofs.Filling.{in_order_lem, begun, stored_next, filled_all}
-use Rattle.laws.proofs.Signed.{held_small, held_twice}
+use Rattle.laws.proofs.Filling.{stored_next, filled_all}
+use Rattle.laws.proofs.Signed.{held, held_twice}
 use Rattle.etc_alpha.proofs.channel.Steps.{small_row, eight_in_row}
 use Rattle.etc_alpha.proofs.channel.steps_in.Goals as goal
-
-pub loop-i-init : goal.loop-i-init
-loop-i-init c = begun in_order_lem _ (pos 0) 8 _ refl
-
-pub offset_bounds-table-row : goal.offset_bounds-table-row
-offset_bounds-table-row c = omega arith
-
-pub overflow_cast-out : goal.overflow_cast-out
-overflow_cast-out c =
-    let read : ℤ = get_or (get_or c.args.table.now c.args.row []) c.loop-i.i (pos 0) in
-    let is-step : read ≡ get_or (get_or alpha_steps_lem c.args.row []) c.loop-i.i (pos 0) = ap (λ (a : List (List ℤ)). get_or (get_or a c.args.row []) c.loop-i.i (pos 0)) c.requires.1 in
-    let is-small : mag read < 16 = rw is-step (small_row _ _ c.requires.0) in
-    rw (held_small w8 read (omega (arith, is-small))) (record { sfits = omega (arith, is-small) })
-
-pub offset_bounds-out-i : goal.offset_bounds-out-i
-offset_bounds-out-i c = omega arith
-
-pub bounds-out-i : goal.bounds-out-i
-bounds-out-i c = omega arith
-
-pub overflow_add-i : goal.overflow_add-i
-overflow_add-i c = omega arith
-
-pub loop-i-smaller : goal.loop-i-smaller
-loop-i-smaller c = omega arith
 
 pub loop-i-preserved : goal.loop-i-preserved
 loop-i-preserved c =
@@ -47,7 +22,7 @@ loop-i-preserved c =
     let is-small : mag read < 16 = rw is-step (small_row _ _ c.requires.0) in
     let l = c.loop-i in
     let s = is-small in
-    stored_next _ (pos 0) 8 l.out l.i l.invariant _ (omega arith) (held_twice w8 w16 read (omega arith) (omega arith) ∙ is-step)
+    stored_next _ (pos 0) 8 l.out l.i l.invariant _ (omega arith) (ap (held w16) c.from.ensures ∙ held_twice w8 w16 read (omega arith) (omega arith) ∙ is-step)
 
 pub returns : goal.returns
 returns c =

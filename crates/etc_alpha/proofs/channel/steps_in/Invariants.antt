@@ -1,6 +1,5 @@
--- The invariant and the measure of the loop of `etc_alpha::channel::steps_in`.
+-- The invariant of the loop of `etc_alpha::channel::steps_in`.
 use mathlib.Core.List.{[]}
-use Prim.Native.Nat.{◌-◌}
 use lib.IntN.{pos}
 use lib.ListN.{get_or}
 use Rattle.rules.specs.Channels.{alpha_steps_lem}
@@ -9,6 +8,3 @@ use Rattle.etc_alpha.proofs.channel.steps_in.Given as goal
 
 abbrev pub invariant-loop-i : goal.invariant-loop-i
 invariant-loop-i l = Filling in_order_lem (λ j. get_or (get_or alpha_steps_lem l.row []) j (pos 0)) (pos 0) 8 l.i l.out
-
-abbrev pub decreases-loop-i : goal.decreases-loop-i
-decreases-loop-i l = 8 - l.i

@@ -1,6 +1,6 @@
 -- Turn i stores at the place of pixel 15 - i what the word's low three bits pick, and the word loses them.
 -- Assumes nothing.
-use mathlib.Core.Path.{◌≡◌, ◌∙◌, refl, sym, ap}
+use mathlib.Core.Path.{◌≡◌, ◌∙◌, sym, ap}
 use mathlib.Core.List.{List}
 use Prim.Native.Nat.{ℕ, ◌-◌, ◌*◌, ◌/◌, ◌%◌, ◌^◌}
 use native.Mathlib.Omega.{arith}
@@ -9,31 +9,13 @@ use lib.ListN.{get_or}
 use mir.Syntax.{w16}
 use Rattle.tables.specs.consts.Tables.{write_order_lem}
 use Rattle.laws.proofs.Filled.{get_or_build}
-use Rattle.laws.proofs.Filling.{begun, stored, filled}
+use Rattle.laws.proofs.Filling.{stored, filled}
 use Rattle.laws.proofs.Order.{shifted, place, place_only}
 use Rattle.laws.proofs.Signed.{held_small}
 use Rattle.etc_alpha.specs.picks.Picks.{pick_at}
 use Rattle.etc_alpha.proofs.picks.Indices.{reads}
 use Rattle.etc_alpha.proofs.picks.picked.Invariants.{backwards}
 use Rattle.etc_alpha.proofs.picks.picked.Goals as goal
-
-pub loop-i-init : goal.loop-i-init
-loop-i-init c = (omega arith, begun backwards _ (pos 0) 16 _ refl)
-
-pub offset_bounds-eight-l : goal.offset_bounds-eight-l
-offset_bounds-eight-l c = omega arith
-
-pub bounds-eight-l : goal.bounds-eight-l
-bounds-eight-l c = omega arith
-
-pub overflow_sub-out : goal.overflow_sub-out
-overflow_sub-out c = omega arith
-
-pub offset_bounds-order-i : goal.offset_bounds-order-i
-offset_bounds-order-i c = omega arith
-
-pub bounds-order-i : goal.bounds-order-i
-bounds-order-i c = omega arith
 
 pub offset_bounds-out-order : goal.offset_bounds-out-order
 unfolding write_order_lem
@@ -48,12 +30,6 @@ bounds-out-order c =
     let at : get_or c.write_order-order.result (15 - c.loop-i.i) 0 ≡ place (15 - c.loop-i.i) = let j = 15 - c.loop-i.i in
     ap (λ (a : List ℕ). get_or a j 0) c.write_order-order.ensures ∙ get_or_build place 0 16 j (omega arith) in
     omega (arith, at)
-
-pub overflow_add-i : goal.overflow_add-i
-overflow_add-i c = omega arith
-
-pub loop-i-smaller : goal.loop-i-smaller
-loop-i-smaller c = omega arith
 
 pub loop-i-preserved : goal.loop-i-preserved
 unfolding write_order_lem

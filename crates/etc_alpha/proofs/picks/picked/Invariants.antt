@@ -1,4 +1,4 @@
--- The invariant and the measure of the loop of `etc_alpha::picks::picked`.
+-- The invariant of the loop of `etc_alpha::picks::picked`.
 use mathlib.Core.Path.{◌≡◌}
 use Prim.Native.Nat.{ℕ, ◌-◌, ◌*◌, ◌/◌, ◌^◌}
 use lib.IntN.{pos}
@@ -13,6 +13,3 @@ backwards k = 15 - place k
 
 abbrev pub invariant-loop-i : goal.invariant-loop-i
 invariant-loop-i s = (s.l ≡ s.initial.l / 2 ^ (3 * s.i)) × Filling backwards (pick_at s.d s.eight) (pos 0) 16 s.i s.out
-
-abbrev pub decreases-loop-i : goal.decreases-loop-i
-decreases-loop-i s = 16 - s.i

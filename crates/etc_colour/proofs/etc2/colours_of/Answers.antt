@@ -1,6 +1,5 @@
 -- T and H by their own functions, and every other by its halves.
 -- Assumes nothing.
-use borrow.Enum.Refused.{opened}
 use Rattle.std.proofs.Common.{sym, ap, ◌∙◌}
 use Rattle.rules.specs.declared.Kind.{Kind}
 use Rattle.etc_colour.specs.shade.Pick.{eight}
@@ -21,6 +20,7 @@ returns-in-H c =
     let a = c.args in
     c.h_colours.ensures ∙ ap (λ (k : Kind). eight (λ h. punched a.opaque (made_colours (steps_where a.opaque) k a.d.now h))) (sym c.in-H.is)
 
-pub returns : goal.returns
-returns c =
-    c.both_halves.ensures ∙ of_halves c.args.kind c.args.opaque c.args.d.now (opened c.in_default.in_default-own.keys2) (opened c.in_default-kind.in_default-kind-own.keys2) c.requires.2
+pub returns-in_default : goal.returns-in_default
+returns-in_default c =
+    let a = c.args in
+    c.both_halves.ensures ∙ of_halves a.kind a.opaque a.d.now c.in_default.not-T c.in_default.not-H c.requires.2

@@ -1,6 +1,5 @@
 -- A planar block by its plane, and every other by the pick of its eight colours.
 -- Assumes nothing.
-use borrow.Enum.Refused.{opened}
 use Rattle.std.proofs.Common.{sym, ap, ◌∙◌}
 use Rattle.rules.specs.Places.{tile}
 use Rattle.rules.specs.declared.Kind.{Kind}
@@ -14,11 +13,7 @@ returns-in-Planar c =
     let a = c.args in
     c.planar_block.ensures ∙ ap (λ (k : Kind). tile (made_pixel k a.opaque) a.d.now) (sym c.in-Planar.is)
 
-pub colours_of-requires : goal.colours_of-requires
-colours_of-requires c =
-    (c.requires.0, c.requires.1, not_planar c.args.kind (opened c.in_default.in_default-own.keys2))
-
-pub returns : goal.returns
-returns c =
+pub returns-in_default : goal.returns-in_default
+returns-in_default c =
     let a = c.args in
-    c.picked.ensures ∙ picked a.kind a.opaque a.d.now _ (not_planar a.kind (opened c.in_default.in_default-own.keys2)) c.colours_of.ensures
+    c.picked.ensures ∙ picked a.kind a.opaque a.d.now _ (not_planar a.kind c.in_default.not-Planar) c.colours_of.ensures

@@ -5,13 +5,8 @@ use Rattle.rules.specs.Modes.{h_bases, h_distance, h_colours_lem}
 use Rattle.etc_colour.specs.shade.Tone.{punched}
 use Rattle.etc_colour.proofs.shade.Pick.{halves}
 use Rattle.etc_colour.specs.fields.Fields.{distance_at}
-use Rattle.etc_colour.proofs.modes.Four.{steps_h, h_four}
+use Rattle.etc_colour.proofs.modes.Four.{h_four}
 use Rattle.etc_colour.proofs.modes.h_colours.Goals as goal
-
-pub four_colours-four-requires : goal.four_colours-four-requires
-four_colours-four-requires c =
-    let o = c.args.opaque in
-    rw c.h_steps-steps.ensures (steps_h c.distance.result c.distance.ensures.1 o)
 
 pub returns : goal.returns
 returns c =

@@ -4,13 +4,8 @@ use Rattle.std.proofs.Common.{◌∙◌}
 use Rattle.rules.specs.Modes.{t_bases, t_distance, t_colours_lem}
 use Rattle.etc_colour.specs.shade.Tone.{punched}
 use Rattle.etc_colour.proofs.shade.Pick.{halves}
-use Rattle.etc_colour.proofs.modes.Four.{steps_t, t_four}
+use Rattle.etc_colour.proofs.modes.Four.{t_four}
 use Rattle.etc_colour.proofs.modes.t_colours.Goals as goal
-
-pub four_colours-four-requires : goal.four_colours-four-requires
-four_colours-four-requires c =
-    let o = c.args.opaque in
-    rw c.t_steps-steps.ensures (steps_t c.distance.result c.distance.ensures.1 o)
 
 pub returns : goal.returns
 returns c =

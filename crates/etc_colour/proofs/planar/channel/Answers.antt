@@ -4,32 +4,8 @@ use Rattle.laws.proofs.Signed.{held, held_is}
 use Rattle.laws.proofs.Diff.{Is, is_fits, is_held, is_natural, is_negative, is_quotient}
 use Rattle.rules.specs.Modes.{planar_channel}
 use Rattle.etc_colour.proofs.planar.Fold.{planar_is, more, fewer}
-use Rattle.etc_colour.proofs.planar.Machine.{gap, part, four, two, three, all, all_m, small_more, small_fewer}
+use Rattle.etc_colour.proofs.planar.Machine.{two, three, all, all_m, small_more, small_fewer}
 use Rattle.etc_colour.proofs.planar.channel.Goals as goal
-
-pub overflow_sub-n : goal.overflow_sub-n
-overflow_sub-n c = is_fits w16 (gap c.args.h c.args.o (omega arith) (omega arith)) (omega arith) (omega arith)
-
-pub overflow_mul-n : goal.overflow_mul-n
-overflow_mul-n c =
-    let small : (more c.args.o c.args.h c.args.v c.args.x c.args.y < 3000) × (fewer c.args.o c.args.x c.args.y < 3000) = (
-      small_more c.args.o c.args.h c.args.v c.args.x c.args.y (omega arith) (omega arith) (omega arith) (omega arith) (omega arith),
-      small_fewer c.args.o c.args.h c.args.v c.args.x c.args.y (omega arith) (omega arith) (omega arith) (omega arith) (omega arith),
-    ) in
-    is_fits w16 (part c.args.x c.args.h c.args.o (omega arith) (omega arith) (omega arith))
-    (omega (arith, small)) (omega (arith, small))
-
-pub overflow_sub-n-2 : goal.overflow_sub-n-2
-overflow_sub-n-2 c = is_fits w16 (gap c.args.v c.args.o (omega arith) (omega arith)) (omega arith) (omega arith)
-
-pub overflow_mul-n-2 : goal.overflow_mul-n-2
-overflow_mul-n-2 c =
-    let small : (more c.args.o c.args.h c.args.v c.args.x c.args.y < 3000) × (fewer c.args.o c.args.x c.args.y < 3000) = (
-      small_more c.args.o c.args.h c.args.v c.args.x c.args.y (omega arith) (omega arith) (omega arith) (omega arith) (omega arith),
-      small_fewer c.args.o c.args.h c.args.v c.args.x c.args.y (omega arith) (omega arith) (omega arith) (omega arith) (omega arith),
-    ) in
-    is_fits w16 (part c.args.y c.args.v c.args.o (omega arith) (omega arith) (omega arith))
-    (omega (arith, small)) (omega (arith, small))
 
 pub overflow_add-n : goal.overflow_add-n
 overflow_add-n c =
@@ -39,9 +15,6 @@ overflow_add-n c =
     ) in
     is_fits w16 (two c.args.o c.args.h c.args.v c.args.x c.args.y (omega arith) (omega arith) (omega arith) (omega arith) (omega arith))
     (omega (arith, small)) (omega (arith, small))
-
-pub overflow_mul-n-3 : goal.overflow_mul-n-3
-overflow_mul-n-3 c = is_fits w16 (four c.args.o (omega arith)) (omega arith) (omega arith)
 
 pub overflow_add-n-2 : goal.overflow_add-n-2
 overflow_add-n-2 c =

@@ -7,4 +7,4 @@ use Rattle.etc_colour.proofs.planar.planar_below.Goals as goal
 
 pub returns : goal.returns
 unfolding planar_bases_lem
-returns c = simp div-one (three c.wide6.ensures c.wide7.ensures c.wide6-2.ensures)
+returns c = simp div-one (three c.widened.ensures c.widened-2.ensures c.widened-3.ensures)

@@ -1,67 +1,68 @@
 -- `file::levels::levels` meets its contract: what is left to walk comes to the same at each turn.
 -- Assumes nothing.
-use mathlib.Core.Path.{◌∙◌, sym, ap}
-use Prim.Native.Nat.{◌+◌, ◌-◌}
+use mathlib.Core.Path.{◌≡◌, ◌∙◌, sym, ap}
+use mathlib.Core.Bool.{Bool, cond}
+use Prim.Native.Nat.{ℕ, ◌+◌, ◌-◌}
 use native.Mathlib.Omega.{arith}
 use native.Mathlib.Nat.{sub-zero}
+use borrow.Author.Tests.{eq-eqb, ne_eqb}
 use lib.ListN.{length}
-use Rattle.rules.specs.FileLevels.{level_at_lem, lesser, chosen, levels_of}
-use Rattle.rules.specs.declared.FileLevel.{FileLevel}
-use Rattle.file.proofs.Walk.{fits, stops, onward, over}
+use Rattle.std.proofs.lemmas.Result.{err_from_is_err_and}
+use Rattle.std.specs.Prelude.{Ok, Err}
+use Rattle.rules.specs.FileLevels.{fit_in, fit_of_lem, level_at_lem, next_spot_lem, halved, lesser, chosen, levels_of}
+use Rattle.file.proofs.Walk.{fits, least, stops, onward, over}
 use Rattle.file.proofs.levels.levels.Goals as goal
+use Rattle.file.proofs.levels.levels.Goals.{then-n-i, else-n-i}
 
 pub loop-i-init : goal.loop-i-init
 unfolding levels_of
-loop-i-init c = (omega arith, omega arith, omega arith, simp sub-zero)
+loop-i-init c = (omega arith, omega arith, simp sub-zero)
 
-pub fit_of-fit-requires : goal.fit_of-fit-requires
-fit_of-fit-requires c = omega arith
-
-pub level_at-level-requires : goal.level_at-level-requires
-level_at-level-requires c = omega arith
-
-pub left_behind-left-requires : goal.left_behind-left-requires
-unfolding level_at_lem
-left_behind-left-requires c = let l = c.loop-i in
+pub returns-in_err-start : goal.returns-in_err-start
+unfolding fit_of_lem
+returns-in_err-start c =
+    let l = c.loop-i in
     let a = c.args in
-    simp c.level_at-level.ensures
-    (fits a.l a.bytes.now l.i l.s _ (sym c.in-Fits.is ∙ c.fit_of-fit.ensures))
+    let p = err_from_is_err_and c.from_residual.result c.from_residual.ensures.1 in
+    let e : Err c.in_err-start.field-0.0 ≡ fit_of_lem a.l a.bytes.now l.i l.s = c.in_err-start.ensures ∙ ap (fit_in a.l.container a.l.big_endian a.bytes.now l.i l.s.at) c.bytes_for-length.ensures.0 in
+    rw (p.1, p.2) (stops a.l a.bytes.now a.n l.left l.found l.i l.s _ (omega arith) e ∙ l.invariant.2)
 
-pub next_spot-s-requires : goal.next_spot-s-requires
-next_spot-s-requires c = let l = c.loop-i in
-    let a = c.args in
-    let h = fits a.l a.bytes.now l.i l.s _ (sym c.in-Fits.is ∙ c.fit_of-fit.ensures) in
-    (omega arith, omega arith, omega arith)
+pub overflow_add-end : goal.overflow_add-end
+overflow_add-end c = let h = fits _ _ _ _ _ _ _ c.in_ok-start.ensures in omega (arith, h)
 
-pub overflow_add-i : goal.overflow_add-i
-overflow_add-i c = omega arith
-
-pub loop-i-smaller : goal.loop-i-smaller
-loop-i-smaller c = omega arith
+pub overflow_sub-bytes : goal.overflow_sub-bytes
+overflow_sub-bytes c = fits _ _ _ _ _ _ _ c.in_ok-start.ensures
 
 pub loop-i-preserved : goal.loop-i-preserved
-unfolding level_at_lem
-loop-i-preserved c = let t = c.level_at-level in
+unfolding fit_of_lem level_at_lem next_spot_lem
+loop-i-preserved c =
     let l = c.loop-i in
-    let a = c.args in (
-      omega arith,
-      c.next_spot-s.ensures.1,
-      c.next_spot-s.ensures.2,
-      onward a.l a.bytes.now a.n l.left l.found l.i l.s c.in-Fits.start _ _ _
+    let a = c.args in
+    let need = c.bytes_for-length.ensures.0 in
+    let e : Ok c.in_ok-start.start ≡ fit_of_lem a.l a.bytes.now l.i l.s = c.in_ok-start.ensures ∙ ap (fit_in a.l.container a.l.big_endian a.bytes.now l.i l.s.at) c.bytes_for-length.ensures.0 in
+    let level : c.if-n-i.found ≡ chosen a.n l.i (level_at_lem a.l l.s c.in_ok-start.start) l.found =
+    elim c.if-n-i.branch [
+      | then-n-i w ↦
+          w.found-is
+          ∙ ap (λ (n : ℕ). record { width = l.s.width; height = l.s.height; start = c.in_ok-start.start; length = n }) need
+          ∙ sym (ap (λ (b : Bool). cond b (level_at_lem a.l l.s c.in_ok-start.start) l.found) (eq-eqb a.n l.i w.if-n-i.true))
+      | else-n-i w ↦
+          w.found-is ∙ sym (ap (λ (b : Bool). cond b (level_at_lem a.l l.s c.in_ok-start.start) l.found) (ne_eqb a.n l.i w.if-n-i.false))
+    ] in
+    let spot : record { width = c.halved.result; height = c.halved-in-loop-i.result; at = c.in_ok-start.start + c.bytes_for-length.result } ≡ next_spot_lem a.l l.s c.in_ok-start.start =
+    ap (λ (n : ℕ). record { width = n; height = c.halved-in-loop-i.result; at = c.in_ok-start.start + c.bytes_for-length.result }) c.halved.ensures.0
+    ∙ ap (λ (n : ℕ). record { width = halved l.s.width; height = n; at = c.in_ok-start.start + c.bytes_for-length.result }) c.halved-in-loop-i.ensures.0
+    ∙ ap (λ (n : ℕ). record { width = halved l.s.width; height = halved l.s.height; at = c.in_ok-start.start + n }) need in (
+      omega (arith, c.halved.ensures.1, l.invariant.0),
+      omega (arith, c.halved-in-loop-i.ensures.1, l.invariant.1),
+      onward a.l a.bytes.now a.n l.left l.found l.i l.s c.in_ok-start.start _ _ _
           (omega arith)
-          (sym c.in-Fits.is ∙ c.fit_of-fit.ensures)
-          (c.left_behind-left.ensures ∙ ap (λ (z : FileLevel). lesser l.left (length a.bytes.now - (z.start + z.length))) t.ensures)
-          (c.chosen-found.ensures ∙ ap (λ (z : FileLevel). chosen a.n l.i z l.found) t.ensures)
-          c.next_spot-s.ensures.0
-          ∙ l.invariant.3,
+          e
+          (c.min-left.ensures ∙ least _ _ ∙ ap (λ (n : ℕ). lesser l.left (length a.bytes.now - (c.in_ok-start.start + n))) need)
+          level
+          spot
+          ∙ l.invariant.2,
     )
 
-pub returns-in-Refused : goal.returns-in-Refused
-returns-in-Refused c = let l = c.loop-i in
-    let a = c.args in
-    stops a.l a.bytes.now a.n l.left l.found l.i l.s _ (omega arith) (sym c.in-Refused.is ∙ c.fit_of-fit.ensures) ∙ l.invariant.3
-
 pub returns : goal.returns
-returns c = let l = c.loop-i in
-    let a = c.args in
-    sym (over a.l a.bytes.now a.n l.left l.found l.i l.s (omega arith)) ∙ l.invariant.3
+returns c = sym (over c.args.l c.args.bytes.now c.args.n c.loop-i.left c.loop-i.found c.loop-i.i c.loop-i.s (omega arith)) ∙ c.loop-i.invariant.2

@@ -1,89 +1,40 @@
 -- `pieces::joined::paint_joined` meets its contract: the block that is in both, and then those that are in the new bytes alone.
 -- Assumes nothing.
-use mathlib.Core.Path.{◌≡◌, ◌∙◌, ap}
-use mathlib.Core.List.{List, ◌++◌}
-use Prim.Native.Nat.{ℕ, ◌+◌, ◌-◌, ◌*◌, ◌<◌, ◌≤◌}
-use native.Mathlib.Omega.{arith}
-use lib.ListN.{length, take, drop, length-drop, length-append}
+use Rattle.std.proofs.Common.{◌≡◌, ◌∙◌, ap, List, ℕ, ◌+◌, ◌-◌, ◌*◌, ◌<◌, ◌≤◌, length, take, drop, length-append, arith, rules}
 use lib.Seq.{length-take-le}
 use Rattle.rules.specs.Places.{bytes_of, bytes_from}
 use Rattle.rules.specs.Formats.{size_of, shows_of}
 use Rattle.laws.proofs.Parts.{rest}
-use Rattle.pixel.proofs.place.Grid.{kept}
 use Rattle.blocks.proofs.Blocks.{room}
-use Rattle.pieces.proofs.kept.Joined.{joint_block, later_block}
 use Rattle.blocks.proofs.Runs.{two_runs, other_bytes}
-use Rattle.pieces.proofs.kept.Numbers.{peel, one_block}
-use borrow.Author.Rules.{rules}
+use Rattle.pieces.specs.Arrived.{all_of}
+use Rattle.pieces.proofs.kept.Joined.{joint_block, later_block}
+use Rattle.pieces.proofs.kept.Numbers.{peel}
 use Rattle.pieces.proofs.joined.paint_joined.Goals as goal
-
-pub returns-then-held-eq0 : goal.returns-then-held-eq0
-returns-then-held-eq0 c = rw c.if-held-eq0.true c.paint.ensures
-
-pub paint-requires-2 : goal.paint-requires-2
-paint-requires-2 c =
-    let some : c.args.first < c.args.last = omega (arith, c.if-first-last.false, c.requires.width_le_limit.2) in
-    let l : length c.first_block-joint.result ≡ 16 =
-    ap length c.first_block-joint.ensures in record {
-      width_le_limit =
-          (c.requires.width_le_limit.0, c.requires.width_le_limit.1, omega arith, omega (arith, some, c.requires.width_le_limit.3));
-      room = (c.requires.width_le_limit.4, omega (arith, one_block c.args.first (size_of c.args.f), c.size.ensures.0));
-    }
-
-pub slice_bounds-paint-count : goal.slice_bounds-paint-count
-slice_bounds-paint-count c =
-    let some : c.args.first < c.args.last = omega (arith, c.if-first-last.false, c.requires.width_le_limit.2) in
-    let parted : (c.args.last - (c.args.first + 1)) * size_of c.args.f + size_of c.args.f ≤ c.args.held + length c.args.bytes.now =
-    omega (arith, peel c.args.first c.args.last (size_of c.args.f) some, c.requires.held_bound.1) in
-    omega (arith, parted, c.size.ensures.0)
-
-pub slice_bounds-paint-start : goal.slice_bounds-paint-start
-slice_bounds-paint-start c =
-    let some : c.args.first < c.args.last = omega (arith, c.if-first-last.false, c.requires.width_le_limit.2) in
-    let parted : (c.args.last - (c.args.first + 1)) * size_of c.args.f + size_of c.args.f ≤ c.args.held + length c.args.bytes.now =
-    omega (arith, peel c.args.first c.args.last (size_of c.args.f) some, c.requires.held_bound.1) in
-    omega (arith, parted, c.size.ensures.0)
-
-pub paint-requires-3 : goal.paint-requires-3
-paint-requires-3 c =
-    let some : c.args.first < c.args.last = omega (arith, c.if-first-last.false, c.requires.width_le_limit.2) in
-    let parted : (c.args.last - (c.args.first + 1)) * size_of c.args.f + size_of c.args.f ≤ c.args.held + length c.args.bytes.now =
-    omega (arith, peel c.args.first c.args.last (size_of c.args.f) some, c.requires.held_bound.1) in record {
-      width_le_limit = (c.requires.width_le_limit.0, c.requires.width_le_limit.1, omega (arith, some), c.requires.width_le_limit.3);
-      room = (
-        kept c.args.pic _ _ c.requires.width_le_limit.4 c.paint-2.ensures.same,
-        omega (
-          arith,
-          parted,
-          c.size.ensures.0,
-          ap length (rest (c.size.result - c.args.held) c.args.bytes.now),
-          length-drop (c.size.result - c.args.held) c.args.bytes.now,
-        ),
-      );
-    }
 
 pub returns : goal.returns
 returns c =
-    let fifteen : length c.args.kept ≡ 15 = search rules in
-    let hand : List ℕ = take c.args.held c.args.kept ++ c.args.bytes.now in
-    let some : c.args.first < c.args.last = omega (arith, c.if-first-last.false, c.requires.width_le_limit.2) in
-    let parted : (c.args.last - (c.args.first + 1)) * size_of c.args.f + size_of c.args.f ≤ c.args.held + length c.args.bytes.now =
-    omega (arith, peel c.args.first c.args.last (size_of c.args.f) some, c.requires.held_bound.1) in
     let a = c.args in
-    let w = size_of a.f in
-    let e = c.size.ensures in
-    let long : a.held ≤ length a.kept = omega (arith, fifteen, e.0) in
-    let size : length hand ≡ a.held + length a.bytes.now =
-    length-append (take a.held a.kept) a.bytes.now ∙ ap (λ (x : ℕ). x + length a.bytes.now) (length-take-le a.held a.kept long) in
+    let v = a.arrived.now in
+    let d = v.bytes.now in
+    let s = size_of a.f in
+    let shows = shows_of a.f in
+    let both = all_of v in
+    let some : a.first < a.last = omega arith in
+    let parted : (a.last - (a.first + 1)) * s + s ≤ v.held + length d = omega (arith, peel a.first a.last s some, c.requires.held_bound.1) in
+    let fifteen : length v.kept ≡ 15 = search rules in
+    let long : v.held ≤ length v.kept = omega (arith, fifteen, v.few) in
+    let size : length both ≡ v.held + length d = length-append (take v.held v.kept) d ∙ ap (λ (x : ℕ). x + length d) (length-take-le v.held v.kept long) in
     two_runs a.pic a.first (a.first + 1) a.last _ a.image.now _ _ (omega arith) (omega (arith, some))
-    (other_bytes a.pic (shows_of a.f) a.first (a.first + 1) _ (bytes_from w a.first hand) a.image.now _
-    (λ n i j. ap (λ (l : List ℕ). bytes_of w l (n - a.first)) c.first_block-joint.ensures
-    ∙ joint_block w (n - a.first) hand (omega (arith, e.0)) (omega (arith, size, parted)) (omega arith))
-    c.paint-2.ensures)
-    (other_bytes a.pic (shows_of a.f) (a.first + 1) a.last _ (bytes_from w a.first hand) _ _
+    (other_bytes a.pic shows a.first (a.first + 1) _ (bytes_from s a.first both) a.image.now _
     (λ n i j.
-    ap (λ (l : List ℕ). bytes_of w l (n - (a.first + 1)))
-    (rest (c.size.result - a.held) a.bytes.now ∙ ap (λ (x : ℕ). drop (x - a.held) a.bytes.now) e.0)
-    ∙ later_block w (n - (a.first + 1)) (n - a.first) a.held a.kept a.bytes.now (omega (arith, c.requires.held_bound.0)) long (omega arith)
-    (room w (a.last - a.first) (n - a.first) _ (omega (arith, some)) c.requires.held_bound.1))
+    ap (λ (l : List ℕ). bytes_of s l (n - a.first)) c.first_block.ensures
+    ∙ joint_block s (n - a.first) both (omega arith) (omega (arith, size, parted)) (omega arith))
+    c.paint-2.ensures)
+    (other_bytes a.pic shows (a.first + 1) a.last _ (bytes_from s a.first both) _ _
+    (λ n i j.
+    ap (λ (l : List ℕ). bytes_of s l (n - (a.first + 1)))
+    (rest (c.size.result - v.held) d ∙ ap (λ (x : ℕ). drop (x - v.held) d) c.size.ensures.0)
+    ∙ later_block s (n - (a.first + 1)) (n - a.first) v.held v.kept d (omega arith) long (omega arith)
+    (room s (a.last - a.first) (n - a.first) _ (omega arith) c.requires.held_bound.1))
     c.paint-3.ensures)

@@ -13,4 +13,4 @@ fill-requires c = simp length-take (omega arith)
 
 pub returns : goal.returns
 returns c =
-    sixteen c.args.tile c.args.image.now _ c.requires c.fill.ensures
+    sixteen c.args.tile c.args.image.now _ c.requires (c.fill.ensures 0)

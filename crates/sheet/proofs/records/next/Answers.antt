@@ -1,55 +1,39 @@
 -- `sheet::records::next` meets its contract: what was passed is skipped, so that what is met behind it is what is met.
 -- Assumes nothing.
-use borrow.Enum.Refused.{opened}
-use mathlib.Core.Path.{◌∙◌, refl, ap}
+use mathlib.Core.Path.{◌∙◌, ap}
+use Prim.Native.Nat.{◌≤◌}
 use native.Mathlib.Omega.{arith}
-use borrow.Author.Rules.{rules}
+use Rattle.std.proofs.lemmas.Result.{err_from_is_err_and}
+use Rattle.std.specs.Prelude.{Ok, Some, None}
 use Rattle.rules.specs.Records.{kept}
-use Rattle.sheet.specs.records.Turns.{all, Turn}
-use Rattle.sheet.specs.declared.records.Met.TheVariants.{Whole}
-use Rattle.sheet.proofs.records.Turns.{is_end, skips, stays, begins_behind, none_kept, sooner, turn_of}
+use Rattle.sheet.specs.records.Turns.{all, Turn, Stands}
+use Rattle.sheet.proofs.records.Turns.{skips, stays, begins_behind, sooner}
 use Rattle.sheet.proofs.records.next.Goals as goal
 
-pub loop-at-init : goal.loop-at-init
-loop-at-init c = (search rules, omega arith, refl, refl)
+pub returns-in_err-record : goal.returns-in_err-record
+unfolding kept
+returns-in_err-record c =
+    let p = err_from_is_err_and c.from_residual.result c.from_residual.ensures.1 in
+    rw (p.1, p.2) (c.in_err-record.ensures.0, c.loop-record.invariant.2 ∙ ap kept c.in_err-record.ensures.1)
 
-pub returns-in_default : goal.returns-in_default
-returns-in_default c =
-    let a = c.args in
-    sooner a.d.now a.from c.loop-at.at c.record_at-met.result
-    c.loop-at.invariant.1 c.loop-at.invariant.2 c.loop-at.invariant.3 (none_kept a.d.now c.loop-at.at c.record_at-met.result c.record_at-met.ensures (opened c.in_default.in_default-own.keys2))
+pub returns-then-record-lt32768 : goal.returns-then-record-lt32768
+returns-then-record-lt32768 c =
+    let turn : Turn all c.args.d.now c.loop-record.at c.in-Some.record.kind c.in-Some.record.start c.in-Some.record.length = rw c.in-Some.is at c.in_ok-record.ensures in
+    sooner c.args.d.now c.args.from c.loop-record.at (Ok (Some c.in-Some.record)) c.loop-record.invariant.1 c.loop-record.invariant.2 c.loop-record.invariant.3
+    (stays c.args.d.now c.loop-record.at _ _ _ turn (omega (arith, c.if-record-lt32768.true)))
 
-pub returns-then-kind-lt32768 : goal.returns-then-kind-lt32768
-returns-then-kind-lt32768 c =
-    let turn : Turn all c.args.d.now c.loop-at.at c.in-Whole.kind c.in-Whole.start c.in-Whole.len = turn_of all _ _ c.record_at-met.result c.in-Whole.is c.record_at-met.ensures in
-    let a = c.args in
-    sooner a.d.now a.from c.loop-at.at
-    (Whole c.in-Whole.kind c.in-Whole.start c.in-Whole.len) c.loop-at.invariant.1 c.loop-at.invariant.2 c.loop-at.invariant.3
-    (stays a.d.now c.loop-at.at _ _ _ turn (omega (arith, c.if-kind-lt32768.true)))
-
-pub overflow_add-at : goal.overflow_add-at
-overflow_add-at c =
-    let turn : Turn all c.args.d.now c.loop-at.at c.in-Whole.kind c.in-Whole.start c.in-Whole.len = turn_of all _ _ c.record_at-met.result c.in-Whole.is c.record_at-met.ensures in
-    let t = turn in omega (arith, t.within)
-
-pub loop-at-smaller : goal.loop-at-smaller
-loop-at-smaller c =
-    let turn : Turn all c.args.d.now c.loop-at.at c.in-Whole.kind c.in-Whole.start c.in-Whole.len = turn_of all _ _ c.record_at-met.result c.in-Whole.is c.record_at-met.ensures in
-    let t = turn in omega (arith, t.within, t.beyond)
-
-pub loop-at-preserved : goal.loop-at-preserved
-loop-at-preserved c =
-    let turn : Turn all c.args.d.now c.loop-at.at c.in-Whole.kind c.in-Whole.start c.in-Whole.len = turn_of all _ _ c.record_at-met.result c.in-Whole.is c.record_at-met.ensures in
-    let a = c.args in
-    let t = turn in (
-      t.within,
-      omega (arith, t.beyond),
-      c.loop-at.invariant.2 ∙ skips a.d.now c.loop-at.at _ _ _ t (omega (arith, c.if-kind-lt32768.false)),
-      c.loop-at.invariant.3 ∙ begins_behind all a.d.now c.loop-at.at _ _ _ t (omega (arith, c.if-kind-lt32768.false)),
+pub loop-record-preserved : goal.loop-record-preserved
+loop-record-preserved c =
+    let turn : Turn all c.args.d.now c.loop-record.at c.in-Some.record.kind c.in-Some.record.start c.in-Some.record.length = rw c.in-Some.is at c.in_ok-record.ensures in
+    let late : 32768 ≤ c.in-Some.record.kind = omega (arith, c.if-record-lt32768.false) in (
+      turn.within,
+      omega (arith, turn.beyond, c.loop-record.invariant.1),
+      c.loop-record.invariant.2 ∙ skips c.args.d.now c.loop-record.at _ _ _ turn late,
+      c.loop-record.invariant.3 ∙ begins_behind all c.args.d.now c.loop-record.at _ _ _ turn late,
     )
 
 pub returns : goal.returns
 unfolding kept
 returns c =
-    let a = c.args in
-    c.loop-at.invariant.2 ∙ ap kept (is_end a.d.now c.loop-at.at c.loop-at.invariant.0 (omega arith))
+    let ended : Stands c.args.d.now c.loop-record.at (Ok None) = rw c.in_default.is at c.in_ok-record.ensures in
+    c.loop-record.invariant.2 ∙ ap kept ended

@@ -1,0 +1,8 @@
+-- Every place is filled.
+-- Assumes nothing.
+use native.Mathlib.Omega.{arith}
+use Rattle.laws.proofs.Filling.{filled_all}
+use Rattle.bc.proofs.alpha_lanes.Order.lanes.Goals as goal
+
+pub returns : goal.returns
+returns c = filled_all _ 0 16 c.loop-i.out c.loop-i.i c.loop-i.invariant (omega arith)

@@ -1,8 +1,0 @@
--- `numbers::big4` meets its contract.
--- Assumes nothing.
-use native.Mathlib.Omega.{arith}
-use Rattle.numbers.proofs.Big.{four}
-use Rattle.numbers.proofs.big4.Goals as goal
-
-pub returns : goal.returns
-returns c = (omega (arith, four c.args.at c.args.d.now), omega arith)
