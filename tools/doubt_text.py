@@ -19,7 +19,7 @@ DATA = re.compile(r"(?:pub )?data ")  # it has constructors, and no body to chan
 GROUP = re.compile(r"module _(?P<parameters>(?: \([^()]*\))+) where\n")  # definitions that share their first parameters
 RECORD = re.compile(r"(?:pub )?record (?P<name>\S+)(?P<parameters>.*) : Type 0 where")
 # the tests of a file of specimens: `hold`, or one for each list of rows
-HOLD = re.compile(r"^(?P<name>hold[\w-]*) : T (?P<test>.*)\n(?:unfolding .*\n(?:[ ]+.*\n)*)?(?P=name) = tt\n", re.M)
+HOLD = re.compile(r"^(?P<name>hold[\w-]*) :\s+T (?P<test>.*(?:\n +.*)*)\n(?:unfolding .*\n(?:[ ]+.*\n)*)?(?P=name) = tt\n", re.M)
 FIELD = re.compile(r" +(?:pub )?(?P<name>\S+) : ")
 
 Token = collections.namedtuple("Token", "text start end")

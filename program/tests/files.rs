@@ -303,11 +303,15 @@ const SAYING: [&[&str]; 12] = [
     &["info", "--json", "in.ktx"],
 ];
 
-/// A pipe that nobody reads any more.
+/// A pipe that nobody reads any more. A program that another test is just starting holds a copy of the end that reads until it runs,
+/// so this writes until nobody is left.
 fn closed() -> Stdio {
     let mut reader = Command::new("true").stdin(Stdio::piped()).spawn().expect("true runs");
-    let pipe = reader.stdin.take().expect("a pipe");
+    let mut pipe = reader.stdin.take().expect("a pipe");
     reader.wait().expect("it ends");
+    while pipe.write(b"?").is_ok() {
+        sleep(Duration::from_millis(1));
+    }
     Stdio::from(pipe)
 }
 

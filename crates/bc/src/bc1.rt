@@ -3,7 +3,7 @@
 ghost use Rattle.std.specs.Prelude.{◌≡◌, true, false, cond, ◌+◌, ◌-◌, ◌*◌, ◌/◌, ◌%◌, ◌≤◌, ◌<◌, ltb, eqb, length, get_or};
 ghost use Rattle.rules.specs.Notation.{build, bits};
 ghost use Rattle.rules.specs.Places.{tile};
-ghost use Rattle.rules.specs.Desktop.{half_word_lem, palette_in_lem, colour_index, bc1_pixel};
+ghost use Rattle.rules.specs.Desktop.{half_word_lem, has_four, palette_in_lem, colour_index, bc1_pixel};
 ghost use Rattle.bc.specs.bc1.Lanes.{channel, sum, sixths, parts_lem, alpha_lane_lem, lane as lane_of, words_of};
 
 use super::picks;
@@ -68,6 +68,23 @@ fn mixed(a: u16, b: u16, x: u16, y: u16) -> u16
     ensures { result ≡ sixths a b x y }
 {
     high(weighed(a, b, x, y), 10923)
+}
+
+// 1 where p is above q, and 0 elsewhere, by no branch, which in pictures would often be foretold wrongly. It is a sum and a shift, since
+// LLVM makes a branch of `p > q` where its number then chooses between vectors.
+#[tactic(auto, using(crate::proofs::bc1::Colours::sign))]
+fn above(p: u16, q: u16) -> u16
+    ensures { result ≡ cond (ltb q p) 1 0 }
+{
+    ((65535 + u32::from(p) - u32::from(q)) / 65536) as u16
+}
+
+// 1 where there are four colours, and 0 where there are three and black.
+#[inline(always)]
+fn is_four(always: bool, p: u16, q: u16) -> u16
+    ensures { result ≡ cond (has_four always p q) 1 0 }
+{
+    if always { 1 } else { above(p, q) }
 }
 
 // The parts of one of the two colours in colour k: all of it in colour OWN, and in colours 2 and 3 a half and none; where there are four
@@ -170,11 +187,12 @@ pub(crate) fn palette(w: u64, always: bool, alpha: bool) -> [u32; 4]
 {
     let p = first(w);
     let q = second(w);
-    let f = u16::from(always | (p > q));
+    let f = is_four(always, p, q);
     words(lanes(f, clear(f, alpha), p, q))
 }
 
 // Those of BC1: `alpha` makes the last of three transparent.
+#[inline(always)]
 pub fn palette_in(w: u64, alpha: bool) -> [u32; 4]
     ensures { result ≡ palette_in_lem false alpha w }
 {
@@ -188,5 +206,5 @@ pub fn bc1_block(d: &[u8], alpha: bool) -> [u32; 16]
     ensures { result ≡ tile (bc1_pixel false alpha) d.now }
 {
     let w = half_word(d);
-    picks::picked(w / 0x100000000, palette(w, false, alpha))
+    picks::picked(w / 0x100000000, palette_in(w, alpha))
 }

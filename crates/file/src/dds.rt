@@ -48,14 +48,14 @@ const DXGI_ROWS: [(usize, Format, bool); 18] = [
 fn dxgi_format(number: usize) -> Option<(Format, bool)>
     ensures { result ≡ known dxgi_rows number }
 {
-    formats::known_in(&DXGI_ROWS, number)
+    formats::known_row(&DXGI_ROWS, number)
 }
 
 // What four letters stand for.
 fn fourcc_named(number: usize) -> Option<(Format, bool)>
     ensures { result ≡ known four_cc_rows number }
 {
-    formats::known_in(&FOURCC_ROWS, number)
+    formats::known_row(&FOURCC_ROWS, number)
 }
 
 // The bytes of a file that has a whole header.

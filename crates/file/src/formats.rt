@@ -1,7 +1,7 @@
 // What the containers share: their tables of formats, and numbers in a file's own byte order.
 ghost use Rattle.std.specs.Prelude.{◌≡◌, ◌+◌, ◌<◌, ◌≤◌, length};
 ghost use Rattle.numbers.specs.Numbers.{little};
-ghost use Rattle.rules.specs.FileFormats.{format_at_lem, known, word32, has4 as has_four, one_at_least_lem, is_flat_lem};
+ghost use Rattle.rules.specs.FileFormats.{format_at_lem, known, known_flat, word32, has4 as has_four, one_at_least_lem, is_flat_lem};
 
 use rules::Format;
 
@@ -16,12 +16,26 @@ pub fn format_at(n: usize) -> Format
 // What a number stands for in a table of formats, by the first row that has it: the format, and whether its colours are sRGB. A row is
 // the container's number and these two. Each of the six tables has a function of its own that calls this: tried with the table named in the
 // caller, and goals of the headers stayed open.
-pub(crate) fn known_in(table: &[(usize, Format, bool)], number: usize) -> Option<(Format, bool)>
+pub(crate) fn known_row(table: &[(usize, Format, bool)], number: usize) -> Option<(Format, bool)>
     ensures { result ≡ known table.now number }
 {
     for &(row, format, srgb) in table {
         if row == number {
             return Some((format, srgb));
+        }
+    }
+    None
+}
+
+// The same of a flat list of numbers, three a row: the container's number, the format's and 1 where it is sRGB. It takes any numbers, also
+// such as no format has; the containers' own tables have rows.
+pub fn known_in(table: &[usize], number: usize) -> Option<(usize, usize)>
+    ensures { result ≡ known_flat table.now number }
+{
+    for row in 0..table.len() / 3 {
+        let at = row * 3;
+        if table[at] == number {
+            return Some((table[at + 1], table[at + 2]));
         }
     }
     None

@@ -40,7 +40,7 @@ const ROWS: [(usize, Format, bool); 25] = [
 fn gl_format(number: usize) -> Option<(Format, bool)>
     ensures { result ≡ known gl_rows number }
 {
-    formats::known_in(&ROWS, number)
+    formats::known_row(&ROWS, number)
 }
 
 // The rest of the header, once its format is known.

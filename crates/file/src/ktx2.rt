@@ -39,7 +39,7 @@ const ROWS: [(usize, Format, bool); 24] = [
 fn vk_format(number: usize) -> Option<(Format, bool)>
     ensures { result ≡ known vk_rows number }
 {
-    formats::known_in(&ROWS, number)
+    formats::known_row(&ROWS, number)
 }
 
 // The rest of the header, once its format is known.

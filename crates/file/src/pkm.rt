@@ -27,14 +27,14 @@ const ROWS_2: [(usize, Format, bool); 11] = [
 fn type_1(number: usize) -> Option<(Format, bool)>
     ensures { result ≡ known pkm_rows1 number }
 {
-    formats::known_in(&ROWS_1, number)
+    formats::known_row(&ROWS_1, number)
 }
 
 // What a type of version 2.0 stands for.
 fn type_2(number: usize) -> Option<(Format, bool)>
     ensures { result ≡ known pkm_rows2 number }
 {
-    formats::known_in(&ROWS_2, number)
+    formats::known_row(&ROWS_2, number)
 }
 
 // A side, made up to whole blocks.

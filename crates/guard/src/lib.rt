@@ -40,10 +40,10 @@ pub fn shown(viewer: Viewer) -> Format
 fn in_range(kind: Kind, block: usize) -> Result<(), Refusal>
     ensures { said result ≡ cond (strange kind) (4 ∷ block ∷ []) (0 ∷ []) }
 {
-    match kind {
-        Kind::Individual | Kind::Differential => Ok(()),
-        _ => Err(Refusal::OutOfRange(block)),
-    }
+    let (Kind::Individual | Kind::Differential) = kind else {
+        return Err(Refusal::OutOfRange(block));
+    };
+    Ok(())
 }
 
 // Opaque goes on; otherwise the refusal of an opaque-only viewer with the block's number.

@@ -15,6 +15,9 @@ pub record Filling {A : Type 0} (turn : ℕ → ℕ) (f : ℕ → A) (z : A) (n 
   pub passed : (k : ℕ) → k < n → turn k < i → get_or l k z ≡ f k
 
 module _ {A : Type 0} (turn : ℕ → ℕ) (f : ℕ → A) (z : A) (n : ℕ) where
+  pub begun : (l : List A) → length l ≡ n → Filling turn f z n 0 l
+  begun l e = record { turns = omega arith; size = e; passed = λ k h t. absurd (omega arith) }
+
   -- the place o is the one whose turn it is
   pub stored : (l : List A) (i o : ℕ) (v : A) → Filling turn f z n i l → i < n → o < n → ((k : ℕ) → k < n → turn k ≡ i → k ≡ o) → v ≡ f o → Filling turn f z n (i + 1) (set l o v)
   stored l i o v p h b u e =

@@ -18,6 +18,18 @@ or-false true b e = absurd (true≢false e)
 or-false false b e = (refl, e)
 
 module _ (d : List ℕ) (p n : ℕ) where
+  pub too_wide : 8 < n → refuses d p n ≡ true
+  unfolding refuses
+  too_wide h = rw (lt-ltb 8 n h)
+
+  pub past : length d * 8 < p + n → refuses d p n ≡ true
+  unfolding refuses
+  past h = rw (lt-ltb (length d * 8) (p + n) h) (or-true (ltb 8 n))
+
+  pub too_far : 18446744073709551615 < p + n → refuses d p n ≡ true
+  unfolding refuses
+  too_far h = rw (lt-ltb 18446744073709551615 (p + n) h) (rw (or-true (ltb (length d * 8) (p + n))) (or-true (ltb 8 n)))
+
   pub within : n ≤ 8 → p + n ≤ length d * 8 → p + n ≤ 18446744073709551615 → refuses d p n ≡ false
   unfolding refuses
   within h i j = rw (le-ltb 8 n h, le-ltb (length d * 8) (p + n) i, le-ltb 18446744073709551615 (p + n) j)

@@ -160,3 +160,9 @@ module _ (w : Width) (m : ℕ) (h : m < 2 ^ hbits w) where
 
   opposite : pos 0 -ℤ to_z w m ≡ neg_ℤ (pos m)
   opposite = ap (λ (z : ℤ). pos 0 -ℤ z) cast_pos ∙ +ℤ_idl (neg_ℤ (pos m))
+
+  pub opposite_fits : SFits w (pos 0 -ℤ to_z w m)
+  opposite_fits = subst (SFits w) (sym opposite) (record { sfits = omega (arith, mag-neg m) })
+
+  pub opposite_held : held w (pos 0 -ℤ to_z w m) ≡ neg_ℤ (pos m)
+  opposite_held = held_is w _ (neg_ℤ (pos m)) opposite (omega (arith, mag-neg m))

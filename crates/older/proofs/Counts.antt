@@ -1,4 +1,4 @@
--- The counts of one block more, and what is said where a check fails and where both pass.
+-- The counts of no block, and of one block more.
 -- Assumes nothing.
 use mathlib.Core.Path.{◌≡◌, refl}
 use mathlib.Core.Bool.{cond}

@@ -6,11 +6,12 @@ use mathlib.Core.List.{List, [], ◌∷◌, ◌++◌}
 use Prim.Native.Nat.{ℕ}
 use lib.Dec.{T}
 use lib.ListN.{length, take, replicate}
+use Rattle.std.specs.Prelude.{Option, Some, None}
 use Rattle.numbers.specs.Numbers.{little, big, in_bytes, big_bytes}
 use Rattle.rules.specs.Formats.{size_of}
 use Rattle.rules.specs.Records.{walked, kept, payload_at}
 use Rattle.rules.specs.Sheets.{format_of, head_verdict}
-use Rattle.rules.specs.FileFormats.{format_list, format_number, known, word32}
+use Rattle.rules.specs.FileFormats.{format_list, format_number, format_at_lem, known, known_flat, word32}
 use Rattle.rules.specs.declared.Format.{Format}
 use Rattle.rules.specs.FileLevels.{bytes_for_lem, inside_of, after_size_lem, in_index_lem, fit_in, fit_of_lem, level_at_lem, next_spot_lem}
 use Rattle.rules.specs.FileLevels.{levels_from, levels_of, too_many_lem, held_of, opened_by, found_by}
@@ -729,3 +730,26 @@ numbers_of (f ∷ fs) = format_number f ∷ numbers_of fs
 hold_formats : T (same (numbers_of format_list) (0 ∷ 1 ∷ 2 ∷ 3 ∷ 4 ∷ 5 ∷ 6 ∷ 7 ∷ 8 ∷ 9 ∷ 10 ∷ 11 ∷ 12 ∷ 13 ∷ 14 ∷ 15 ∷ 16 ∷ []))
 unfolding numbers_of
 hold_formats = tt
+
+-- and each number is read as its format; one that no format has, as the first
+formats_at : List ℕ → List Format
+formats_at [] = []
+formats_at (n ∷ ns) = format_at_lem n ∷ formats_at ns
+
+hold_numbers :
+    T (same (numbers_of (formats_at (0 ∷ 1 ∷ 2 ∷ 3 ∷ 4 ∷ 5 ∷ 6 ∷ 7 ∷ 8 ∷ 9 ∷ 10 ∷ 11 ∷ 12 ∷ 13 ∷ 14 ∷ 15 ∷ 16 ∷ 17 ∷ 255 ∷ [])))
+    (0 ∷ 1 ∷ 2 ∷ 3 ∷ 4 ∷ 5 ∷ 6 ∷ 7 ∷ 8 ∷ 9 ∷ 10 ∷ 11 ∷ 12 ∷ 13 ∷ 14 ∷ 15 ∷ 16 ∷ 0 ∷ 0 ∷ []))
+unfolding numbers_of formats_at format_at_lem
+hold_numbers = tt
+
+-- a flat table: of two rows of one number the first, a row behind it, no row, and two numbers at the end, which are none
+told : Option (ℕ × ℕ) → List ℕ
+told None = []
+told (Some k) = k.0 ∷ k.1 ∷ []
+
+flat : List ℕ
+flat = 5 ∷ 200 ∷ 7 ∷ 5 ∷ 1 ∷ 0 ∷ 6 ∷ 2 ∷ 1 ∷ 8 ∷ 9 ∷ []
+
+hold_flat : T (same (told (known_flat flat 5) ++ told (known_flat flat 6) ++ told (known_flat flat 7) ++ told (known_flat flat 8)) (200 ∷ 7 ∷ 2 ∷ 1 ∷ []))
+unfolding told flat known_flat
+hold_flat = tt

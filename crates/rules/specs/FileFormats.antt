@@ -80,6 +80,14 @@ unfoldable pub known : List Row → ℕ → Option (Format × Bool)
 known [] x = None
 known (r ∷ rows) x = cond (eqb x r.0) (Some (r.1, r.2)) (known rows x)
 
+-- the same in a flat list of numbers, three a row: the container's number, the format's, and 1 where its colours are sRGB. Fewer than three
+-- at the end are no row.
+unfoldable pub known_flat : List ℕ → ℕ → Option (ℕ × ℕ)
+known_flat [] x = None
+known_flat (n ∷ []) x = None
+known_flat (n ∷ f ∷ []) x = None
+known_flat (n ∷ f ∷ srgb ∷ rows) x = cond (eqb x n) (Some (f, srgb)) (known_flat rows x)
+
 -- the four bytes at a place, in a file's own order: the greatest first, or the least
 unfoldable pub word32 : Bool → List ℕ → ℕ → ℕ
 word32 true d at = big 4 at d

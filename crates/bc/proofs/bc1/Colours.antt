@@ -5,7 +5,8 @@ use mathlib.Core.Bool.{Bool, true, false, cond}
 use mathlib.Core.List.{List, [], ◌∷◌}
 use Prim.Native.Nat.{ℕ, ◌+◌, ◌-◌, ◌*◌, ◌/◌, ◌%◌, ◌<◌, ◌≤◌}
 use native.Mathlib.Omega.{arith}
-use mir.Val.{bool_byte}
+use borrow.Author.Tests.{ltb-true, ltb-false}
+use lib.Dec.{ltb}
 use lib.ListN.{get_or}
 use Rattle.rules.specs.Notation.{build, bits}
 use Rattle.rules.specs.Pixel.{word}
@@ -175,11 +176,14 @@ listed false false p q =
     (colour (sixteen 0 0 p q) 8 3 3 255 p q _ halves refl refl refl (opaque p q 3 3))
     (colour (sixteen 0 0 p q) 12 0 0 255 p q _ nothing refl refl refl (opaque p q 0 0))
 
--- a test as a number
-pub number : (t : Bool) → bool_byte t ≡ cond t 1 0
-number true = refl
-number false = refl
+-- a test by a sum and a shift
+pub sign : (p q : ℕ) → p < 65536 → q < 65536 → (65535 + p - q) / 65536 ≡ cond (ltb q p) 1 0
+sign p q h i = by (ltb q p) refl
+  where
+    by : (t : Bool) → ltb q p ≡ t → (65535 + p - q) / 65536 ≡ cond t 1 0
+    by true e = omega (arith, ltb-true q p e)
+    by false e = omega (arith, ltb-false q p e)
 
-pub at_most : (t : Bool) (f : ℕ) → f ≡ bool_byte t → f ≤ 1
+pub at_most : (t : Bool) (f : ℕ) → f ≡ cond t 1 0 → f ≤ 1
 at_most true f e = omega (arith, e)
 at_most false f e = omega (arith, e)

@@ -39,6 +39,12 @@ move_picked d k =
     get_or_build (λ i. pos (bits 7 4 (byte d 1)) *ℤ get_or (get_or alpha_steps_lem (bits 3 0 (byte d 1)) []) i (pos 0)) (pos 0) 8
     (alpha_index d (4 * (k % 4) + k / 4)) (omega arith)
 
+-- the eight alphas are bytes
+pub small_alpha : (base b : ℕ) (eight : List ℤ) (j : ℕ) → eight ≡ eight_alphas_lem base b → j < 8 → mag (get_or eight j (pos 0)) < 2048
+small_alpha base b eight j e h =
+    let row = products_of_lem (bits 7 4 b) (bits 3 0 b) in
+    rw (e, get_or_build (λ j. pos (clamp 255 (pos base +ℤ get_or row j (pos 0)))) (pos 0) 8 j h) (omega (arith, clamp_le 255 (pos base +ℤ get_or row j (pos 0))))
+
 -- of them the pixel at place k picks its alpha
 pub alpha_picked : (d : List ℕ) (eight : List ℤ) (k : ℕ) → eight ≡ eight_alphas_lem (byte d 0) (byte d 1) → pick_at d eight k ≡ pos (alpha_byte d (k % 4) (k / 4))
 unfolding pick_at alpha_byte

@@ -5,7 +5,8 @@ use lib.Signed.{mag}
 use Rattle.rules.specs.Notation.{byte, bit, minus, build}
 use Rattle.rules.specs.Modes.{t_bases, t_distance, t_colours_lem, h_bases, h_distance, h_colours_lem, not_less_lem}
 use Rattle.laws.proofs.Signed.{mag-neg}
-use Rattle.etc_colour.specs.shade.Tone.{toned, punched, third_where}
+use Rattle.etc_colour.specs.shade.Tone.{toned, punched, third_where, Steps}
+use Rattle.etc_colour.proofs.shade.Tone.{steps_opaque, steps_clear}
 use Rattle.etc_colour.specs.fields.Fields.{t_fields_lem, h_fields_lem, distance_at}
 
 small_four : (a b c d : ℤ) → mag a < 1024 → mag b < 1024 → mag c < 1024 → mag d < 1024 → (k : ℕ) → mag (get_or (a ∷ b ∷ c ∷ d ∷ []) k (pos 0)) < 1024
@@ -21,6 +22,14 @@ module _ (m : ℕ) (h : m < 65) where
 
   down : mag (minus m) < 1024
   down = omega (arith, mag-neg m)
+
+  pub steps_t : (opaque : Bool) → Steps opaque (pos 0 ∷ pos m ∷ third_where opaque (pos 0) ∷ minus m ∷ [])
+  steps_t true = steps_opaque (pos 0 ∷ pos m ∷ pos 0 ∷ minus m ∷ []) (small_four (pos 0) (pos m) (pos 0) (minus m) (omega arith) up (omega arith) down)
+  steps_t false = steps_clear (pos 0 ∷ pos m ∷ minus 512 ∷ minus m ∷ []) (small_four (pos 0) (pos m) (minus 512) (minus m) (omega arith) up (omega arith) down) refl
+
+  pub steps_h : (opaque : Bool) → Steps opaque (pos m ∷ minus m ∷ third_where opaque (pos m) ∷ minus m ∷ [])
+  steps_h true = steps_opaque (pos m ∷ minus m ∷ pos m ∷ minus m ∷ []) (small_four (pos m) (minus m) (pos m) (minus m) up down up down)
+  steps_h false = steps_clear (pos m ∷ minus m ∷ minus 512 ∷ minus m ∷ []) (small_four (pos m) (minus m) (minus 512) (minus m) up down (omega arith) down) refl
 
 -- four bases with their steps
 abbrev pub four : Bool → List (List ℕ) → List ℤ → List ℕ

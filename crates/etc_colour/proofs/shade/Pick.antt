@@ -29,6 +29,10 @@ small_half : (f : Bool) (x y : ℕ) → x < 4 → y < 4 → cond f (y / 2) (x / 
 small_half true x y p q = omega arith
 small_half false x y p q = omega arith
 
+-- there are eight
+pub small_number : (d : List ℕ) (k : ℕ) → k < 16 → number_at d k < 8
+small_number d k h = omega (arith, small_half (flipped d) (k % 4) (k / 4) (omega arith) (omega arith))
+
 -- one of eight, by its half and its index
 one : (colours : ℕ → List ℕ) (h i : ℕ) → h < 2 → i < 4 → get_or (eight colours) (h * 4 + i) 0 ≡ get_or (colours h) i 0
 one colours h i p q =

@@ -10,6 +10,19 @@ use Rattle.etc_colour.specs.shade.Tone.{shaded_with, alphas_where_lem, toned, St
 pub nothing : (n : ℕ) → n < 256 → clamp 255 (pos n +ℤ minus 512) ≡ 0
 nothing n h = eqb→eq _ _ (below (λ k. eqb (clamp 255 (pos k +ℤ minus 512)) 0) 256 tt n h)
 
+-- an alpha is a byte
+pub small_alpha : (opaque : Bool) (k : ℕ) → get_or (alphas_where_lem opaque) k 0 < 256
+small_alpha true zero = omega arith
+small_alpha true (suc zero) = omega arith
+small_alpha true (suc (suc zero)) = omega arith
+small_alpha true (suc (suc (suc zero))) = omega arith
+small_alpha true (suc (suc (suc (suc n)))) = omega arith
+small_alpha false zero = omega arith
+small_alpha false (suc zero) = omega arith
+small_alpha false (suc (suc zero)) = omega arith
+small_alpha false (suc (suc (suc zero))) = omega arith
+small_alpha false (suc (suc (suc (suc n)))) = omega arith
+
 -- what is made with the alpha of an index is its colour
 pub tone : (opaque : Bool) (k r : ℕ) (c : List ℕ) (steps : List ℤ) → k < 4 → (opaque ≡ false → get_or steps 2 (pos 0) ≡ minus 512)
     → r ≡ shaded_with (get_or (alphas_where_lem opaque) k 0) c (get_or steps k (pos 0))

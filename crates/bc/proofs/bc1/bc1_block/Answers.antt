@@ -9,5 +9,5 @@ use Rattle.bc.proofs.bc1.bc1_block.Goals as goal
 pub returns : goal.returns
 returns c =
     c.picked.ensures
-    ∙ of_four c.palette.result c.half_word-w.result
-    ∙ rw (c.palette.ensures, c.half_word-w.ensures) (shown false c.args.alpha c.args.d.now)
+    ∙ of_four c.palette_in.result c.half_word-w.result
+    ∙ rw (c.palette_in.ensures, c.half_word-w.ensures) (shown false c.args.alpha c.args.d.now)
