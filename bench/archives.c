@@ -193,13 +193,19 @@ static void time_all(double seconds)
     time_job("its level", (struct job){NULL, 64, 10000, call_finder}, seconds);
 }
 
-/* One picture by one function, old_.. or new_.., which is nothing else's to be counted. */
-static int read_once(const char *function)
+/* One picture, or 256 tiles, by one function alone, so that valgrind can count it. */
+static int call_once(const char *function)
 {
-    for (int i = 0; i < 2 * FORMATS; i++) {
-        char name[64];
-        snprintf(name, sizeof name, "%s_yalivucu_decode_%s", i % 2 ? "new" : "old", readers[i / 2].name);
-        if (!strcmp(name, function)) return call_reader(&(struct job){readers + i / 2, SIDE, 1, NULL}, i % 2, 0), 0;
+    char name[64];
+    for (int k = 0; k < 2; k++) {
+        const char *prefix = k ? "new" : "old";
+        for (size_t i = 0; i < FORMATS; i++) {
+            snprintf(name, sizeof name, "%s_yalivucu_decode_%s", prefix, readers[i].name);
+            if (!strcmp(name, function)) return call_reader(&(struct job){readers + i, SIDE, 1, NULL}, k, 0), 0;
+        }
+        snprintf(name, sizeof name, "%s_yalivucu_bake_etc1_block", prefix);
+        for (size_t turn = 0; turn < 256 && !strcmp(name, function); turn++) call_baker(NULL, k, turn);
+        if (!strcmp(name, function)) return 0;
     }
     fprintf(stderr, "bench/archives: %s is no number of seconds and no function\n", function);
     return 2;
@@ -211,7 +217,7 @@ int main(int count_of_words, char **words)
     double seconds = strtod(words[1], &end);
     for (size_t i = 0; i < sizeof data; i++) data[i] = (uint8_t)next();
     for (size_t i = 0; i < 256 * 16; i++) tiles[i / 16][i % 16] = (uint32_t)next();
-    if (end == words[1] || *end) return read_once(words[1]);
+    if (end == words[1] || *end) return call_once(words[1]);
     if (old_yalivucu_write_sheet(1, 64, 64, data, 16 * 16 * 8, sheet, sizeof sheet, &sheet_length)) return 2;
     for (int i = 0; i < FORMATS; i++) compare_pictures(readers + i);
     compare_baking();
