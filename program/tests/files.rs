@@ -303,8 +303,8 @@ const SAYING: [&[&str]; 12] = [
     &["info", "--json", "in.ktx"],
 ];
 
-/// A pipe that nobody reads any more. A program that another test is just starting holds a copy of the end that reads until it runs,
-/// so this writes until nobody is left.
+/// A pipe that nobody reads. A program that another test is just starting holds a copy of the reading end for a moment, so this writes
+/// until the pipe is broken.
 fn closed() -> Stdio {
     let mut reader = Command::new("true").stdin(Stdio::piped()).spawn().expect("true runs");
     let mut pipe = reader.stdin.take().expect("a pipe");

@@ -204,7 +204,7 @@ fn a_signal_ends_the_build() {
         kill(run.id().to_string());
         assert_eq!(run.wait().expect("it ends").signal(), Some(number), "a run that builds");
     }
-    // What was killed holds the lock until the system has ended it; what goes on would hold it for 100 seconds.
+    // A killed part of the build holds the lock until the system has ended it. One that was not killed would hold it for 100 seconds.
     let lock = checkout.top.join("target/program/lock");
     let free = Command::new("flock").args(["-w", "20"]).arg(lock).arg("true").status().expect("flock runs");
     assert!(free.success(), "a part of a build that was ended holds the lock");

@@ -3,8 +3,8 @@ ghost use Rattle.std.specs.Prelude.{◌≡◌, ◌<◌, ◌≤◌, max};
 ghost use Rattle.rules.specs.Pixel.{alpha_of, red_of, green_of, blue_of};
 ghost use Rattle.rules.specs.Checking.{apart as apart_of, near as near_to, differ as differ_of, farthest as farthest_of};
 
-// How far two channels differ. The channels are told from a pixel by division here and below: with `to_be_bytes` a tile takes a third more
-// instructions to bake (docs/PERFORMANCE.md, "Baking a block").
+// How far two channels differ. Here and below a channel is read from a pixel by division, since with `to_be_bytes` baking a tile takes a
+// third more instructions (docs/PERFORMANCE.md, "Baking a block").
 fn apart(a: u32, b: u32) -> u32
     requires { (a < 256) × (b < 256) }
     ensures { (result ≡ apart_of a b) × (result < 256) }

@@ -70,8 +70,8 @@ fn mixed(a: u16, b: u16, x: u16, y: u16) -> u16
     high(weighed(a, b, x, y), 10923)
 }
 
-// 1 where p is above q, and 0 elsewhere, by no branch, which in pictures would often be foretold wrongly. It is a sum and a shift, since
-// LLVM makes a branch of `p > q` where its number then chooses between vectors.
+// 1 where p is above q, and 0 elsewhere. This is a sum and a shift, since LLVM makes a branch of `p > q` here, and on random blocks the
+// processor mispredicts every second such branch (docs/PERFORMANCE.md, "BC1 and BC3").
 #[tactic(auto, using(crate::proofs::bc1::Colours::sign))]
 fn above(p: u16, q: u16) -> u16
     ensures { result ≡ cond (ltb q p) 1 0 }

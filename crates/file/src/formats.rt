@@ -27,8 +27,8 @@ pub(crate) fn known_row(table: &[(usize, Format, bool)], number: usize) -> Optio
     None
 }
 
-// The same of a flat list of numbers, three a row: the container's number, the format's and 1 where it is sRGB. It takes any numbers, also
-// such as no format has; the containers' own tables have rows.
+// The same for a table that is a flat list, three numbers to a row: the container's number, the format's number, and 1 where the colours
+// are sRGB. The numbers may be any. The library's own tables are lists of rows, so that only other crates call this.
 pub fn known_in(table: &[usize], number: usize) -> Option<(usize, usize)>
     ensures { result ≡ known_flat table.now number }
 {

@@ -26,8 +26,8 @@ fn is_ktx(bytes: &[u8], version: usize) -> bool
         && formats::has4(bytes, 8, 0x0D0A1A0A)
 }
 
-// What the header of a file tells, by its container. It is made part of both its callers: as a call of its own, a sheet takes a sixth
-// longer to open (docs/DESIGN-PASS.md, "Speed").
+// What the header of a file tells, by its container. It is inlined into both its callers, since a call makes opening a sheet take a sixth
+// longer (docs/DESIGN-PASS.md, "Speed").
 #[inline(always)]
 #[tactic(auto, unfolding(rules::specs::Files::header_of))]
 fn header(bytes: &[u8]) -> Result<Layout, Refusal>

@@ -731,7 +731,7 @@ hold_formats : T (same (numbers_of format_list) (0 ∷ 1 ∷ 2 ∷ 3 ∷ 4 ∷ 5
 unfolding numbers_of
 hold_formats = tt
 
--- and each number is read as its format; one that no format has, as the first
+-- and each number is read as its format; a number that no format has is read as the first
 formats_at : List ℕ → List Format
 formats_at [] = []
 formats_at (n ∷ ns) = format_at_lem n ∷ formats_at ns
@@ -742,7 +742,8 @@ hold_numbers :
 unfolding numbers_of formats_at format_at_lem
 hold_numbers = tt
 
--- a flat table: of two rows of one number the first, a row behind it, no row, and two numbers at the end, which are none
+-- in a flat table of three rows: of two rows with one number the first is found, and so is the row behind them; a number that no row begins
+-- with is not found, nor are two numbers left over at the end
 told : Option (ℕ × ℕ) → List ℕ
 told None = []
 told (Some k) = k.0 ∷ k.1 ∷ []

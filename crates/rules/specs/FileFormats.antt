@@ -80,8 +80,8 @@ unfoldable pub known : List Row → ℕ → Option (Format × Bool)
 known [] x = None
 known (r ∷ rows) x = cond (eqb x r.0) (Some (r.1, r.2)) (known rows x)
 
--- the same in a flat list of numbers, three a row: the container's number, the format's, and 1 where its colours are sRGB. Fewer than three
--- at the end are no row.
+-- the same in a flat list, three numbers to a row: the container's number, the format's number, and 1 where the colours are sRGB. One or
+-- two numbers left over at the end are no row.
 unfoldable pub known_flat : List ℕ → ℕ → Option (ℕ × ℕ)
 known_flat [] x = None
 known_flat (n ∷ []) x = None

@@ -238,7 +238,7 @@ pub enum BakingRefusal {
     ShortTile,
     // of the baker: a base channel above 15, or a flip above 1
     NoBase,
-    // of the checker, and no refusal: out of range, or not near enough
+    // the checker's answer that a block is not accepted, which is no refusal: it is out of range, or not near enough
     NotAccepted,
 }
 
